@@ -1,0 +1,4 @@
+pub mod Rules
+pub mod Same
+pub mod Records
+pub mod Area

@@ -1,0 +1,48 @@
+-- `answers::put_number` meets its contract. The invariant: what is left to lay, laid on the slice as it is, gives the whole word laid on the slice as it was.
+-- Assumes nothing.
+use Prim.Native.Nat.{_≤_, _-_, _+_}
+use mathlib.Core.Path.{_≡_, refl, sym, _∙_}
+use borrow.Author.Needs.{needs}
+use native.Mathlib.Nat.{add-zero}
+use lib.ListN.{length}
+use lib.Seq.{sets}
+use Rattle.answers.specs.Area.{le}
+use Rattle.answers.proofs.Area.{next-byte, all-laid}
+use Rattle.answers.proofs.put_number.Statement.{statement}
+use Rattle.answers.proofs.put_number.Tie as tie
+
+abbrev Inv-loop : tie.InvT-loop
+Inv-loop a₀ at w rest₀ i₀ a rest i = (i ≤ 8) × (length a ≡ length a₀) × (sets a (at + i) (le (8 - i) rest) ≡ sets a₀ at (le 8 w))
+
+abbrev μ-loop : tie.MeasureT-loop
+μ-loop a₀ at w rest₀ i₀ a rest i = 8 - i
+
+loop-holds : tie.Need-loop-holds Inv-loop μ-loop
+loop-holds c = (search needs, refl, rw add-zero)
+
+cast-area : tie.Need-cast-area Inv-loop μ-loop
+cast-area c = search needs
+
+add-area : tie.Need-add-area Inv-loop μ-loop
+add-area c = search needs
+
+slice-write-area : tie.Need-slice-write-area Inv-loop μ-loop
+slice-write-area c = search needs
+
+add-i : tie.Need-add-i Inv-loop μ-loop
+add-i c = search needs
+
+loop-less : tie.Need-loop-less Inv-loop μ-loop
+loop-less c = search needs
+
+loop-again : tie.Need-loop-again Inv-loop μ-loop
+loop-again c = (search needs, search needs, sym (next-byte _ _ _ _ (search needs)) ∙ c .before .loop .inv .2)
+
+same-length : tie.Need-same-length Inv-loop μ-loop
+same-length c = search needs
+
+returns : tie.Need-returns Inv-loop μ-loop
+returns c = sym (all-laid _ _ _ _ (search needs)) ∙ c .before .loop .inv .2
+
+pub put-number-spec : {M : Type 1} → statement M
+put-number-spec = tie.close (tie.spec Inv-loop μ-loop loop-holds cast-area add-area slice-write-area add-i loop-less loop-again same-length returns)

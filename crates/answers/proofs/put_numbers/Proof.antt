@@ -1,0 +1,34 @@
+-- `answers::put_numbers` meets its contract: four numbers, one behind the other.
+-- Assumes nothing.
+use borrow.Author.Needs.{needs}
+use Rattle.answers.proofs.Area.{four-numbers}
+use Rattle.answers.proofs.put_numbers.Statement.{statement}
+use Rattle.answers.proofs.put_numbers.Tie as tie
+
+put-number-requires : tie.Need-put-number-requires
+put-number-requires c κs = search needs
+
+put-number-requires-2 : tie.Need-put-number-requires-2
+put-number-requires-2 c κs = search needs
+
+put-number-requires-3 : tie.Need-put-number-requires-3
+put-number-requires-3 c κs = search needs
+
+put-number-requires-4 : tie.Need-put-number-requires-4
+put-number-requires-4 c κs = search needs
+
+same-length : tie.Need-same-length
+same-length c = search needs
+
+returns : tie.Need-returns
+returns c =
+    let k3 = c .before .before in
+    let k2 = k3 .before .before .before .before in
+    let k1 = k2 .before .before .before .before in
+    let k0 = k1 .before .before .before .before in
+    let s = k0 .before .before .before in
+    four-numbers (s .args .area .now) (k0 .put-number .last .0) (k1 .put-number2 .last .0) (k2 .put-number3 .last .0) _ (s .pre)
+    (k0 .put-number .ensures) (k1 .put-number2 .ensures) (k2 .put-number3 .ensures) (k3 .put-number4 .ensures)
+
+pub put-numbers-spec : {M : Type 1} → statement M
+put-numbers-spec = tie.close (tie.spec put-number-requires put-number-requires-2 put-number-requires-3 put-number-requires-4 same-length returns)

@@ -1,0 +1,84 @@
+-- The promise of the check: reached from the two rulings, read in the paper's words, and met by one answer only.
+-- Assumes nothing.
+use mathlib.Core.Path.{_≡_, refl, sym, ap, _∙_}
+use mathlib.Core.List.{List}
+use Prim.Native.Nat.{ℕ, _*_}
+use native.Mathlib.Nat.{add-zero}
+use native.Mathlib.Omega.{arith}
+use lib.ListN.{length}
+use Rattle.ground.specs.Below.{countBelow}
+use Rattle.ground.proofs.Counting.{count-same}
+use Rattle.answers.specs.declared.Ruling.{Ruling}
+use Rattle.answers.specs.Rules.{refusal, Applies, AllSay}
+use Rattle.answers.specs.Area.{success, told}
+use Rattle.answers.proofs.Rules.{applies, refused, after-refused, after-fine, both-say}
+use Rattle.answers.proofs.Same.{le-same}
+use Rattle.answers.proofs.Records.{records-same}
+use Rattle.circuit.specs.declared.Checked.{Checked}
+use Rattle.circuit.specs.declared.Checked.the-variants.{Refused}
+use Rattle.circuit.specs.Record.{linesOf, isInput, inputsOf, outputsOf, byteIs}
+use Rattle.circuit.specs.Check.{layoutRules, countRules, circuitRules, answered, countedOf, checkOf, numbersOf, Checks}
+use Rattle.circuit.proofs.Lines.{layout-same}
+
+-- the numbers of an answer are those of its ruling
+answered-numbers : (v : Ruling) (n m o : ℕ) → numbersOf (answered v n m o) ≡ told v (success n m o)
+unfolding numbersOf
+answered-numbers Ruling.Fine n m o = refl
+answered-numbers (Ruling.Refused x y) n m o = refl
+
+pub checks : (c : List ℕ) {r : Checked} → r ≡ checkOf c → Checks c r
+unfolding checkOf
+checks c e = record {
+  answer = e;
+  numbers = ap numbersOf e ∙ answered-numbers (refusal (circuitRules c)) (linesOf c) (inputsOf c) (outputsOf c);
+}
+
+pub layout-refused : (c : List ℕ) (x y : ℕ) → refusal (layoutRules c) ≡ Ruling.Refused x y → Refused x y ≡ checkOf c
+unfolding checkOf
+layout-refused c x y e = rw (after-refused (layoutRules c) (countRules (inputsOf c) (outputsOf c)) e)
+
+-- byte 0 is the kind
+inputs-are : (c : List ℕ) → countBelow (linesOf c) (byteIs c 0 0) ≡ inputsOf c
+inputs-are c = count-same (linesOf c) (byteIs c 0 0) (isInput c) (λ k l. rw (add-zero (8 * k)))
+
+pub layout-fine : (c : List ℕ) {r : Checked} {m o : ℕ}
+    → refusal (layoutRules c) ≡ Ruling.Fine
+    → m ≡ countBelow (linesOf c) (byteIs c 0 0)
+    → o ≡ countBelow (linesOf c) (byteIs c 1 1)
+    → r ≡ countedOf (linesOf c) m o
+    → r ≡ checkOf c
+unfolding checkOf
+layout-fine c e p q h = h ∙ rw (p, q, inputs-are c, after-fine (layoutRules c) (countRules (inputsOf c) (outputsOf c)) e)
+
+-- two allowed answers are equal
+pub one-answer : (c : List ℕ) {r s : Checked} → Checks c r → Checks c s → r ≡ s
+one-answer c p q = cc
+
+-- ---- the refusals in the paper's words
+
+pub layout-says : (c : List ℕ) → AllSay (layoutRules c)
+unfolding layoutRules AllSay
+layout-says c = (records-same 8 2048 (length c) (omega arith), ((λ k l. layout-same c k), tt))
+
+pub counts-say : (m o : ℕ) → AllSay (countRules m o)
+unfolding countRules AllSay
+counts-say m o = (le-same 1 m, (le-same m 64, (le-same 1 o, tt)))
+
+pub circuit-says : (c : List ℕ) → AllSay (circuitRules c)
+circuit-says c = both-say (layoutRules c) _ (layout-says c) (counts-say (inputsOf c) (outputsOf c))
+
+pub refused-ruling : (v : Ruling) (n m o x y : ℕ) → Refused x y ≡ answered v n m o → v ≡ Ruling.Refused x y
+refused-ruling Ruling.Fine n m o x y e = let z : _≡_ {A = ℕ} 0 1 = cc in absurd (omega arith)
+refused-ruling (Ruling.Refused u w) n m o x y e = cc
+
+module _ (c : List ℕ) {r : Checked} (p : Checks c r) (number place : ℕ) where
+  -- a refusal is the first that applies, with the lowest place
+  pub refused-applies : r ≡ Refused number place → Applies (circuitRules c) number place
+  unfolding checkOf
+  refused-applies e =
+      applies (circuitRules c) (circuit-says c) number place (refused-ruling (refusal (circuitRules c)) (linesOf c) (inputsOf c) (outputsOf c) number place (sym e ∙ p .answer))
+
+  -- and where one applies, it is given
+  pub applies-refused : Applies (circuitRules c) number place → r ≡ Refused number place
+  unfolding checkOf
+  applies-refused a = p .answer ∙ rw (refused (circuitRules c) (circuit-says c) number place a)

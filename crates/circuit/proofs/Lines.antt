@@ -1,0 +1,77 @@
+-- The test of a record holds exactly where the record keeps its layout.
+-- Assumes nothing.
+use mathlib.Core.Path.{_≡_, refl}
+use mathlib.Core.Bool.{Bool, true, false}
+use mathlib.Core.List.{List}
+use Prim.Native.Nat.{ℕ, zero, suc, _≤_}
+use native.Mathlib.Omega.{arith}
+use lib.Dec.{eqb, leb, ltb}
+use borrow.Author.Tests.{eqb-true, leb-true, ltb-true, leb-false, eq-eqb, le-leb, lt-ltb}
+use Rattle.ground.specs.Choose.{choose}
+use Rattle.ground.proofs.Tests.{both, and-both}
+use Rattle.answers.specs.Rules.{Same}
+use Rattle.gates.specs.Gate.{lastKind, pinsOf}
+use Rattle.circuit.specs.Record.{kindAt, outAt, pinAt}
+use Rattle.circuit.specs.Layout.{pinOk, lineOk, Pin, Layout}
+
+-- pins 1, 2 and 3
+pub three : (P : ℕ → Type 0) → P 1 → P 2 → P 3 → (s : ℕ) → 1 ≤ s → s ≤ 3 → P s
+three P a b c zero l h = absurd (omega arith)
+three P a b c (suc zero) l h = a
+three P a b c (suc (suc zero)) l h = b
+three P a b c (suc (suc (suc zero))) l h = c
+three P a b c (suc (suc (suc (suc s)))) l h = absurd (omega arith)
+
+pub two-pins : (kind : ℕ) → pinsOf kind ≤ 2
+unfolding pinsOf
+two-pins kind = go (eqb kind 0) (leb kind 2)
+  where
+    go : (t u : Bool) → choose t 0 (choose u 1 2) ≤ 2
+    go true u = omega arith
+    go false true = omega arith
+    go false false = omega arith
+
+module _ (c : List ℕ) (k : ℕ) where
+  pin : (s : ℕ) → pinOk c k s ≡ true → Pin c k s
+  unfolding pinOk
+  pin s e = go (leb s (pinsOf (kindAt c k))) refl e
+    where
+      go : (t : Bool) → leb s (pinsOf (kindAt c k)) ≡ t → choose t (ltb (pinAt c k s) k) (eqb (pinAt c k s) 0) ≡ true → Pin c k s
+      go true q e = let l = leb-true s _ q in record { has = λ _. ltb-true _ _ e; lacks = λ h. absurd (omega arith) }
+      go false q e = let l = leb-false s _ q in record { has = λ h. absurd (omega arith); lacks = λ _. eqb-true _ _ e }
+
+  pin-ok : (s : ℕ) → Pin c k s → pinOk c k s ≡ true
+  unfolding pinOk
+  pin-ok s p = go (leb s (pinsOf (kindAt c k))) refl
+    where
+      go : (t : Bool) → leb s (pinsOf (kindAt c k)) ≡ t → choose t (ltb (pinAt c k s) k) (eqb (pinAt c k s) 0) ≡ true
+      go true q = lt-ltb _ _ (p .has (leb-true s _ q))
+      go false q = eq-eqb _ _ (p .lacks (leb-false s _ q))
+
+  layout : lineOk c k ≡ true → Layout c k
+  unfolding lineOk
+  layout e =
+      let p = both (leb (kindAt c k) lastKind) _ e in
+      let q = both (leb (outAt c k) 1) _ (p .1) in
+      let r = both (pinOk c k 1) _ (q .1) in
+      let t = both (pinOk c k 2) _ (r .1) in
+      record {
+        kind = leb-true (kindAt c k) lastKind (p .0);
+        output = leb-true (outAt c k) 1 (q .0);
+        pin = three (Pin c k) (pin 1 (r .0)) (pin 2 (t .0)) (pin 3 (t .1));
+      }
+
+  layout-ok : Layout c k → lineOk c k ≡ true
+  unfolding lineOk
+  layout-ok l =
+      and-both (le-leb _ _ (l .kind))
+      (and-both (le-leb _ _ (l .output))
+      (and-both (pin-ok 1 (l .pin 1 (omega arith) (omega arith)))
+      (and-both (pin-ok 2 (l .pin 2 (omega arith) (omega arith))) (pin-ok 3 (l .pin 3 (omega arith) (omega arith))))))
+
+  pub layout-same : Same (lineOk c k) (Layout c k)
+  layout-same = record { holds = layout; tests = layout-ok }
+
+  -- bytes 6 and 7 are zero: no kind has a third pin
+  pub no-third : Layout c k → pinAt c k 3 ≡ 0
+  no-third l = l .pin 3 (omega arith) (omega arith) .lacks (omega (arith, two-pins (kindAt c k)))

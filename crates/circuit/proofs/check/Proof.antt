@@ -1,0 +1,44 @@
+-- `circuit::check` meets its contract: a refusal of the layout is handed on, else the counts decide.
+-- Assumes nothing.
+use mathlib.Core.Path.{sym, _∙_}
+use borrow.Author.Needs.{needs}
+use Rattle.circuit.proofs.Answer.{checks, layout-refused, layout-fine}
+use Rattle.circuit.proofs.check.Statement.{statement}
+use Rattle.circuit.proofs.check.Tie as tie
+
+check-layout-requires : tie.Need-check-layout-requires
+check-layout-requires c κs = search needs
+
+enum-known-v : tie.Need-enum-known-v
+enum-known-v c = search needs
+
+enum-told : tie.Need-enum-told
+enum-told c = search needs
+
+count-lines-requires : tie.Need-count-lines-requires
+count-lines-requires c κs = search needs
+
+count-lines-requires-2 : tie.Need-count-lines-requires-2
+count-lines-requires-2 c κs = search needs
+
+counted-requires : tie.Need-counted-requires
+counted-requires c κs = search needs
+
+returns : tie.Need-returns
+returns c = checks _ (layout-refused _ _ _ (sym (c .before .before .before .check-layout .ensures) ∙ c .before .v .given .1))
+
+returns-2 : tie.Need-returns-2
+returns-2 c = checks _ (layout-fine _ (sym (c .before .before .before .before .before .check-layout .ensures) ∙ c .before .before .before .enum-told .given .1) (c .before .before .count-lines .ensures) (c .before .count-lines2 .ensures) (c .counted .ensures))
+
+pub check-spec : {M : Type 1} → statement M
+check-spec =
+    tie.close
+    (tie.spec
+    check-layout-requires
+    enum-known-v
+    enum-told
+    count-lines-requires
+    count-lines-requires-2
+    counted-requires
+    returns
+    returns-2)

@@ -1,0 +1,32 @@
+-- The layout of a circuit record: as a test, and in the paper's words. They are proved equivalent.
+-- Assumes nothing.
+use mathlib.Core.Path.{_≡_}
+use mathlib.Core.Bool.{Bool, _&&_}
+use mathlib.Core.List.{List}
+use Prim.Native.Nat.{ℕ, _≤_, _<_}
+use lib.Dec.{eqb, leb, ltb}
+use Rattle.ground.specs.Choose.{choose}
+use Rattle.gates.specs.Gate.{lastKind, pinsOf}
+use Rattle.circuit.specs.Record.{kindAt, outAt, pinAt}
+
+-- ---- as a test
+
+-- a source that the kind has is lower than the line, one that it lacks is 0
+unfoldable pub pinOk : List ℕ → ℕ → ℕ → Bool
+pinOk c k s = choose (leb s (pinsOf (kindAt c k))) (ltb (pinAt c k s) k) (eqb (pinAt c k s) 0)
+
+-- kind, output byte and the three pins
+unfoldable pub lineOk : List ℕ → ℕ → Bool
+lineOk c k = leb (kindAt c k) lastKind && (leb (outAt c k) 1 && (pinOk c k 1 && (pinOk c k 2 && pinOk c k 3)))
+
+-- ---- in words
+
+-- each source that the kind has is lower than the line itself; one that it lacks is 0
+pub record Pin (c : List ℕ) (k s : ℕ) : Type 0 where
+  pub has : s ≤ pinsOf (kindAt c k) → pinAt c k s < k
+  pub lacks : pinsOf (kindAt c k) < s → pinAt c k s ≡ 0
+
+pub record Layout (c : List ℕ) (k : ℕ) : Type 0 where
+  pub kind : kindAt c k ≤ lastKind
+  pub output : outAt c k ≤ 1
+  pub pin : (s : ℕ) → 1 ≤ s → s ≤ 3 → Pin c k s

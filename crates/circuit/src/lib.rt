@@ -1,0 +1,170 @@
+// The circuit's records: reading their fields, the layout rule, and part 1, the circuit check.
+use answers::Ruling;
+use answers::records_ok;
+use gates::LAST_KIND;
+use gates::pins;
+use ground::wide;
+ghost use mathlib.Core.Path.{_≡_};
+ghost use Prim.Native.Nat.{_+_, _*_, _<_, _≤_};
+ghost use lib.Dec.{eqb};
+ghost use lib.ListN.{length};
+ghost use Rattle.ground.specs.Choose.{one};
+ghost use Rattle.ground.specs.Below.{countBelow, firstNot};
+ghost use Rattle.answers.specs.Rules.{refusal};
+ghost use Rattle.circuit.specs.Record.{wordAt, pinAt, byteIs, Inside};
+ghost use Rattle.circuit.specs.Layout.{pinOk, lineOk};
+ghost use Rattle.circuit.specs.Check.{layoutRules, countRules, countedOf, Checks};
+
+// What the check answers.
+pub enum Checked {
+    // lines, inputs, outputs
+    Accepted(usize, usize, usize),
+    // number, place
+    Refused(u32, usize),
+}
+
+// The little-endian number in the two bytes from `at` on.
+pub fn word(s: &[u8], at: usize) -> usize
+    requires { ⌜ at + 1 < length (now s) ⌝ }
+    ensures { λ r. ⌜ r ≡ wordAt (now (s .entry)) at ⌝ }
+{
+    let low = wide(s[at]);
+    let high = wide(s[at + 1]);
+    low + 256 * high
+}
+
+// The source of pin s of line k.
+pub fn source(circuit: &[u8], k: usize, s: usize) -> usize
+    requires { ⌜ Inside (now circuit) k × (s ≤ 3) ⌝ }
+    ensures { λ r. ⌜ r ≡ pinAt (now (circuit .entry)) k s ⌝ }
+{
+    word(circuit, 8 * k + 2 * s)
+}
+
+// A source that the kind has is lower than the line, one that it lacks is 0.
+fn pin_ok(circuit: &[u8], k: usize, s: usize) -> bool
+    requires { ⌜ Inside (now circuit) k × (s ≤ 3) ⌝ }
+    ensures { λ r. ⌜ r ≡ pinOk (now (circuit .entry)) k s ⌝ }
+{
+    let from = source(circuit, k, s);
+    let has = pins(circuit[8 * k]);
+    if s <= has {
+        return from < k;
+    }
+    from == 0
+}
+
+// The record of line k keeps its layout.
+fn line_ok(circuit: &[u8], k: usize) -> bool
+    requires { ⌜ Inside (now circuit) k ⌝ }
+    ensures { λ r. ⌜ r ≡ lineOk (now (circuit .entry)) k ⌝ }
+{
+    if LAST_KIND < circuit[8 * k] {
+        return false;
+    }
+    if 1 < circuit[8 * k + 1] {
+        return false;
+    }
+    if !pin_ok(circuit, k, 1) {
+        return false;
+    }
+    if !pin_ok(circuit, k, 2) {
+        return false;
+    }
+    pin_ok(circuit, k, 3)
+}
+
+// The first of n lines that breaks its layout, or n.
+fn first_bad_line(circuit: &[u8], n: usize) -> usize
+    requires { ⌜ 8 * n ≤ length (now circuit) ⌝ }
+    ensures { λ r. ⌜ r ≡ firstNot n (lineOk (now (circuit .entry))) ⌝ }
+{
+    let mut k = 0;
+    while k < n {
+        if !line_ok(circuit, k) {
+            return k;
+        }
+        k += 1;
+    }
+    n
+}
+
+// 1 where two bytes are equal, else 0.
+pub fn equal(a: u8, b: u8) -> usize
+    ensures { λ r. ⌜ (r ≡ one (eqb a b)) × (r ≤ 1) ⌝ }
+{
+    if a == b { 1 } else { 0 }
+}
+
+// How many of n lines have the value v in byte i of their record.
+fn count_lines(circuit: &[u8], n: usize, i: usize, v: u8) -> usize
+    requires { ⌜ (8 * n ≤ length (now circuit)) × (i < 8) ⌝ }
+    ensures { λ r. ⌜ r ≡ countBelow n (byteIs (now (circuit .entry)) i v) ⌝ }
+{
+    let mut k = 0;
+    let mut r = 0;
+    while k < n {
+        let x = equal(circuit[8 * k + i], v);
+        r += x;
+        k += 1;
+    }
+    r
+}
+
+// Refusals 1 and 2.
+fn check_layout(circuit: &[u8]) -> Ruling
+    ensures { λ r. ⌜ r ≡ refusal (layoutRules (now (circuit .entry))) ⌝ }
+{
+    if !records_ok(circuit.len(), 8, 2048) {
+        return Ruling::Refused(1, 0);
+    }
+    let n = circuit.len() / 8;
+    let bad = first_bad_line(circuit, n);
+    if bad < n {
+        return Ruling::Refused(2, bad);
+    }
+    Ruling::Fine
+}
+
+// Refusals 3 to 5.
+fn check_counts(inputs: usize, outputs: usize) -> Ruling
+    ensures { λ r. ⌜ r ≡ refusal (countRules inputs outputs) ⌝ }
+{
+    if inputs < 1 {
+        return Ruling::Refused(3, 0);
+    }
+    if 64 < inputs {
+        return Ruling::Refused(4, 0);
+    }
+    if outputs < 1 {
+        return Ruling::Refused(5, 0);
+    }
+    Ruling::Fine
+}
+
+// The answer on a circuit whose records keep their layout.
+fn counted(n: usize, inputs: usize, outputs: usize) -> Checked
+    ensures { λ r. ⌜ r ≡ countedOf n inputs outputs ⌝ }
+{
+    let v = check_counts(inputs, outputs);
+    match v {
+        Ruling::Refused(number, place) => Checked::Refused(number, place),
+        Ruling::Fine => Checked::Accepted(n, inputs, outputs),
+    }
+}
+
+// Part 1: the numbers of lines, inputs and outputs, or the first refusal.
+pub fn check(circuit: &[u8]) -> Checked
+    ensures { λ r. ⌜ Checks (now (circuit .entry)) r ⌝ }
+{
+    let v = check_layout(circuit);
+    match v {
+        Ruling::Refused(number, place) => Checked::Refused(number, place),
+        Ruling::Fine => {
+            let n = circuit.len() / 8;
+            let inputs = count_lines(circuit, n, 0, 0);
+            let outputs = count_lines(circuit, n, 1, 1);
+            counted(n, inputs, outputs)
+        }
+    }
+}

@@ -1,0 +1,97 @@
+-- The laws of the gates, each once over the kinds and over what the pins see.
+-- Assumes nothing.
+use mathlib.Core.Path.{_≡_, refl, sym, ap, _∙_}
+use mathlib.Core.Logic.{⊎-elim}
+use mathlib.Core.Bool.{Bool, true, false, not, _&&_, _||_}
+use Prim.Native.Nat.{ℕ, _≤_, _<_}
+use native.Mathlib.Omega.{arith}
+use lib.Dec.{T, ltb, leb, eqb, leb→le, ltb→lt, eqb→eq}
+use borrow.Author.Tests.{eq-eqb, ne-eqb, lt-leb, leb-true, leb-false}
+use Rattle.ground.specs.Choose.{one}
+use Rattle.ground.proofs.Tests.{either, one-same}
+use Rattle.gates.specs.Gate.{lastKind, pinsOf, bufOf, gateOf, Refines}
+use Rattle.gates.specs.Boolean.{boolGate}
+use Rattle.gates.proofs.Clip.{buf-small, buf-known, buf-refines, other, clipped}
+use Rattle.gates.proofs.Computed.{at-gates, smallTest, small-all, seesX, knownTest, known-all, refines, pinRefines, refineTest, at-refined, at-booleans}
+
+-- at each pin that the kind has
+abbrev pub AtPins : ℕ → (ℕ → Type 0) → Type 0
+AtPins k P = (s : ℕ) → 1 ≤ s → s ≤ pinsOf k → P s
+
+-- a gate's value is 0, 1 or 2
+pub gate-small : (k : ℕ) (v : ℕ → ℕ) → gateOf k v ≤ 2
+unfolding smallTest
+gate-small k v =
+    ⊎-elim
+    (λ l. rw (clipped k v) (leb→le _ 2 (at-gates smallTest small-all k (bufOf (v 1)) (bufOf (v 2)) l (buf-small (v 1)) (buf-small (v 2)))))
+    (λ l. omega (arith, other k v l))
+    (either k 9)
+
+-- known values at its pins give a known value
+pub gate-known : (k : ℕ) (v : ℕ → ℕ) → 1 ≤ k → k ≤ lastKind → AtPins k (λ s. v s < 2) → gateOf k v < 2
+unfolding knownTest
+gate-known k v some last h =
+    rw (clipped k v)
+    (ltb→lt _ 2 (simp (ne-eqb k 0 (omega arith), sees 1 (omega arith), sees 2 (omega arith)) at
+    (at-gates knownTest known-all k (bufOf (v 1)) (bufOf (v 2)) (omega arith) (buf-small (v 1)) (buf-small (v 2)))))
+  where
+    sees : (s : ℕ) → 1 ≤ s → seesX k s (bufOf (v s)) ≡ false
+    sees s l = go (leb s (pinsOf k)) refl
+      where
+        go : (t : Bool) → leb s (pinsOf k) ≡ t → (t && leb 2 (bufOf (v s))) ≡ false
+        go true e = lt-leb 2 (bufOf (v s)) (buf-known (v s) (h s l (leb-true s (pinsOf k) e)))
+        go false e = refl
+
+refines-of : (x y : ℕ) → Refines x y → refines x y ≡ true
+refines-of x y h = go (leb 2 x) refl
+  where
+    go : (t : Bool) → leb 2 x ≡ t → (t || eqb y x) ≡ true
+    go true e = refl
+    go false e = eq-eqb y x (h (leb-false 2 x e))
+
+of-refines : (x y : ℕ) → T (refines x y) → Refines x y
+of-refines x y t h = eqb→eq y x (simp (lt-leb 2 x h) at t)
+
+-- where a gate's value is known, every refinement of what its pins see gives the same
+pub gate-mono : (k : ℕ) (v w : ℕ → ℕ) → AtPins k (λ s. Refines (v s) (w s)) → Refines (gateOf k v) (gateOf k w)
+unfolding refineTest
+gate-mono k v w h =
+    ⊎-elim
+    (λ l. rw (clipped k v, clipped k w)
+    (of-refines _ _
+    (simp (pin 1 (omega arith), pin 2 (omega arith)) at
+    (at-refined k (bufOf (v 1)) (bufOf (v 2)) (bufOf (w 1)) (bufOf (w 2)) l (buf-small (v 1)) (buf-small (v 2)) (buf-small (w 1)) (buf-small (w 2))))))
+    (λ l m. absurd (omega (arith, other k v l)))
+    (either k 9)
+  where
+    pin : (s : ℕ) → 1 ≤ s → pinRefines k s (bufOf (v s)) (bufOf (w s)) ≡ true
+    pin s l = go (leb s (pinsOf k)) refl
+      where
+        go : (t : Bool) → leb s (pinsOf k) ≡ t → (not t || refines (bufOf (v s)) (bufOf (w s))) ≡ true
+        go true e = refines-of _ _ (buf-refines (v s) (w s) (h s l (leb-true s (pinsOf k) e)))
+        go false e = refl
+
+-- a gate sees its own pins alone
+pub gate-same : (k : ℕ) (v w : ℕ → ℕ) → AtPins k (λ s. v s ≡ w s) → gateOf k v ≡ gateOf k w
+gate-same k v w h =
+    ⊎-elim
+    (λ l. sym (up l))
+    (λ l. ⊎-elim (λ m. down m) (λ m. let a = gate-small k v in let b = gate-small k w in omega arith) (either (gateOf k w) 2))
+    (either (gateOf k v) 2)
+  where
+    up : Refines (gateOf k v) (gateOf k w)
+    up = gate-mono k v w (λ s l m _. sym (h s l m))
+
+    down : Refines (gateOf k w) (gateOf k v)
+    down = gate-mono k w v (λ s l m _. h s l m)
+
+-- on known values a gate is the Boolean gate
+pub gate-bool : (k : ℕ) (v : ℕ → Bool) → 1 ≤ k → k ≤ lastKind → gateOf k (λ s. one (v s)) ≡ one (boolGate k v)
+unfolding gateOf boolGate
+gate-bool k v some last = eqb→eq _ _ (simp (ne-eqb k 0 (omega arith)) at (at-booleans k (v 1) (v 2) (omega arith)))
+
+-- and sees its own pins alone
+pub bool-same : (k : ℕ) (v w : ℕ → Bool) → 1 ≤ k → k ≤ lastKind → AtPins k (λ s. v s ≡ w s) → boolGate k v ≡ boolGate k w
+bool-same k v w some last h =
+    one-same (boolGate k v) (boolGate k w)
+    (sym (gate-bool k v some last) ∙ gate-same k (λ s. one (v s)) (λ s. one (w s)) (λ s l m. ap one (h s l m)) ∙ gate-bool k w some last)

@@ -1,0 +1,3 @@
+pub mod Choose
+pub mod Below
+pub mod Put
