@@ -1,0 +1,54 @@
+-- `dictionary::dictionary` meets its contract: a refusal of the circuit is handed on, else the rest decides.
+-- Assumes nothing.
+use mathlib.Core.Path.{sym, _∙_}
+use borrow.Author.Needs.{needs}
+use Rattle.dictionary.proofs.Answer.{known, circuit-refused, circuit-accepted}
+use Rattle.circuit.proofs.Accepted.{accepts, refuses}
+use Rattle.dictionary.proofs.dictionary.Statement.{statement}
+use Rattle.dictionary.proofs.dictionary.Tie as tie
+
+check-requires : tie.Need-check-requires
+check-requires c κs = search needs
+
+enum-known-v : tie.Need-enum-known-v
+enum-known-v c = search needs
+
+enum-known-v-2 : tie.Need-enum-known-v-2
+enum-known-v-2 c = search needs
+
+accepted-requires : tie.Need-accepted-requires
+accepted-requires c κs =
+    known (accepts _ _ _ _ (sym (c .before .before .before .v2 .given .1) ∙ c .before .before .before .before .before .check .ensures .answer))
+
+returns : tie.Need-returns
+returns c = let s = c .before .before .before .before .before .before .before .before .before in
+    circuit-refused (s .args .circuit .now) (s .args .faults .now) (s .args .patterns .now) (s .args .table .now) (s .args .work .now)
+    (refuses _ _ _ (sym (c .before .v .given .1) ∙ c .before .before .before .check .ensures .answer))
+
+same-length : tie.Need-same-length
+same-length c = search needs
+
+same-length-2 : tie.Need-same-length-2
+same-length-2 c = search needs
+
+returns-2 : tie.Need-returns-2
+returns-2 c =
+    let s = c .before .before .before .before .before .before .before .before .before .before .before .before .before .before .before .before in
+    circuit-accepted (s .args .circuit .now) (s .args .faults .now) (s .args .patterns .now) (s .args .table .now) (s .args .work .now)
+    (accepts _ _ _ _
+    (sym (c .before .before .before .before .before .before .before .before .v2 .given .1)
+    ∙ c .before .before .before .before .before .before .before .before .before .before .check .ensures .answer))
+    (c .before .before .before .before .accepted .ensures)
+
+pub dictionary-spec : {M : Type 1} → statement M
+dictionary-spec =
+    tie.close
+    (tie.spec
+    check-requires
+    enum-known-v
+    enum-known-v-2
+    accepted-requires
+    returns
+    same-length
+    same-length-2
+    returns-2)

@@ -1,0 +1,3 @@
+pub mod Dictionary
+pub mod Words
+pub mod Owed

@@ -1,0 +1,4 @@
+pub mod Loop
+pub mod Looks
+pub mod Words
+pub mod Fill

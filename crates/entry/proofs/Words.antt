@@ -1,0 +1,136 @@
+-- The entry's definition says what the paper's words say, for every test that says what it is to say.
+-- Assumes nothing.
+use mathlib.Core.Path.{_≡_, refl}
+use mathlib.Core.Bool.{Bool, true, false, not, _&&_, _||_, false≢true}
+use mathlib.Core.List.{List}
+use Prim.Native.Nat.{ℕ, _<_}
+use native.Mathlib.Omega.{arith}
+use lib.Dec.{eqb}
+use lib.ListN.{getD}
+use borrow.Author.Tests.{eqb-true, eq-eqb}
+use Rattle.ground.specs.Choose.{choose}
+use Rattle.ground.proofs.Tests.{both, and-both, T-is, is-T}
+use Rattle.ground.proofs.Below.{at-below, every-all, any-some, some-any}
+use Rattle.answers.specs.Rules.{Same}
+use Rattle.answers.proofs.Same.{lt-same, eq-same, and-same}
+use Rattle.circuit.specs.Record.{isOutput}
+use Rattle.entry.specs.Entry.{pass, fail, unknown, Test, differ, agree, someOutput, everyOutput, entryBy, entryOf}
+use Rattle.entry.specs.Words.{Differ, Agree, SomeOutput, EveryOutput, Chosen, EntryBy, Entry}
+
+-- ---- the two tests
+
+not-same : (t : Bool) {A : Type 0} → Same t A → Same (not t) (A → ⊥)
+not-same true s = record { holds = λ e. absurd (false≢true e); tests = λ h. absurd (h (s .holds refl)) }
+not-same false s = record { holds = λ _ a. false≢true (s .tests a); tests = λ _. refl }
+
+pub differ-says : (a b : ℕ) → Same (differ a b) (Differ a b)
+unfolding differ
+differ-says a b = record {
+  holds = λ e. let h = said .holds e in record { good-known = h .0; faulty-known = h .1 .0; differ = h .1 .1 };
+  tests = λ d. said .tests (d .good-known, (d .faulty-known, d .differ));
+}
+  where
+    said : Same (differ a b) ((a < 2) × ((b < 2) × (a ≡ b → ⊥)))
+    said = and-same (lt-same a 2) (and-same (lt-same b 2) (not-same (eqb a b) (eq-same a b)))
+
+pub agree-says : (a b : ℕ) → Same (agree a b) (Agree a b)
+unfolding agree
+agree-says a b = record {
+  holds = λ e. let h = said .holds e in record { good-known = h .0; faulty-known = h .1 .0; equal = h .1 .1 };
+  tests = λ d. said .tests (d .good-known, (d .faulty-known, d .equal));
+}
+  where
+    said : Same (agree a b) ((a < 2) × ((b < 2) × (a ≡ b)))
+    said = and-same (lt-same a 2) (and-same (lt-same b 2) (eq-same a b))
+
+-- ---- at some output, at every output
+
+module _ (t : Test) (P : ℕ → ℕ → Type 0) (says : (a b : ℕ) → Same (t a b) (P a b)) (c g f : List ℕ) (n : ℕ) where
+  pub some-says : Same (someOutput t c g f n) (SomeOutput P c g f n)
+  some-says = record {
+    holds = λ e.
+        let w = some-any n (λ k. isOutput c k && t (getD g k 0) (getD f k 0)) e in
+        let h = both (isOutput c (w .0)) _ (w .2) in
+        (w .0, record { inside = w .1; output = eqb-true _ 1 (h .0); holds = says _ _ .holds (h .1) });
+    tests = λ w.
+        any-some n (λ k. isOutput c k && t (getD g k 0) (getD f k 0)) (w .0) (w .1 .inside)
+        (and-both (eq-eqb _ 1 (w .1 .output)) (says _ _ .tests (w .1 .holds)));
+  }
+
+  pub every-says : Same (everyOutput t c g f n) (EveryOutput P c g f n)
+  every-says = record {
+    holds = λ e k l out. says _ _ .holds (at-it k (T-is _ (at-below n _ (is-T _ e) k l)) (eq-eqb _ 1 out));
+    tests = λ h. T-is _ (every-all n _ (λ k l. is-T _ (it k (isOutput c k) refl (λ q. says _ _ .tests (h k l (eqb-true _ 1 q))))));
+  }
+    where
+      at-it : (k : ℕ) → (not (isOutput c k) || t (getD g k 0) (getD f k 0)) ≡ true → isOutput c k ≡ true → t (getD g k 0) (getD f k 0) ≡ true
+      at-it k e q = simp q at e
+
+      it : (k : ℕ) (b : Bool) → isOutput c k ≡ b → (isOutput c k ≡ true → t (getD g k 0) (getD f k 0) ≡ true) → (not b || t (getD g k 0) (getD f k 0)) ≡ true
+      it k true q h = h q
+      it k false q h = refl
+
+-- ---- the entry
+
+-- a choice by two tests of which not both hold
+chosen : (d p : Bool) {F P : Type 0} → Same d F → Same p P → (F → P → ⊥) → Chosen F P (choose d fail (choose p pass unknown))
+chosen true p s u apart = record {
+  is-fail = λ _. refl;
+  is-pass = λ h. absurd (apart (s .holds refl) h);
+  is-unknown = λ no _. absurd (no (s .holds refl));
+}
+chosen false true s u apart = record {
+  is-fail = λ h. absurd (false≢true (s .tests h));
+  is-pass = λ _. refl;
+  is-unknown = λ _ no. absurd (no (u .holds refl));
+}
+chosen false false s u apart = record {
+  is-fail = λ h. absurd (false≢true (s .tests h));
+  is-pass = λ h. absurd (false≢true (u .tests h));
+  is-unknown = λ _ _. refl;
+}
+
+one-choice : (d p : Bool) {F P : Type 0} {e : ℕ} → Same d F → Same p P → Chosen F P e → e ≡ choose d fail (choose p pass unknown)
+one-choice true p s u h = h .is-fail (s .holds refl)
+one-choice false true s u h = h .is-pass (u .holds refl)
+one-choice false false s u h = h .is-unknown (λ a. false≢true (s .tests a)) (λ a. false≢true (u .tests a))
+
+-- and read backwards
+chose-fail : (d p : Bool) {F : Type 0} → Same d F → choose d fail (choose p pass unknown) ≡ fail → F
+chose-fail true p s e = s .holds refl
+chose-fail false true s e = absurd (omega arith)
+chose-fail false false s e = absurd (omega arith)
+
+chose-pass : (d p : Bool) {P : Type 0} → Same p P → choose d fail (choose p pass unknown) ≡ pass → P
+chose-pass true p u e = absurd (omega arith)
+chose-pass false true u e = u .holds refl
+chose-pass false false u e = absurd (omega arith)
+
+module _ (t : Test) (P : ℕ → ℕ → Type 0) (says : (a b : ℕ) → Same (t a b) (P a b)) (c g f : List ℕ) (n : ℕ) where
+  pub fail-some : entryBy t c g f n ≡ fail → SomeOutput Differ c g f n
+  unfolding entryBy
+  fail-some = chose-fail (someOutput differ c g f n) (everyOutput t c g f n) (some-says differ Differ differ-says c g f n)
+
+  pub pass-every : entryBy t c g f n ≡ pass → EveryOutput P c g f n
+  unfolding entryBy
+  pass-every = chose-pass (someOutput differ c g f n) (everyOutput t c g f n) (every-says t P says c g f n)
+
+  -- the definition meets the words, where what passes does not differ
+  pub entry-words : ((a b : ℕ) → Differ a b → P a b → ⊥) → EntryBy P c g f n (entryBy t c g f n)
+  unfolding entryBy
+  entry-words apart =
+      chosen (someOutput differ c g f n) (everyOutput t c g f n) (some-says differ Differ differ-says c g f n) (every-says t P says c g f n)
+      (λ w every. apart _ _ (w .1 .holds) (every (w .0) (w .1 .inside) (w .1 .output)))
+
+  -- and what meets the words is the definition
+  pub words-entry : {e : ℕ} → EntryBy P c g f n e → e ≡ entryBy t c g f n
+  unfolding entryBy
+  words-entry =
+      one-choice (someOutput differ c g f n) (everyOutput t c g f n) (some-says differ Differ differ-says c g f n) (every-says t P says c g f n)
+
+module _ (c g f : List ℕ) (n : ℕ) where
+  pub entry-says : Entry c g f n (entryOf c g f n)
+  entry-says = entry-words agree Agree agree-says c g f n (λ a b d e. d .differ (e .equal))
+
+  pub says-entry : {e : ℕ} → Entry c g f n e → e ≡ entryOf c g f n
+  says-entry = words-entry agree Agree agree-says c g f n

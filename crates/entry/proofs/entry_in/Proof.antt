@@ -1,0 +1,85 @@
+-- `entry::entry_in` meets its contract. The invariant: no line passed differs, and r is pass if all passed.
+-- Assumes nothing.
+use borrow.Author.Needs.{needs}
+use native.Mathlib.Omega.{arith}
+use lib.ListN.{take, drop}
+use Prim.Native.Nat.{_-_}
+use Rattle.entry.proofs.Loop.{SoFar, start, more, failed, finished, in-halves}
+use Rattle.entry.specs.Entry.{agree}
+use Rattle.entry.proofs.entry_in.Statement.{statement}
+use Rattle.entry.proofs.entry_in.Tie as tie
+
+abbrev Inv-loop : tie.InvT-loop
+Inv-loop circuit work n k₀ r₀ k r = SoFar agree circuit (take n work) (drop n work) n k r
+
+abbrev μ-loop : tie.MeasureT-loop
+μ-loop circuit work n k₀ r₀ k r = n - k
+
+loop-holds : tie.Need-loop-holds Inv-loop μ-loop
+loop-holds c = start agree _ _ _ _
+
+mul-status : tie.Need-mul-status Inv-loop μ-loop
+mul-status c = omega arith
+
+add-status : tie.Need-add-status Inv-loop μ-loop
+add-status c = omega arith
+
+shared-slice-read-status : tie.Need-shared-slice-read-status Inv-loop μ-loop
+shared-slice-read-status c = omega arith
+
+shared-slice-read-status-2 : tie.Need-shared-slice-read-status-2 Inv-loop μ-loop
+shared-slice-read-status-2 c = omega arith
+
+add-status-2 : tie.Need-add-status-2 Inv-loop μ-loop
+add-status-2 c = omega arith
+
+shared-slice-read-status-3 : tie.Need-shared-slice-read-status-3 Inv-loop μ-loop
+shared-slice-read-status-3 c = omega arith
+
+status-requires : tie.Need-status-requires Inv-loop μ-loop
+status-requires c κs = search needs
+
+returns : tie.Need-returns Inv-loop μ-loop
+returns c =
+    failed (c .before .before .before .before .before .before .loop .inv) (omega arith)
+    (in-halves agree _ (c .before .before .before .before .before .before .before .before .before .args .work .now) (omega arith) (c .before .status .ensures))
+    (c .if1 .taken)
+
+joined-requires : tie.Need-joined-requires Inv-loop μ-loop
+joined-requires c κs = search needs
+
+add-k : tie.Need-add-k Inv-loop μ-loop
+add-k c = omega arith
+
+loop-less : tie.Need-loop-less Inv-loop μ-loop
+loop-less c = omega arith
+
+loop-again : tie.Need-loop-again Inv-loop μ-loop
+loop-again c = rw (c .joined .ensures)
+    (more (c .before .before .before .before .before .before .before .loop .inv) (omega arith)
+    (in-halves agree _ (c .before .before .before .before .before .before .before .before .before .before .args .work .now) (omega arith) (c .before .before .status .ensures))
+    (c .before .if1 .left))
+
+returns-2 : tie.Need-returns-2 Inv-loop μ-loop
+returns-2 c = finished (c .before .loop .inv) (omega arith)
+
+pub entry-in-spec : {M : Type 1} → statement M
+entry-in-spec =
+    tie.close
+    (tie.spec
+    Inv-loop
+    μ-loop
+    loop-holds
+    mul-status
+    add-status
+    shared-slice-read-status
+    shared-slice-read-status-2
+    add-status-2
+    shared-slice-read-status-3
+    status-requires
+    returns
+    joined-requires
+    add-k
+    loop-less
+    loop-again
+    returns-2)

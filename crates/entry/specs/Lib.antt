@@ -1,0 +1,3 @@
+pub mod Entry
+pub mod Words
+pub mod Owed

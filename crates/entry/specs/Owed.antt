@@ -1,0 +1,42 @@
+-- What the functions of the entry owe each other; nobody else need read it.
+-- Assumes nothing.
+use mathlib.Core.Path.{_≡_}
+use mathlib.Core.Bool.{not, _&&_, _||_}
+use mathlib.Core.List.{List}
+use Prim.Native.Nat.{ℕ, _+_, _*_, _<_}
+use lib.Dec.{eqb}
+use lib.ListN.{length, take}
+use Rattle.ground.specs.Choose.{choose}
+use Rattle.lists.specs.declared.Fault.{Fault}
+use Rattle.simulate.specs.Work.{goodOf, bothOf}
+use Rattle.simulate.specs.Owed.{Room}
+use Rattle.entry.specs.Entry.{pass, fail, unknown, Test, differ, agree, entryAt}
+
+-- what one line says: fail, it is an output and its values differ; pass, it is none or its values pass the test; unknown, neither
+unfoldable pub statusBy : Test → ℕ → ℕ → ℕ → ℕ
+statusBy t out a b = choose (eqb out 1 && differ a b) fail (choose (not (eqb out 1) || t a b) pass unknown)
+
+abbrev pub statusOf : ℕ → ℕ → ℕ → ℕ
+statusOf out a b = statusBy agree out a b
+
+-- pass so far, and what a line says that does not differ
+unfoldable pub joinedOf : ℕ → ℕ → ℕ
+joinedOf r s = choose (eqb s pass) r unknown
+
+pub record Halves (c : List ℕ) (n work : ℕ) : Type 0 where
+  pub circuit : length c ≡ 8 * n
+  pub two : work ≡ n + n
+
+-- room for a look at a pattern and a fault
+pub record Ready (c : List ℕ) (inputs : ℕ) (fault : Fault) (n work : ℕ) : Type 0 where
+  pub room : Room c inputs n work
+  pub line : fault .line < n
+
+-- a look at the pattern p and a fault: the entry, and the work memory afterwards
+pub record Looked (fault : Fault) (c p : List ℕ) (n : ℕ) (work : List ℕ) (r : ℕ) : Type 0 where
+  pub entry-is : r ≡ entryAt fault c p n
+  pub work-is : work ≡ bothOf fault c p n
+
+-- the same where the first half of w has the good values, under whatever pattern
+abbrev pub LooksFrom : Fault → List ℕ → ℕ → List ℕ → List ℕ → ℕ → Type 0
+LooksFrom fault c n w w′ r = (p : List ℕ) → take n w ≡ goodOf c p n → Looked fault c p n w′ r

@@ -1,0 +1,4 @@
+pub mod Rows
+pub mod Part
+pub mod Tables
+pub mod Entries

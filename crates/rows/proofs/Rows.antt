@@ -1,0 +1,75 @@
+-- The loop of `fill_row`, as facts about lists.
+-- Assumes nothing.
+use mathlib.Core.Path.{_≡_, refl, sym, ap, _∙_}
+use mathlib.Core.List.{List, _++_}
+use Prim.Native.Nat.{ℕ, _+_, _*_, _-_, _/_, _≤_, _<_}
+use native.Mathlib.Nat.{mul-div-right}
+use native.Mathlib.Numerals.{add-one}
+use native.Mathlib.Omega.{arith}
+use lib.ListN.{length, take, drop, set, length-set, length-append, length-drop}
+use lib.Seq.{take-at, take-all, take-suc-set}
+use Rattle.lists.specs.declared.Fault.{Fault}
+use Rattle.lists.specs.Faults.{faultCount, faultAt}
+use Rattle.simulate.specs.Simulate.{unforced, stuckAt}
+use Rattle.simulate.specs.Work.{goodOf, faultyOf, bothOf}
+use Rattle.simulate.proofs.Values.{values-length}
+use Rattle.entry.specs.Owed.{Looked, LooksFrom}
+use Rattle.rows.specs.Table.{rowTo}
+use Rattle.rows.specs.Owed.{RowFilled}
+
+good-long : (c p x : List ℕ) (n : ℕ) → length (goodOf c p n ++ x) ≡ n + length x
+good-long c p x n = simp (length-append, values-length unforced c p n)
+
+good-front : (c p x : List ℕ) (n : ℕ) → take n (goodOf c p n ++ x) ≡ goodOf c p n
+good-front c p x n = take-at (goodOf c p n) x n (values-length unforced c p n)
+
+pub both-length : (fault : Fault) (c p : List ℕ) (n : ℕ) → length (bothOf fault c p n) ≡ n + n
+both-length fault c p n = good-long c p (faultyOf fault c p n) n ∙ rw (values-length (stuckAt fault) c p n)
+
+-- the first j entries are in the row, and the work memory holds the good values and those of the last fault looked at
+pub record SoFar (c : List ℕ) (n : ℕ) (p fs : List ℕ) (width : ℕ) (row work : List ℕ) (j : ℕ) : Type 0 where
+  pub at-most : j ≤ width
+  pub long : length row ≡ width
+  pub done : take j row ≡ rowTo c n fs p j
+  pub room : length work ≡ n + n
+  pub good : take n work ≡ goodOf c p n
+  pub last : 1 ≤ j → work ≡ bothOf (faultAt fs (j - 1)) c p n
+
+pub start : (c : List ℕ) (n : ℕ) (p fs row w : List ℕ) {work : List ℕ} → length w ≡ n + n → work ≡ goodOf c p n ++ drop n w → SoFar c n p fs (length row) row work 0
+unfolding rowTo
+start c n p fs row w two e = record {
+  at-most = omega arith;
+  long = refl;
+  done = refl;
+  room = ap length e ∙ good-long c p (drop n w) n ∙ simp length-drop (omega arith);
+  good = rw e (good-front c p (drop n w) n);
+  last = λ h. absurd (omega arith);
+}
+
+module _ {c : List ℕ} {n : ℕ} {p fs : List ℕ} {width : ℕ} {row work : List ℕ} {j : ℕ} (so : SoFar c n p fs width row work j) where
+  pub more : {fault : Fault} {work′ : List ℕ} {e : ℕ}
+      → j < width
+      → fault ≡ faultAt fs j
+      → LooksFrom fault c n work work′ e
+      → SoFar c n p fs width (set row j e) work′ (j + 1)
+  unfolding rowTo
+  more {fault} {work′} {e} l is looks =
+      let k : Looked (faultAt fs j) c p n work′ e = rw is at (looks p (so .good)) in
+      let back : j + 1 - 1 ≡ j = omega arith in
+      record {
+        at-most = omega arith;
+        long = length-set row j e ∙ so .long;
+        done = rw (add-one, take-suc-set row j e (omega (arith, so .long)), so .done, k .entry-is);
+        room = ap length (k .work-is) ∙ both-length (faultAt fs j) c p n;
+        good = rw (k .work-is) (good-front c p (faultyOf (faultAt fs j) c p n) n);
+        last = λ _. k .work-is ∙ ap (λ (x : ℕ). bothOf (faultAt fs x) c p n) (sym back);
+      }
+
+  pub finished : width ≤ j → 1 ≤ width → length fs ≡ 8 * width → RowFilled c n p fs row work
+  finished l some size =
+      let e : j ≡ width = omega (arith, so .at-most) in
+      let f : faultCount fs ≡ width = ap (λ (x : ℕ). x / 8) size ∙ mul-div-right width (omega arith) in
+      record {
+        row-is = sym (take-all j row (omega (arith, so .long))) ∙ so .done ∙ ap (rowTo c n fs p) (e ∙ sym f);
+        work-is = so .last (omega arith) ∙ ap (λ (x : ℕ). bothOf (faultAt fs (x - 1)) c p n) (e ∙ sym f);
+      }

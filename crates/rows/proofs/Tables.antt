@@ -1,0 +1,89 @@
+-- The loop of `fill_table`, as facts about lists.
+-- Assumes nothing.
+use mathlib.Core.Path.{_≡_, refl, sym, ap, _∙_}
+use mathlib.Core.List.{List, _++_, append-assoc}
+use Prim.Native.Nat.{ℕ, zero, suc, _+_, _*_, _-_, _≤_, _<_}
+use native.Mathlib.Nat.{suc-mul, zero-mul, mul-comm}
+use native.Mathlib.Numerals.{add-one}
+use native.Mathlib.Omega.{arith}
+use lib.ListN.{length, take, length-append, length-take, length-drop}
+use lib.Seq.{take-at, take-all, length-take-le}
+use Rattle.lists.specs.Faults.{faultCount}
+use Rattle.lists.specs.Patterns.{patternCount, patternAt}
+use Rattle.simulate.specs.Work.{bothOf}
+use Rattle.rows.specs.Table.{rowTo, rowOf, tableTo, tableOf, lastFault, workOf}
+use Rattle.rows.specs.Owed.{Ready, Put, Filled}
+use Rattle.rows.proofs.Rows.{both-length}
+use Rattle.rows.proofs.Part.{row-fits}
+
+pub row-length : (c : List ℕ) (n : ℕ) (fs p : List ℕ) (j : ℕ) → length (rowTo c n fs p j) ≡ j
+unfolding rowTo
+row-length c n fs p zero = refl
+row-length c n fs p (suc j) = simp (length-append, row-length c n fs p j, add-one)
+
+pub table-length : (c : List ℕ) (n m : ℕ) (fs ps : List ℕ) (i : ℕ) → length (tableTo c n m fs ps i) ≡ i * faultCount fs
+unfolding tableTo
+table-length c n m fs ps zero = rw zero-mul
+table-length c n m fs ps (suc i) = simp (length-append, table-length c n m fs ps i, row-length, suc-mul)
+
+-- the first i rows are in the table, and the work memory holds what the last of them left
+pub record SoFar (c : List ℕ) (n m : ℕ) (fs ps t w : List ℕ) (i : ℕ) : Type 0 where
+  pub at-most : i ≤ patternCount m ps
+  pub long : length t ≡ faultCount fs * patternCount m ps
+  pub room : length w ≡ n + n
+  pub done : take (i * faultCount fs) t ≡ tableTo c n m fs ps i
+  pub last : 1 ≤ i → w ≡ bothOf (lastFault fs) c (patternAt m ps (i - 1)) n
+
+pub start : {c : List ℕ} {n m : ℕ} {fs ps : List ℕ} (t w : List ℕ) → Ready c n m fs ps (length t) (length w) → SoFar c n m fs ps t w 0
+unfolding tableTo
+start {c} {n} {m} {fs} {ps} t w r = record {
+  at-most = omega arith;
+  long = r .entries;
+  room = r .two;
+  done = rw zero-mul;
+  last = λ h. absurd (omega arith);
+}
+
+module _ {c : List ℕ} {n m : ℕ} {fs ps t w : List ℕ} {i : ℕ} (so : SoFar c n m fs ps t w i) where
+  pub still : {x y : ℕ} → Ready c n m fs ps x y → Ready c n m fs ps (length t) (length w)
+  still r = record {
+    well = r .well;
+    some-inputs = r .some-inputs;
+    most-inputs = r .most-inputs;
+    faults = r .faults;
+    fault-lines = r .fault-lines;
+    patterns = r .patterns;
+    entries = so .long;
+    two = so .room;
+  }
+
+  pub more : {t′ w′ : List ℕ} → Ready c n m fs ps (length t) (length w) → i < patternCount m ps → Put c n m fs ps i t t′ w′ → SoFar c n m fs ps t′ w′ (i + 1)
+  unfolding tableTo
+  more {t′} {w′} r l p =
+      let k = faultCount fs in
+      let row = rowOf c n fs (patternAt m ps i) in
+      let fits = row-fits r l in
+      let head : length (take (i * k) t) ≡ i * k = length-take-le (i * k) t (omega arith) in
+      let front : length (take (i * k) t ++ row) ≡ i * k + k =
+      length-append (take (i * k) t) row ∙ rw (head, row-length c n fs (patternAt m ps i) k) in
+      let back : i + 1 - 1 ≡ i = omega arith in
+      record {
+        at-most = omega arith;
+        long = ap length (p .table-is) ∙ simp (length-append, length-take, length-drop, row-length) (omega (arith, so .long));
+        room = ap length (p .work-is) ∙ both-length (lastFault fs) c (patternAt m ps i) n;
+        done =
+            rw (add-one, suc-mul, p .table-is, ← append-assoc, take-at (take (i * k) t ++ row) _ (i * k + k) front, so .done);
+        last = λ _. p .work-is ∙ ap (λ (x : ℕ). bothOf (lastFault fs) c (patternAt m ps x) n) (sym back);
+      }
+
+  pub finished : patternCount m ps ≤ i → 1 ≤ patternCount m ps → Filled c n m fs ps t w
+  unfolding tableOf workOf
+  finished l some =
+      let e : i ≡ patternCount m ps = omega (arith, so .at-most) in
+      record {
+        table-is =
+            sym (take-all (i * faultCount fs) t (rw e (omega (arith, so .long, mul-comm (patternCount m ps) (faultCount fs)))))
+            ∙ so .done
+            ∙ ap (tableTo c n m fs ps) e;
+        work-is = so .last (omega arith) ∙ ap (λ (x : ℕ). bothOf (lastFault fs) c (patternAt m ps (x - 1)) n) e;
+      }

@@ -1,0 +1,46 @@
+-- What the functions of the table filler owe each other; nobody else need read it.
+-- Assumes nothing.
+use mathlib.Core.Path.{_≡_}
+use mathlib.Core.List.{List, _++_}
+use Prim.Native.Nat.{ℕ, _+_, _*_, _≤_, _<_}
+use lib.ListN.{length, take, drop}
+use Rattle.answers.specs.Records.{Records}
+use Rattle.circuit.specs.Formed.{WellFormed}
+use Rattle.lists.specs.Faults.{faultCount, faultLine}
+use Rattle.lists.specs.Patterns.{patternCount, patternAt}
+use Rattle.simulate.specs.Work.{bothOf}
+use Rattle.rows.specs.Table.{rowOf, tableOf, lastFault, workOf}
+
+-- ---- the row of one pattern
+
+pub record RowReady (c : List ℕ) (n : ℕ) (p fs : List ℕ) (row work : ℕ) : Type 0 where
+  pub well : WellFormed c (length p) n
+  pub faults : length fs ≡ 8 * row
+  pub lines : (j : ℕ) → j < row → faultLine fs j < n
+  pub some : 1 ≤ row
+  pub two : work ≡ n + n
+
+pub record RowFilled (c : List ℕ) (n : ℕ) (p fs row work : List ℕ) : Type 0 where
+  pub row-is : row ≡ rowOf c n fs p
+  pub work-is : work ≡ bothOf (lastFault fs) c p n
+
+-- ---- the table
+
+pub record Ready (c : List ℕ) (n m : ℕ) (fs ps : List ℕ) (table work : ℕ) : Type 0 where
+  pub well : WellFormed c m n
+  pub some-inputs : 1 ≤ m
+  pub most-inputs : m ≤ 64
+  pub faults : Records 8 256 (length fs)
+  pub fault-lines : (j : ℕ) → j < faultCount fs → faultLine fs j < n
+  pub patterns : Records m 256 (length ps)
+  pub entries : table ≡ faultCount fs * patternCount m ps
+  pub two : work ≡ n + n
+
+-- row i is put into the table
+pub record Put (c : List ℕ) (n m : ℕ) (fs ps : List ℕ) (i : ℕ) (t t′ w′ : List ℕ) : Type 0 where
+  pub table-is : t′ ≡ take (i * faultCount fs) t ++ (rowOf c n fs (patternAt m ps i) ++ drop (i * faultCount fs + faultCount fs) t)
+  pub work-is : w′ ≡ bothOf (lastFault fs) c (patternAt m ps i) n
+
+pub record Filled (c : List ℕ) (n m : ℕ) (fs ps t w : List ℕ) : Type 0 where
+  pub table-is : t ≡ tableOf c n m fs ps
+  pub work-is : w ≡ workOf c n m fs ps

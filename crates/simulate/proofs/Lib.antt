@@ -1,0 +1,10 @@
+pub mod Values
+pub mod Line
+pub mod Settled
+pub mod Inputs
+pub mod Below
+pub mod Halves
+pub mod Mono
+pub mod Known
+pub mod Truths
+pub mod Sites

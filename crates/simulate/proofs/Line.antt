@@ -1,0 +1,32 @@
+-- The value of one line, as the code finds it.
+-- Assumes nothing.
+use mathlib.Core.Path.{_≡_, ap, _∙_}
+use mathlib.Core.List.{List}
+use Prim.Native.Nat.{ℕ, _≤_, _<_}
+use native.Mathlib.Omega.{arith}
+use lib.ListN.{getD}
+use borrow.Author.Tests.{eq-eqb, ne-eqb}
+use Rattle.gates.specs.Gate.{gateOf, atPins}
+use Rattle.circuit.specs.Record.{kindAt, pinAt}
+use Rattle.simulate.specs.Simulate.{Forcing, gateValue}
+use Rattle.simulate.specs.Owed.{Ordered, lineIn}
+
+module _ (f : Forcing) (c vs : List ℕ) (k : ℕ) where
+  -- an input
+  pub input-in : kindAt c k ≡ 0 → f k 0 (getD vs k 0) ≡ lineIn f c vs k
+  unfolding lineIn
+  input-in e = rw (eq-eqb _ _ e)
+
+  -- a gate whose pins see a and b
+  pub gate-in : {a b r : ℕ}
+      → (kindAt c k ≡ 0 → ⊥)
+      → a ≡ f k 1 (getD vs (pinAt c k 1) 0)
+      → b ≡ f k 2 (getD vs (pinAt c k 2) 0)
+      → r ≡ gateOf (kindAt c k) (atPins a b)
+      → f k 0 r ≡ lineIn f c vs k
+  unfolding lineIn gateValue gateOf
+  gate-in ne p q e = rw (ne-eqb _ _ ne) (ap (f k 0) (e ∙ rw (p, q)))
+
+-- a source stands among the lines
+pub source-inside : {c : List ℕ} {n k : ℕ} → Ordered c n → k < n → (kindAt c k ≡ 0 → ⊥) → (s : ℕ) → 1 ≤ s → s ≤ 3 → pinAt c k s < n
+source-inside {c} {n} {k} o l ne s a b = omega (arith, o .lower k l ne s a b)

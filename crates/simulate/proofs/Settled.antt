@@ -1,0 +1,98 @@
+-- The loop over the lines, as facts about lists: where it starts, one line more, and its end.
+-- Assumes nothing.
+use mathlib.Core.Path.{_≡_, refl, sym, ap, _∙_}
+use mathlib.Core.Bool.{Bool, true, false}
+use mathlib.Core.List.{List}
+use Prim.Native.Nat.{ℕ, _+_, _≤_, _<_}
+use native.Mathlib.Numerals.{add-one}
+use native.Mathlib.Omega.{arith}
+use lib.ListN.{length, getD, take, set, length-set}
+use lib.Seq.{getD-take, take-suc-set, take-all, getD-set-other}
+use borrow.Author.Tests.{eqb-false}
+use Rattle.ground.specs.Choose.{choose}
+use Rattle.gates.proofs.Laws.{gate-same}
+use Rattle.circuit.specs.Record.{kindAt, pinAt, isInput, inputsBefore}
+use Rattle.circuit.specs.Formed.{Lower, WellFormed}
+use Rattle.circuit.proofs.Lines.{two-pins}
+use Rattle.simulate.specs.Simulate.{Forcing, unforced, gateValue, lineValue, valuesTo}
+use Rattle.simulate.specs.Work.{goodOf}
+use Rattle.simulate.specs.Owed.{Ordered, lineIn, InputsFrom, Settled, Leaves, Simulates}
+
+pub ordered : {c : List ℕ} {m n : ℕ} → WellFormed c m n → Ordered c n
+ordered w = record { size = w .size; lower = w .lower }
+
+-- a gate's value takes no notice of what stands at its place and above
+gate-take : (f : Forcing) (c vs : List ℕ) (k : ℕ) → Lower c k → gateValue f c vs k ≡ gateValue f c (take k vs) k
+unfolding gateValue
+gate-take f c vs k low =
+    gate-same (kindAt c k) _ _ (λ s l m. ap (f k s) (sym (getD-take k vs (pinAt c k s) 0 (low s l (omega (arith, two-pins (kindAt c k)))))))
+
+-- nor does a line's value: it is that of the definition, where the lines below it are settled
+line-settled : {f : Forcing} {c p vs : List ℕ} {k : ℕ}
+    → ((kindAt c k ≡ 0 → ⊥) → Lower c k)
+    → k < length vs
+    → Settled f c p vs k
+    → lineIn f c vs k ≡ lineValue f c p (valuesTo f c p k) k
+unfolding lineIn lineValue
+line-settled {f} {c} {p} {vs} {k} low l s = go (isInput c k) refl
+  where
+    go : (t : Bool)
+        → isInput c k ≡ t
+        → f k 0 (choose t (getD vs k 0) (gateValue f c vs k)) ≡ f k 0 (choose t (getD p (inputsBefore c k) 0) (gateValue f c (valuesTo f c p k) k))
+    go true e = rw (s .inputs k (omega arith) l e)
+    go false e = rw (gate-take f c vs k (low (eqb-false (kindAt c k) 0 e)), s .done)
+
+-- a line more
+pub settled-more : {f : Forcing} {c p vs : List ℕ} {k : ℕ}
+    → ((kindAt c k ≡ 0 → ⊥) → Lower c k)
+    → k < length vs
+    → Settled f c p vs k
+    → Settled f c p (set vs k (lineIn f c vs k)) (k + 1)
+unfolding valuesTo
+settled-more {f} {c} {p} {vs} {k} low l s = record {
+  done = rw (add-one, take-suc-set vs k (lineIn f c vs k) l, s .done, line-settled low l s);
+  inputs = λ j a b e.
+      getD-set-other vs k j (lineIn f c vs k) 0 (λ q. omega arith)
+      ∙ s .inputs j (omega arith) (omega (arith, length-set vs k (lineIn f c vs k))) e;
+}
+
+-- what is left alone needs no look at the forcing
+line-left : (f : Forcing) (c vs : List ℕ) (k : ℕ) → ((s v : ℕ) → f k s v ≡ v) → lineIn f c vs k ≡ lineIn unforced c vs k
+unfolding lineIn gateValue
+line-left f c vs k left =
+    left 0 _
+    ∙ ap (choose (isInput c k) (getD vs k 0)) (gate-same (kindAt c k) _ _ (λ s l m. left s (getD vs (pinAt c k s) 0)))
+
+-- ---- the loop
+
+-- vs₀ at the start, vs when it comes to line k
+pub record SoFar (c vs₀ : List ℕ) (start : ℕ) (vs : List ℕ) (k : ℕ) : Type 0 where
+  pub above : start ≤ k
+  pub at-most : k ≤ length vs₀
+  pub long : length vs ≡ length vs₀
+  pub settled : (f : Forcing) (p : List ℕ) → Leaves f start → Settled f c p vs₀ start → Settled f c p vs k
+
+pub start : (c vs : List ℕ) (k : ℕ) → k ≤ length vs → SoFar c vs k vs k
+start c vs k h = record { above = omega arith; at-most = h; long = refl; settled = λ f p _ s. s }
+
+module _ {c vs₀ vs : List ℕ} {k start : ℕ} (so : SoFar c vs₀ start vs k) where
+  pub more : {v : ℕ} → Ordered c (length vs₀) → k < length vs₀ → v ≡ lineIn unforced c vs k → SoFar c vs₀ start (set vs k v) (k + 1)
+  more {v} o l e = record {
+    above = omega (arith, so .above);
+    at-most = omega arith;
+    long = length-set vs k v ∙ so .long;
+    settled = λ f p left s.
+        rw (e ∙ sym (line-left f c vs k (λ t w. left k t w (so .above))))
+        (settled-more (o .lower k l) (omega (arith, so .long)) (so .settled f p left s));
+  }
+
+  pub finished : length vs₀ ≤ k → Simulates c vs₀ start vs
+  finished l f p left s =
+      let e : k ≡ length vs₀ = omega (arith, so .at-most) in
+      sym (take-all k vs (omega (arith, so .long))) ∙ so .settled f p left s .done ∙ ap (valuesTo f c p) e
+
+-- with the inputs' lines set, all lines simulated have the good values
+pub all-good : (c p vs₀ : List ℕ) {vs vs′ : List ℕ} → length vs ≡ length vs₀ → InputsFrom c p vs 0 → Simulates c vs 0 vs′ → vs′ ≡ goodOf c p (length vs₀)
+unfolding valuesTo
+all-good c p vs₀ long inputs simulated =
+    simulated unforced p (λ l s v _. refl) (record { done = refl; inputs = inputs }) ∙ ap (goodOf c p) long

@@ -1,0 +1,27 @@
+-- `simulate::simulate` meets its contract: the inputs' lines are set, and then every line is simulated.
+-- Assumes nothing.
+use native.Mathlib.Omega.{arith}
+use borrow.Author.Needs.{needs}
+use Rattle.simulate.proofs.Settled.{ordered, all-good}
+use Rattle.simulate.proofs.simulate.Statement.{statement}
+use Rattle.simulate.proofs.simulate.Tie as tie
+
+put-inputs-requires : tie.Need-put-inputs-requires
+put-inputs-requires c κs = search needs
+
+simulate-from-requires : tie.Need-simulate-from-requires
+simulate-from-requires c κs =
+    let s = c .before .before .before .before .before .before .before .before in
+    rw (c .before .before .before .put-inputs .kept .1 .1 .0) (ordered (s .pre), omega arith)
+
+same-length : tie.Need-same-length
+same-length c = search needs
+
+returns : tie.Need-returns
+returns c =
+    let s = c .before .before .before .before .before .before .before .before .before .before .before in
+    all-good _ (s .args .pattern .now) (s .args .values .now) (c .before .before .before .before .before .before .put-inputs .kept .1 .1 .0)
+    (c .before .before .before .before .before .before .put-inputs .ensures) (c .before .before .simulate-from .ensures)
+
+pub simulate-spec : {M : Type 1} → statement M
+simulate-spec = tie.close (tie.spec put-inputs-requires simulate-from-requires same-length returns)

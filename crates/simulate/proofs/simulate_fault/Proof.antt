@@ -1,0 +1,41 @@
+-- `simulate::simulate_fault` meets its contract: the fault's line is set, and the lines after it are simulated as any.
+-- Assumes nothing.
+use mathlib.Core.Path.{_∙_}
+use lib.ListN.{length-set}
+use native.Mathlib.Omega.{arith}
+use borrow.Author.Needs.{needs}
+use Rattle.simulate.proofs.Below.{makes-faulty}
+use Rattle.simulate.proofs.simulate_fault.Statement.{statement}
+use Rattle.simulate.proofs.simulate_fault.Tie as tie
+
+stuck-value-requires : tie.Need-stuck-value-requires
+stuck-value-requires c κs = search needs
+
+slice-write-values : tie.Need-slice-write-values
+slice-write-values c = search needs
+
+add-simulate-from : tie.Need-add-simulate-from
+add-simulate-from c = search needs
+
+simulate-from-requires : tie.Need-simulate-from-requires
+simulate-from-requires c κs = let s = c .before .before .before .before .before in simp length-set (s .pre .0, omega arith)
+
+same-length : tie.Need-same-length
+same-length c = c .before .before .simulate-from .kept .1 .0 ∙ simp length-set
+
+returns : tie.Need-returns
+returns c =
+    let s = c .before .before .before .before .before .before .before .before in
+    makes-faulty _ (s .pre .0) (s .pre .1) (c .before .before .before .before .stuck-value .ensures) (simp length-set)
+    (c .before .before .simulate-from .ensures)
+
+pub simulate-fault-spec : {M : Type 1} → statement M
+simulate-fault-spec =
+    tie.close
+    (tie.spec
+    stuck-value-requires
+    slice-write-values
+    add-simulate-from
+    simulate-from-requires
+    same-length
+    returns)

@@ -1,0 +1,56 @@
+-- `simulate::simulate_from` meets its contract. The invariant: under every forcing that leaves these lines alone, the lines passed are settled.
+-- Assumes nothing.
+use native.Mathlib.Omega.{arith}
+use lib.ListN.{length}
+use Prim.Native.Nat.{_-_}
+use Rattle.simulate.proofs.Settled.{SoFar, start, more, finished}
+use Rattle.simulate.proofs.simulate_from.Statement.{statement}
+use Rattle.simulate.proofs.simulate_from.Tie as tie
+
+abbrev Inv-loop : tie.InvT-loop
+Inv-loop circuit values₀ start k₀ values k = SoFar circuit values₀ start values k
+
+abbrev μ-loop : tie.MeasureT-loop
+μ-loop circuit values₀ start k₀ values k = length values₀ - k
+
+loop-holds : tie.Need-loop-holds Inv-loop μ-loop
+loop-holds c = start _ _ _ (c .before .before .pre .1)
+
+line-value-requires : tie.Need-line-value-requires Inv-loop μ-loop
+line-value-requires c κs =
+    let so = c .before .before .loop .inv in
+    rw (so .long) (c .before .before .before .before .before .pre .0, omega (arith, so .at-most))
+
+slice-write-values : tie.Need-slice-write-values Inv-loop μ-loop
+slice-write-values c = omega (arith, c .before .before .before .loop .inv .long)
+
+add-k : tie.Need-add-k Inv-loop μ-loop
+add-k c = omega arith
+
+loop-less : tie.Need-loop-less Inv-loop μ-loop
+loop-less c = omega arith
+
+loop-again : tie.Need-loop-again Inv-loop μ-loop
+loop-again c =
+    more (c .before .before .before .loop .inv) (c .before .before .before .before .before .before .pre .0) (omega arith) (c .line-value .ensures)
+
+same-length : tie.Need-same-length Inv-loop μ-loop
+same-length c = c .before .loop .inv .long
+
+returns : tie.Need-returns Inv-loop μ-loop
+returns c = finished (c .before .loop .inv) (omega (arith, c .before .loop .inv .long))
+
+pub simulate-from-spec : {M : Type 1} → statement M
+simulate-from-spec =
+    tie.close
+    (tie.spec
+    Inv-loop
+    μ-loop
+    loop-holds
+    line-value-requires
+    slice-write-values
+    add-k
+    loop-less
+    loop-again
+    same-length
+    returns)

@@ -1,0 +1,62 @@
+-- What the functions of the simulation owe each other; nobody else need read it.
+-- Assumes nothing.
+use mathlib.Core.Path.{_≡_}
+use mathlib.Core.Bool.{true}
+use mathlib.Core.List.{List}
+use Prim.Native.Nat.{ℕ, _+_, _*_, _≤_, _<_}
+use lib.ListN.{length, getD, take}
+use Rattle.ground.specs.Choose.{choose}
+use Rattle.circuit.specs.Record.{kindAt, isInput, inputsBefore}
+use Rattle.circuit.specs.Formed.{Lower, WellFormed}
+use Rattle.lists.specs.declared.Fault.{Fault}
+use Rattle.simulate.specs.Simulate.{Forcing, gateValue, valuesTo}
+use Rattle.simulate.specs.Work.{goodOf, faultyOf, bothOf}
+
+-- so many lines, every gate above its sources
+pub record Ordered (c : List ℕ) (n : ℕ) : Type 0 where
+  pub size : length c ≡ 8 * n
+  pub lower : (k : ℕ) → k < n → (kindAt c k ≡ 0 → ⊥) → Lower c k
+
+-- a circuit of n lines, and room for two values a line
+pub record Room (c : List ℕ) (inputs n room : ℕ) : Type 0 where
+  pub well : WellFormed c inputs n
+  pub two : room ≡ n + n
+
+-- the same with a fault on one of the lines
+pub record FaultRoom (c : List ℕ) (fault : Fault) (n room : ℕ) : Type 0 where
+  pub ordered : Ordered c n
+  pub two : room ≡ n + n
+  pub line : fault .line < n
+
+-- what an input's line is set to before its turn, where i inputs stand below it; a gate's line is X until its turn
+unfoldable pub inputOr : List ℕ → List ℕ → ℕ → ℕ → ℕ
+inputOr c p k i = choose (isInput c k) (getD p i 0) 2
+
+-- the value of line k, where vs has the values below it and an input's own
+unfoldable pub lineIn : Forcing → List ℕ → List ℕ → ℕ → ℕ
+lineIn f c vs k = f k 0 (choose (isInput c k) (getD vs k 0) (gateValue f c vs k))
+
+-- each input's line from k on holds its value of the pattern p
+abbrev pub InputsFrom : List ℕ → List ℕ → List ℕ → ℕ → Type 0
+InputsFrom c p vs k = (j : ℕ) → k ≤ j → j < length vs → isInput c j ≡ true → getD vs j 0 ≡ getD p (inputsBefore c j) 0
+
+-- the lines below k have their values, and the inputs above theirs
+pub record Settled (f : Forcing) (c p vs : List ℕ) (k : ℕ) : Type 0 where
+  pub done : take k vs ≡ valuesTo f c p k
+  pub inputs : InputsFrom c p vs k
+
+-- a forcing that leaves every line from k on alone
+abbrev pub Leaves : Forcing → ℕ → Type 0
+Leaves f k = (l s v : ℕ) → k ≤ l → f l s v ≡ v
+
+-- where the lines below start are settled, under whatever pattern and forcing that leaves the others alone, vs′ has the values of all
+abbrev pub Simulates : List ℕ → List ℕ → ℕ → List ℕ → Type 0
+Simulates c vs start vs′ = (f : Forcing) (p : List ℕ) → Leaves f start → Settled f c p vs start → vs′ ≡ valuesTo f c p (length vs)
+
+-- where vs has the good values, under whatever pattern, vs′ has the faulty ones
+abbrev pub MakesFaulty : Fault → List ℕ → List ℕ → List ℕ → Type 0
+MakesFaulty fault c vs vs′ = (p : List ℕ) → vs ≡ goodOf c p (length vs) → vs′ ≡ faultyOf fault c p (length vs)
+
+-- where the first half of w has the good values, w′ has these and then the faulty ones
+abbrev pub AddsFaulty : Fault → List ℕ → ℕ → List ℕ → List ℕ → Type 0
+AddsFaulty fault c n w w′ = (p : List ℕ) → take n w ≡ goodOf c p n → w′ ≡ bothOf fault c p n

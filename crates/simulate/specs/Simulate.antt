@@ -1,0 +1,36 @@
+-- Simulation with three values of a circuit in which something may force values: nothing, or a fault.
+-- Assumes nothing.
+use mathlib.Core.Bool.{_&&_}
+use mathlib.Core.List.{List, [], _∷_, _++_}
+use Prim.Native.Nat.{ℕ, zero, suc}
+use lib.Dec.{eqb}
+use lib.ListN.{getD}
+use Rattle.ground.specs.Choose.{choose}
+use Rattle.gates.specs.Gate.{gateOf}
+use Rattle.circuit.specs.Record.{kindAt, pinAt, isInput, inputsBefore}
+use Rattle.lists.specs.declared.Fault.{Fault}
+
+-- line, site (0 the line itself, s its pin s) and the value there, to the value that is seen there
+abbrev pub Forcing : Type 0
+Forcing = ℕ → ℕ → ℕ → ℕ
+
+-- the good circuit
+abbrev pub unforced : Forcing
+unforced line site v = v
+
+-- a fault: one site of one line shows the stuck value
+unfoldable pub stuckAt : Fault → Forcing
+stuckAt fault line site v = choose (eqb line (fault .line) && eqb site (fault .site)) (fault .value) v
+
+-- the value of the gate at line k, where vs has the values of the lines below it
+unfoldable pub gateValue : Forcing → List ℕ → List ℕ → ℕ → ℕ
+gateValue f c vs k = gateOf (kindAt c k) (λ s. f k s (getD vs (pinAt c k s) 0))
+
+-- the value of line k: an input's from the pattern p, in line order
+unfoldable pub lineValue : Forcing → List ℕ → List ℕ → List ℕ → ℕ → ℕ
+lineValue f c p vs k = f k 0 (choose (isInput c k) (getD p (inputsBefore c k) 0) (gateValue f c vs k))
+
+-- the values of the first k lines
+unfoldable pub valuesTo : Forcing → List ℕ → List ℕ → ℕ → List ℕ
+valuesTo f c p zero = []
+valuesTo f c p (suc k) = valuesTo f c p k ++ (lineValue f c p (valuesTo f c p k) k ∷ [])

@@ -1,0 +1,16 @@
+-- The work memory: the good values of all lines, then the faulty ones.
+-- Assumes nothing.
+use mathlib.Core.List.{List, _++_}
+use Prim.Native.Nat.{ℕ}
+use Rattle.lists.specs.declared.Fault.{Fault}
+use Rattle.simulate.specs.Simulate.{unforced, stuckAt, valuesTo}
+
+-- of the pattern p in a circuit of n lines
+abbrev pub goodOf : List ℕ → List ℕ → ℕ → List ℕ
+goodOf c p n = valuesTo unforced c p n
+
+abbrev pub faultyOf : Fault → List ℕ → List ℕ → ℕ → List ℕ
+faultyOf fault c p n = valuesTo (stuckAt fault) c p n
+
+abbrev pub bothOf : Fault → List ℕ → List ℕ → ℕ → List ℕ
+bothOf fault c p n = goodOf c p n ++ faultyOf fault c p n

@@ -1,0 +1,141 @@
+// Simulation with three values: the values of all lines, of the good circuit and of one with a single stuck-at fault.
+// The loop over the lines knows no fault: the faulty circuit is simulated from the line after the fault's on.
+use circuit::equal;
+use circuit::source;
+use gates::gate;
+use lists::Fault;
+ghost use mathlib.Core.Path.{_≡_};
+ghost use mathlib.Core.List.{_++_};
+ghost use Prim.Native.Nat.{_+_, _<_, _≤_};
+ghost use lib.ListN.{length, take, drop};
+ghost use Rattle.circuit.specs.Record.{kindAt, Inside};
+ghost use Rattle.circuit.specs.Formed.{WellFormed};
+ghost use Rattle.simulate.specs.Simulate.{unforced, stuckAt};
+ghost use Rattle.simulate.specs.Work.{goodOf};
+ghost use Rattle.simulate.specs.Owed.{Ordered, Room, FaultRoom, inputOr, lineIn, InputsFrom, Simulates, MakesFaulty, AddsFaulty};
+
+// The value of line k; an input's line has it already.
+fn line_value(circuit: &[u8], values: &[u8], k: usize) -> u8
+    requires { ⌜ Ordered (now circuit) (length (now values)) × (k < length (now values)) ⌝ }
+    ensures { λ r. ⌜ r ≡ lineIn unforced (now (circuit .entry)) (now (values .entry)) k ⌝ }
+{
+    let kind = circuit[8 * k];
+    if kind == 0 {
+        return values[k];
+    }
+    let i = source(circuit, k, 1);
+    let j = source(circuit, k, 2);
+    gate(kind, values[i], values[j])
+}
+
+// Gives every line from `start` on its value.
+fn simulate_from(circuit: &[u8], values: &mut [u8], start: usize)
+    requires { ⌜ Ordered (now circuit) (length (now values)) × (start ≤ length (now values)) ⌝ }
+    ensures { λ _. ⌜ Simulates (now (circuit .entry)) (now (values .entry)) start (now (values .exit)) ⌝ }
+{
+    let mut k = start;
+    while k < values.len() {
+        let v = line_value(circuit, values, k);
+        values[k] = v;
+        k += 1;
+    }
+}
+
+// What line k is set to before its turn: an input to its value in the pattern, where `used` inputs stand below it.
+fn input_or(circuit: &[u8], pattern: &[u8], k: usize, used: usize) -> u8
+    requires { ⌜ Inside (now circuit) k × (kindAt (now circuit) k ≡ 0 → used < length (now pattern)) ⌝ }
+    ensures { λ r. ⌜ r ≡ inputOr (now (circuit .entry)) (now (pattern .entry)) k used ⌝ }
+{
+    if circuit[8 * k] == 0 {
+        return pattern[used];
+    }
+    2
+}
+
+// Gives every input's line its value in the pattern.
+fn put_inputs(circuit: &[u8], pattern: &[u8], values: &mut [u8])
+    requires { ⌜ WellFormed (now circuit) (length (now pattern)) (length (now values)) ⌝ }
+    ensures { λ _. ⌜ InputsFrom (now (circuit .entry)) (now (pattern .entry)) (now (values .exit)) 0 ⌝ }
+{
+    let mut k = 0;
+    let mut used = 0;
+    while k < values.len() {
+        let v = input_or(circuit, pattern, k, used);
+        values[k] = v;
+        used += equal(circuit[8 * k], 0);
+        k += 1;
+    }
+}
+
+// The good values of all lines.
+fn simulate(circuit: &[u8], pattern: &[u8], values: &mut [u8])
+    requires { ⌜ WellFormed (now circuit) (length (now pattern)) (length (now values)) ⌝ }
+    ensures { λ _. ⌜ now (values .exit) ≡ goodOf (now (circuit .entry)) (now (pattern .entry)) (length (now (values .entry))) ⌝ }
+{
+    put_inputs(circuit, pattern, values);
+    simulate_from(circuit, values, 0);
+}
+
+// The first half of the work memory gets the good values.
+pub fn good_values(circuit: &[u8], pattern: &[u8], work: &mut [u8], n: usize)
+    requires { ⌜ Room (now circuit) (length (now pattern)) n (length (now work)) ⌝ }
+    ensures { λ _. ⌜ now (work .exit) ≡ goodOf (now (circuit .entry)) (now (pattern .entry)) n ++ drop n (now (work .entry)) ⌝ }
+{
+    simulate(circuit, pattern, &mut work[..n]);
+}
+
+// What is seen at a site of the fault's line, where v would be without the fault.
+fn seen(fault: Fault, site: u8, v: u8) -> u8
+    ensures { λ r. ⌜ r ≡ stuckAt fault (fault .line) site v ⌝ }
+{
+    if site == fault.site { fault.value } else { v }
+}
+
+// The value of the fault's line.
+fn stuck_value(circuit: &[u8], fault: Fault, values: &[u8]) -> u8
+    requires { ⌜ Ordered (now circuit) (length (now values)) × (fault .line < length (now values)) ⌝ }
+    ensures { λ r. ⌜ r ≡ lineIn (stuckAt fault) (now (circuit .entry)) (now (values .entry)) (fault .line) ⌝ }
+{
+    let line = fault.line;
+    let kind = circuit[8 * line];
+    if kind == 0 {
+        return seen(fault, 0, values[line]);
+    }
+    let i = source(circuit, line, 1);
+    let j = source(circuit, line, 2);
+    let a = seen(fault, 1, values[i]);
+    let b = seen(fault, 2, values[j]);
+    seen(fault, 0, gate(kind, a, b))
+}
+
+// Turns good values into faulty ones, from the fault's line on.
+fn simulate_fault(circuit: &[u8], fault: Fault, values: &mut [u8])
+    requires { ⌜ Ordered (now circuit) (length (now values)) × (fault .line < length (now values)) ⌝ }
+    ensures { λ _. ⌜ MakesFaulty fault (now (circuit .entry)) (now (values .entry)) (now (values .exit)) ⌝ }
+{
+    let line = fault.line;
+    let v = stuck_value(circuit, fault, values);
+    values[line] = v;
+    simulate_from(circuit, values, line + 1);
+}
+
+// The second half of the work memory gets what the first has.
+fn copy_half(work: &mut [u8], n: usize)
+    requires { ⌜ length (now work) ≡ n + n ⌝ }
+    ensures { λ _. ⌜ now (work .exit) ≡ take n (now (work .entry)) ++ take n (now (work .entry)) ⌝ }
+{
+    let mut k = 0;
+    while k < n {
+        work[n + k] = work[k];
+        k += 1;
+    }
+}
+
+// The second half of the work memory gets the faulty values, where the first has the good ones.
+pub fn faulty_values(circuit: &[u8], fault: Fault, work: &mut [u8], n: usize)
+    requires { ⌜ FaultRoom (now circuit) fault n (length (now work)) ⌝ }
+    ensures { λ _. ⌜ AddsFaulty fault (now (circuit .entry)) n (now (work .entry)) (now (work .exit)) ⌝ }
+{
+    copy_half(work, n);
+    simulate_fault(circuit, fault, &mut work[n..]);
+}
