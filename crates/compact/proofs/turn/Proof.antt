@@ -1,0 +1,57 @@
+-- `compact::turn` meets its contract: by the counts, which decide as the definition does.
+-- Assumes nothing.
+use native.Mathlib.Omega.{arith}
+use Rattle.compact.proofs.Loops.{row-inside, row-cells, stays, goes}
+use borrow.Author.Needs.{needs}
+use Rattle.compact.proofs.turn.Statement.{statement}
+use Rattle.compact.proofs.turn.Tie as tie
+
+mul-from : tie.Need-mul-from
+mul-from c =
+    let s = c .before .before .before .before in
+    omega (arith, row-inside (s .args .p) (s .args .patterns) (s .args .n) (search needs))
+
+needed-requires : tie.Need-needed-requires
+needed-requires c κs = let s = c .before .before .before .before .before in (row-cells (s .pre .0) _ (s .pre .1 .0 .below), search needs)
+
+same-length : tie.Need-same-length
+same-length c = search needs
+
+returns : tie.Need-returns
+returns c =
+    let s = c .before .before .before .before .before .before .before in
+    stays (s .pre .0 .few-faults) (s .pre .0 .few-patterns) (s .pre .1 .0 .below) (s .pre .1 .1) (c .before .needed .ensures) (c .if1 .taken)
+
+count-pattern-requires : tie.Need-count-pattern-requires
+count-pattern-requires c κs = let s = c .before .before .before .before .before .before .before .before in row-cells (s .pre .0) _ (s .pre .1 .0 .below)
+
+slice-write-marks : tie.Need-slice-write-marks
+slice-write-marks c = search needs
+
+same-length-2 : tie.Need-same-length-2
+same-length-2 c = search needs
+
+same-length-3 : tie.Need-same-length-3
+same-length-3 c = search needs
+
+returns-2 : tie.Need-returns-2
+returns-2 c =
+    let w = c .before .before in
+    let i = w .before .before in
+    let s = i .before .before .before .before .before .before .before in
+    goes (s .pre .0 .few-faults) (s .pre .0 .few-patterns) (s .pre .1 .0 .below) (s .pre .1 .1) (i .before .needed .ensures) (i .if1 .left) (w .count-pattern .ensures)
+    (λ k. omega (arith, c .slice-known3 .given k))
+
+pub turn-spec : {M : Type 1} → statement M
+turn-spec =
+    tie.close
+    (tie.spec
+    mul-from
+    needed-requires
+    same-length
+    returns
+    count-pattern-requires
+    slice-write-marks
+    same-length-2
+    same-length-3
+    returns-2)

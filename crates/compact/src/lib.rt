@@ -1,0 +1,165 @@
+// Part 3, the compactor: which patterns of a table are kept.
+use answers::Ruling;
+use answers::first_big;
+ghost use mathlib.Core.Path.{_≡_};
+ghost use Prim.Native.Nat.{_+_};
+ghost use lib.ListN.{length, replicate};
+ghost use Rattle.answers.specs.Rules.{refusal};
+ghost use Rattle.needs.specs.Needs.{tableOf, compacted};
+ghost use Rattle.compact.specs.Compact.{inRange, sizesOk, Sized, tableRules, Compacts};
+ghost use Rattle.compact.specs.Internal.{Sizes, Zeros, AllCounted, Place, Ready, Turned, Finishes};
+
+// ---- the table's rules
+
+fn in_range(n: u64) -> bool
+    ensures { λ r. ⌜ r ≡ inRange n ⌝ }
+{
+    if n < 1 {
+        return false;
+    }
+    n <= 256
+}
+
+// Whether both counts are in range and so many bytes are their product.
+fn sizes_ok(fault_count: u64, pattern_count: u64, bytes: usize) -> bool
+    ensures { λ r. ⌜ r ≡ sizesOk «fault_count» «pattern_count» bytes ⌝ }
+{
+    if !in_range(fault_count) {
+        return false;
+    }
+    if !in_range(pattern_count) {
+        return false;
+    }
+    bytes as u64 == fault_count * pattern_count
+}
+
+// What the rules of a table say: refusals 12 and 13.
+pub fn check_table(fault_count: u64, pattern_count: u64, table: &[u8]) -> Ruling
+    ensures { λ r. ⌜ r ≡ refusal (tableRules «fault_count» «pattern_count» (now (table .entry))) ⌝ }
+{
+    if !sizes_ok(fault_count, pattern_count, table.len()) {
+        return Ruling::Refused(12, 0);
+    }
+    let bad = first_big(table);
+    if bad < table.len() {
+        return Ruling::Refused(13, bad);
+    }
+    Ruling::Fine
+}
+
+// ---- the marks
+
+// Marks every pattern as kept.
+fn keep_all(marks: &mut [u8])
+    ensures { λ _. ⌜ now (marks .exit) ≡ replicate (length (now (marks .entry))) 1 ⌝ }
+{
+    let mut i = 0;
+    while i < marks.len() {
+        marks[i] = 1;
+        i += 1;
+    }
+}
+
+// Counts all patterns in, and notes the detected faults.
+fn count_all(counts: &mut [u8], seen: &mut [u8], table: &[u8], n: usize, patterns: usize)
+    requires { ⌜ Sizes (now counts) (now seen) (now table) n patterns ⌝ }
+    requires { ⌜ Zeros (now counts) × Zeros (now seen) ⌝ }
+    ensures { λ _. ⌜ AllCounted (now (table .entry)) n patterns (now (counts .exit)) (now (seen .exit)) ⌝ }
+{
+    let mut p = 0;
+    while p < patterns {
+        let from = p * n;
+        counts::count_pattern(counts, table, from, n, true);
+        counts::see_pattern(seen, table, from, n);
+        p += 1;
+    }
+}
+
+// A pattern's turn: it is dropped if the others still in the set meet every need.
+fn turn(
+    counts: &mut [u8],
+    seen: &[u8],
+    marks: &mut [u8],
+    table: &[u8],
+    n: usize,
+    patterns: usize,
+    p: usize,
+)
+    requires { ⌜ Sizes (now counts) (now seen) (now table) n patterns ⌝ }
+    requires { ⌜ Place (now marks) patterns p ⌝ }
+    requires { ⌜ Ready (now table) n patterns (p + 1) (now marks) (now counts) (now seen) ⌝ }
+    ensures { λ _. ⌜ Turned (now (table .entry)) n patterns p (now (marks .entry)) (now (marks .exit)) (now (counts .exit)) (now (seen .entry)) ⌝ }
+{
+    let from = p * n;
+    if counts::needed(counts, seen, table, from, n) {
+        return;
+    }
+    counts::count_pattern(counts, table, from, n, false);
+    marks[p] = 0;
+}
+
+// The turns of all patterns, from the last to the first.
+fn drop_spare(
+    counts: &mut [u8],
+    seen: &[u8],
+    marks: &mut [u8],
+    table: &[u8],
+    n: usize,
+    patterns: usize,
+)
+    requires { ⌜ Sizes (now counts) (now seen) (now table) n patterns ⌝ }
+    requires { ⌜ now marks ≡ replicate patterns 1 ⌝ }
+    requires { ⌜ AllCounted (now table) n patterns (now counts) (now seen) ⌝ }
+    ensures { λ _. ⌜ now (marks .exit) ≡ compacted (tableOf n (now (table .entry))) n patterns ⌝ }
+{
+    let mut left = patterns;
+    while 0 < left {
+        let p = left - 1;
+        turn(counts, seen, marks, table, n, patterns, p);
+        left = left - 1;
+    }
+}
+
+// All three, over memory that is all 0.
+fn mark_all(
+    counts: &mut [u8],
+    seen: &mut [u8],
+    marks: &mut [u8],
+    table: &[u8],
+    n: usize,
+    patterns: usize,
+)
+    requires { ⌜ Sizes (now counts) (now seen) (now table) n patterns ⌝ }
+    requires { ⌜ Zeros (now counts) × Zeros (now seen) ⌝ }
+    requires { ⌜ length (now marks) ≡ patterns ⌝ }
+    ensures { λ _. ⌜ now (marks .exit) ≡ compacted (tableOf n (now (table .entry))) n patterns ⌝ }
+{
+    keep_all(marks);
+    count_all(counts, seen, table, n, patterns);
+    drop_spare(counts, seen, marks, table, n, patterns);
+}
+
+// Over a table that keeps its rules.
+fn compact_table(n: usize, patterns: usize, table: &[u8], marks: &mut [u8]) -> Ruling
+    requires { ⌜ Sized n patterns (length (now table)) ⌝ }
+    ensures { λ r. ⌜ Finishes n patterns (now (table .entry)) (now (marks .entry)) r (now (marks .exit)) ⌝ }
+{
+    if marks.len() != patterns {
+        return Ruling::Refused(10, 0);
+    }
+    // a row of 256 for the pairs of each fault, and one for the faults
+    let mut counts = [0u8; 65792];
+    let mut seen = [0u8; 256];
+    mark_all(&mut counts, &mut seen, marks, table, n, patterns);
+    Ruling::Fine
+}
+
+// The compactor.
+pub fn compact(fault_count: u64, pattern_count: u64, table: &[u8], marks: &mut [u8]) -> Ruling
+    ensures { λ r. ⌜ Compacts «fault_count» «pattern_count» (now (table .entry)) (now (marks .entry)) r (now (marks .exit)) ⌝ }
+{
+    match check_table(fault_count, pattern_count, table) {
+        Ruling::Refused(number, place) => Ruling::Refused(number, place),
+        Ruling::Fine => compact_table(fault_count as usize, pattern_count as usize, table, marks),
+    }
+}

@@ -1,0 +1,5 @@
+pub mod Moves
+pub mod Detected
+pub mod Only
+pub mod Sets
+pub mod Decided

@@ -1,0 +1,6 @@
+pub mod Entries
+pub mod Words
+pub mod Sets
+pub mod Turns
+pub mod Sound
+pub mod Examples
