@@ -1,0 +1,56 @@
+-- `nodes::first_x` meets its contract. The invariant: no input passed is X.
+-- Assumes nothing.
+use Prim.Native.Nat.{_≤_, _-_}
+use native.Mathlib.Omega.{arith}
+use lib.ListN.{length}
+use borrow.Author.Tests.{eq-eqb, ne-eqb}
+use Rattle.ground.proofs.First.{Every, every-none, every-next, stopped, passed}
+use Rattle.nodes.specs.Node.{isSet, firstX}
+use Rattle.nodes.proofs.first_x.Statement.{statement}
+use Rattle.nodes.proofs.first_x.Tie as tie
+
+abbrev Inv-loop : tie.InvT-loop
+Inv-loop node i₀ i = (i ≤ length node) × Every (isSet node) 0 i
+
+abbrev μ-loop : tie.MeasureT-loop
+μ-loop node i₀ i = length node - i
+
+loop-holds : tie.Need-loop-holds Inv-loop μ-loop
+loop-holds c = (omega arith, every-none (isSet (c .args .node .now)))
+
+shared-slice-read-if1 : tie.Need-shared-slice-read-if1 Inv-loop μ-loop
+shared-slice-read-if1 c = omega arith
+
+returns : tie.Need-returns Inv-loop μ-loop
+unfolding firstX
+returns c =
+    stopped {t = isSet (c .before .before .before .before .args .node .now)} (omega arith) (c .before .before .before .loop .inv .1)
+    (simp (eq-eqb _ _ (c .if1 .taken)))
+
+add-i : tie.Need-add-i Inv-loop μ-loop
+add-i c = omega arith
+
+loop-less : tie.Need-loop-less Inv-loop μ-loop
+loop-less c = omega arith
+
+loop-again : tie.Need-loop-again Inv-loop μ-loop
+loop-again c =
+    (omega arith, every-next {t = isSet (c .before .before .before .before .args .node .now)} (c .before .before .before .loop .inv .1) (simp (ne-eqb _ _ (c .if1 .left))))
+
+returns-2 : tie.Need-returns-2 Inv-loop μ-loop
+unfolding firstX
+returns-2 c = passed {t = isSet (c .before .before .args .node .now)} (omega arith) (c .before .loop .inv .1)
+
+pub first-x-spec : {M : Type 1} → statement M
+first-x-spec =
+    tie.close
+    (tie.spec
+    Inv-loop
+    μ-loop
+    loop-holds
+    shared-slice-read-if1
+    returns
+    add-i
+    loop-less
+    loop-again
+    returns-2)

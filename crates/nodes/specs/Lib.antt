@@ -1,0 +1,5 @@
+pub mod Node
+pub mod Order
+pub mod Budget
+pub mod Walk
+pub mod Side

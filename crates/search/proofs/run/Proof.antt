@@ -1,0 +1,33 @@
+-- `search::run` meets its contract: what `side` leaves in the node is the test, where there is one.
+-- Assumes nothing.
+use mathlib.Core.Path.{_∙_}
+use borrow.Author.Needs.{needs}
+use Rattle.nodes.proofs.Ways.{left-test}
+use Rattle.search.proofs.run.Statement.{statement}
+use Rattle.search.proofs.run.Tie as tie
+
+side-requires : tie.Need-side-requires
+side-requires c κs = search needs
+
+put-test-requires : tie.Need-put-test-requires
+put-test-requires c κs = search needs
+
+same-length : tie.Need-same-length
+same-length c = search needs
+
+same-length-2 : tie.Need-same-length-2
+same-length-2 c = search needs
+
+same-length-3 : tie.Need-same-length-3
+same-length-3 c = search needs
+
+returns : tie.Need-returns
+returns c =
+    let s = c .before .before .before .before .before .before .before .before .before .side .ensures in
+    let a = c .before .before .before .before .before .before .before .before .before .before .before .before .before .before .before .before .args in
+    record { verdict = s .verdict; test = c .before .before .put-test .ensures ∙ left-test s (a .test .now); work = s .memory }
+
+pub run-spec : {M : Type 1} → statement M
+run-spec =
+    tie.close
+    (tie.spec side-requires put-test-requires same-length same-length-2 same-length-3 returns)

@@ -1,0 +1,52 @@
+-- `search::run_all_x` meets its contract: the first bytes of 64 X's are the start.
+-- Assumes nothing.
+use mathlib.Core.Path.{_≡_, sym, ap, _∙_}
+use mathlib.Core.List.{List}
+use Prim.Native.Nat.{ℕ}
+use native.Mathlib.Omega.{arith}
+use borrow.Author.Needs.{needs}
+use lib.ListN.{length, length-replicate}
+use Rattle.lists.specs.declared.Fault.{Fault}
+use Rattle.nodes.specs.declared.Verdict.{Verdict}
+use Rattle.nodes.specs.Node.{Node}
+use Rattle.nodes.specs.Order.{Look}
+use Rattle.nodes.proofs.Node.{start-part}
+use Rattle.search.specs.Owed.{Runs, Ran}
+use Rattle.search.proofs.run_all_x.Statement.{statement}
+use Rattle.search.proofs.run_all_x.Tie as tie
+
+-- the same of an equal node
+runs-of : {c : List ℕ} {fault : Fault} {n : ℕ} {s s2 : Node} {test room : ℕ} → s ≡ s2 → Runs c fault n s test room → Runs c fault n s2 test room
+runs-of e p = rw (← e) p
+
+ran-of : {look : Look} {after : Node → List ℕ} {s s2 : Node} {b : ℕ} {t w : List ℕ} {r : Verdict} {t′ w′ : List ℕ} → s ≡ s2 → Ran look after s b t w r t′ w′ → Ran look after s2 b t w r t′ w′
+ran-of e p = rw (← e) p
+
+array-borrow-prefix-node : tie.Need-array-borrow-prefix-node
+array-borrow-prefix-node c = search needs
+
+slice-aggregate-run : tie.Need-slice-aggregate-run
+slice-aggregate-run c = sym (ap length (start-part (c .before .before .before .before .args .inputs) 64 (omega arith)) ∙ length-replicate (c .before .before .before .before .args .inputs) 2)
+
+run-requires : tie.Need-run-requires
+run-requires c κs = runs-of (sym (start-part (c .before .before .before .before .before .before .args .inputs) 64 (omega arith))) (c .before .before .before .before .before .before .pre .1)
+
+same-length : tie.Need-same-length
+same-length c = search needs
+
+same-length-2 : tie.Need-same-length-2
+same-length-2 c = search needs
+
+returns : tie.Need-returns
+returns c = ran-of (start-part (c .before .before .before .before .before .before .before .before .before .before .before .before .args .inputs) 64 (omega arith)) (c .before .before .before .before .before .run .ensures)
+
+pub run-all-x-spec : {M : Type 1} → statement M
+run-all-x-spec =
+    tie.close
+    (tie.spec
+    array-borrow-prefix-node
+    slice-aggregate-run
+    run-requires
+    same-length
+    same-length-2
+    returns)

@@ -1,0 +1,48 @@
+-- `search::search` meets its contract: a refusal of the circuit is handed on, else the rest decides.
+-- Assumes nothing.
+use mathlib.Core.Path.{sym, _∙_}
+use borrow.Author.Needs.{needs}
+use Rattle.search.proofs.Answer.{circuit-refused, circuit-fine}
+use Rattle.circuit.proofs.Accepted.{accepts, refuses}
+use Rattle.search.proofs.search.Statement.{statement}
+use Rattle.search.proofs.search.Tie as tie
+
+check-requires : tie.Need-check-requires
+check-requires c κs = search needs
+
+enum-known-v : tie.Need-enum-known-v
+enum-known-v c = search needs
+
+enum-known-v-2 : tie.Need-enum-known-v-2
+enum-known-v-2 c = search needs
+
+accepted-requires : tie.Need-accepted-requires
+accepted-requires c κs =
+    let a = accepts _ _ _ _ (sym (c .before .before .before .v2 .given .1) ∙ c .before .before .before .before .before .check .ensures .answer) in
+    (a .lines, a .inputs, a .good)
+
+returns : tie.Need-returns
+returns c = circuit-refused (refuses _ _ _ (sym (c .before .v .given .1) ∙ c .before .before .before .check .ensures .answer))
+
+same-length : tie.Need-same-length
+same-length c = search needs
+
+same-length-2 : tie.Need-same-length-2
+same-length-2 c = search needs
+
+returns-2 : tie.Need-returns-2
+returns-2 c =
+    circuit-fine (accepts _ _ _ _ (sym (c .before .before .before .before .before .before .before .before .v2 .given .1) ∙ c .before .before .before .before .before .before .before .before .before .before .check .ensures .answer)) (c .before .before .before .before .accepted .ensures)
+
+pub search-spec : {M : Type 1} → statement M
+search-spec =
+    tie.close
+    (tie.spec
+    check-requires
+    enum-known-v
+    enum-known-v-2
+    accepted-requires
+    returns
+    same-length
+    same-length-2
+    returns-2)

@@ -1,0 +1,33 @@
+-- What the functions of the search owe each other; nobody else need read it.
+-- Assumes nothing.
+use mathlib.Core.Path.{_≡_}
+use mathlib.Core.List.{List}
+use Prim.Native.Nat.{ℕ}
+use lib.ListN.{length}
+use Rattle.answers.specs.Rules.{refusal, unless}
+use Rattle.circuit.specs.Record.{inputsBefore}
+use Rattle.lists.specs.declared.Fault.{Fault}
+use Rattle.nodes.specs.declared.Verdict.{Verdict}
+use Rattle.nodes.specs.Node.{Node, IsNode}
+use Rattle.nodes.specs.Order.{Look, testOf}
+use Rattle.nodes.specs.Budget.{verdictOf, testBy, memoryOf}
+use Rattle.search.specs.declared.Searched.{Searched}
+use Rattle.sides.specs.Owed.{Prepared}
+use Rattle.search.specs.Search.{answered, restRules, verdictFor, testFor, workFor}
+
+-- what a search from s on needs, and leaves
+pub record Runs (c : List ℕ) (fault : Fault) (n : ℕ) (s : Node) (test room : ℕ) : Type 0 where
+  pub ready : Prepared c fault n room
+  pub node : IsNode (inputsBefore c n) s
+  pub test-size : test ≡ length s
+
+pub record Ran (look : Look) (after : Node → List ℕ) (s : Node) (b : ℕ) (t w : List ℕ) (r : Verdict) (t′ w′ : List ℕ) : Type 0 where
+  pub verdict : r ≡ verdictOf look b s
+  pub test : t′ ≡ testBy r t (testOf look s)
+  pub work : w′ ≡ memoryOf look after b w s
+
+-- the answer for an accepted circuit
+pub record Answers (c f : List ℕ) (inputs n b : ℕ) (t w : List ℕ) (r : Searched) (t′ w′ : List ℕ) : Type 0 where
+  pub answer : r ≡ answered (refusal (restRules c f inputs n (length t) (length w))) (verdictFor c f b)
+  pub test : t′ ≡ unless (refusal (restRules c f inputs n (length t) (length w))) t (testFor c f b t)
+  pub work : w′ ≡ unless (refusal (restRules c f inputs n (length t) (length w))) w (workFor c f b w)

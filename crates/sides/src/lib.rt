@@ -1,0 +1,63 @@
+// The search from a node on: what a node says of a fault, and its sides.
+use entry::look;
+use lists::Fault;
+use nodes::Verdict;
+use nodes::first_x;
+ghost use lib.ListN.{length};
+ghost use Rattle.circuit.specs.Record.{inputsBefore};
+ghost use Rattle.nodes.specs.Node.{IsNode};
+ghost use Rattle.nodes.specs.Side.{Sided};
+ghost use Rattle.sides.specs.Look.{lookOf, workOf};
+ghost use Rattle.sides.specs.Owed.{Prepared, Visited};
+
+// Looks at a node: the work memory gets its good and faulty values. 1 fail, 0 it is left, 2 neither.
+fn visit(circuit: &[u8], node: &[u8], fault: Fault, work: &mut [u8], n: usize) -> u8
+    requires { ⌜ Prepared (now circuit) fault n (length (now work)) × IsNode (inputsBefore (now circuit) n) (now node) ⌝ }
+    ensures { λ r. ⌜ Visited fault (now (circuit .entry)) n (now (node .entry)) r (now (work .exit)) ⌝ }
+{
+    look(circuit, node, fault, work, n)
+}
+
+// The search from a node on, with at most `left` nodes. Each call has one X fewer, so with n inputs calls are at most n + 1 deep.
+// The node is set and restored in place; a test is left in it.
+pub fn side(
+    circuit: &[u8],
+    fault: Fault,
+    n: usize,
+    node: &mut [u8],
+    work: &mut [u8],
+    left: u64,
+) -> Verdict
+    requires { ⌜ Prepared (now circuit) fault n (length (now work)) × IsNode (inputsBefore (now circuit) n) (now node) ⌝ }
+    ensures { λ r. ⌜ Sided (lookOf fault (now (circuit .entry)) n) (workOf fault (now (circuit .entry)) n) left (now (node .entry)) (now (work .entry)) r (now (node .exit)) (now (work .exit)) ⌝ }
+{
+    if left == 0 {
+        return Verdict::GivenUp(0);
+    }
+    let e = visit(circuit, node, fault, work, n);
+    if e == 1 {
+        return Verdict::Test(1);
+    }
+    if e != 2 {
+        return Verdict::Redundant(1);
+    }
+    let at = first_x(node);
+    node[at] = 0;
+    let a = side(circuit, fault, n, node, work, left - 1);
+    match a {
+        Verdict::Redundant(m) => {
+            node[at] = 1;
+            let b = side(circuit, fault, n, node, work, left - 1 - m);
+            match b {
+                Verdict::Redundant(k) => {
+                    node[at] = 2;
+                    Verdict::Redundant(1 + m + k)
+                }
+                Verdict::Test(k) => Verdict::Test(1 + m + k),
+                Verdict::GivenUp(_) => Verdict::GivenUp(left),
+            }
+        }
+        Verdict::Test(m) => Verdict::Test(1 + m),
+        Verdict::GivenUp(_) => Verdict::GivenUp(left),
+    }
+}
