@@ -1,0 +1,128 @@
+-- The promise of the clause writer: reached rule by rule, read in the paper's words, and met by one result only.
+-- Assumes nothing.
+use mathlib.Core.Path.{_≡_, refl, sym, ap, _∙_}
+use mathlib.Core.Bool.{true, false}
+use mathlib.Core.List.{List, _++_}
+use Prim.Native.Nat.{ℕ, _≤_, _<_}
+use native.Mathlib.Omega.{arith}
+use lib.Dec.{leb}
+use lib.IntN.{ℤ}
+use lib.ListN.{length}
+use borrow.Author.Tests.{le-leb, lt-leb}
+use Rattle.ground.proofs.Counting.{count-most}
+use Rattle.answers.specs.declared.Ruling.{Ruling}
+use Rattle.answers.specs.Rules.{Rule, said, refusal, Applies, AllHold, AllSay}
+use Rattle.answers.specs.Area.{success, told}
+use Rattle.answers.proofs.Rules.{applies, refused, fine, after-refused, after-fine, both-say}
+use Rattle.answers.proofs.Records.{one-record}
+use Rattle.answers.proofs.Same.{le-same}
+use Rattle.circuit.specs.Record.{linesOf, isOutput, outputsBefore, Inside}
+use Rattle.circuit.specs.Check.{circuitRules}
+use Rattle.circuit.specs.Formed.{Accepts}
+use Rattle.circuit.proofs.Answer.{circuit-says}
+use Rattle.lists.specs.declared.Fault.{Fault}
+use Rattle.lists.specs.Faults.{faultRules}
+use Rattle.lists.proofs.Faults.{faults-say, good-faults}
+use Rattle.cnf.specs.declared.Size.{Size}
+use Rattle.cnf.specs.Cnf.{Clauses, wordsOf}
+use Rattle.cnf.specs.Write.{Takes}
+use Rattle.cnf.proofs.Sizes.{words-length}
+use Rattle.clauses.specs.declared.Written.{Written}
+use Rattle.clauses.specs.declared.Written.the-variants.{Success, Refused}
+use Rattle.line_clauses.specs.Clauses.{clausesOf, variablesOf}
+use Rattle.clauses.specs.Promise.{roomRules, clausesFor, wordsFor, clauseRules, answered, writtenOf, numbersOf, laidOn, Writes}
+use Rattle.clauses.specs.Inside.{Counted, WholeRoom, Answers}
+
+-- ---- rule by rule
+
+takes-words : {cs : Clauses} {size : Size} → Takes cs size → size .words ≡ length (wordsOf cs)
+takes-words {cs} t = t .words ∙ sym (words-length cs)
+
+pub whole-room : {c : List ℕ} {f : Fault} {n outputs : ℕ} {size : Size} {w : List ℤ} → Counted c n outputs → Takes (clausesOf c f n) size → size .words ≤ length w → WholeRoom c f n outputs w
+whole-room p t l = record { counted = p; room = omega (arith, takes-words t) }
+
+module _ {cs : Clauses} {v : ℕ} {w : List ℤ} where
+  pub short : {size : Size} → Takes cs size → length w < size .words → Answers (roomRules (length (wordsOf cs)) (length w)) cs v w w (Refused 11 (size .words))
+  unfolding roomRules refusal said
+  short {size} t l =
+      let q : leb (length (wordsOf cs)) (length w) ≡ false = lt-leb (length (wordsOf cs)) (length w) (omega (arith, takes-words t)) in
+      record { answer = rw (q, takes-words t); words = rw q }
+
+  pub fits : {size : Size} {w′ : List ℤ} {variables : ℕ} → Takes cs size → variables ≡ v → size .words ≤ length w → w′ ≡ laidOn w (wordsOf cs)
+      → Answers (roomRules (length (wordsOf cs)) (length w)) cs v w w′ (Success (size .words) (size .clauses) variables)
+  unfolding roomRules refusal said
+  fits {size} t d l e =
+      let q : leb (length (wordsOf cs)) (length w) ≡ true = le-leb (length (wordsOf cs)) (length w) (omega (arith, takes-words t)) in
+      record { answer = rw (q, takes-words t, t .clauses, d); words = rw q e }
+
+  -- a refusal ends it; where there is none, the rules after it decide
+  pub first-refused : (rules more : List Rule) {number place : ℕ} → refusal rules ≡ Ruling.Refused number place → Answers (rules ++ more) cs v w w (Refused number place)
+  first-refused rules more e = record { answer = rw (after-refused rules more e); words = rw (after-refused rules more e) }
+
+  pub first-fine : (rules more : List Rule) {w′ : List ℤ} {r : Written} → refusal rules ≡ Ruling.Fine → Answers more cs v w w′ r → Answers (rules ++ more) cs v w w′ r
+  first-fine rules more e p = record { answer = rw (after-fine rules more e) (p .answer); words = rw (after-fine rules more e) (p .words) }
+
+-- the fault that is not refused is one record
+pub one-fault : (c fs : List ℕ) → refusal (faultRules 1 c fs) ≡ Ruling.Fine → Inside fs 0
+one-fault c fs e = record { inside = omega (arith, one-record (length fs) (good-faults 1 c fs e .records)) }
+
+-- the circuit that the check accepts
+pub counted : {c : List ℕ} {n m o : ℕ} → Accepts c n m o → Counted c n o
+counted {c} {n} {m} {o} a =
+    let few : n ≤ 2048 = omega (arith, a .lines, a .good .most-lines) in
+    let e : o ≡ outputsBefore c n = a .outputs ∙ ap (outputsBefore c) (sym (a .lines)) in
+    record {
+      circuit = record { good = a .good; lines = a .lines; few = few };
+      outputs-are = e;
+      few-outputs = omega (arith, count-most n (isOutput c));
+    }
+
+-- the numbers of an answer are those of its ruling
+answered-numbers : (v : Ruling) (w l m : ℕ) → numbersOf (answered v w l m) ≡ told v (success w l m)
+unfolding numbersOf
+answered-numbers Ruling.Fine w l m = refl
+answered-numbers (Ruling.Refused x y) w l m = refl
+
+pub writes : {c fs : List ℕ} {w w′ : List ℤ} {r : Written} → Answers (clauseRules c fs (length w)) (clausesFor c fs) (variablesOf c (linesOf c)) w w′ r → Writes c fs w w′ r
+unfolding writtenOf
+writes {c} {fs} {w} p = record {
+  answer = p .answer;
+  numbers = ap numbersOf (p .answer) ∙ answered-numbers (refusal (clauseRules c fs (length w))) _ _ _;
+  words = p .words;
+}
+
+-- ---- two allowed results are equal
+
+pub one-result : {c fs : List ℕ} {w w′ w″ : List ℤ} {r s : Written} → Writes c fs w w′ r → Writes c fs w w″ s → (r ≡ s) × (w′ ≡ w″)
+one-result p q = (cc, cc)
+
+-- ---- the refusals in the paper's words
+
+pub room-says : (need room : ℕ) → AllSay (roomRules need room)
+unfolding roomRules AllSay
+room-says need room = (le-same need room, tt)
+
+pub clause-says : (c fs : List ℕ) (room : ℕ) → AllSay (clauseRules c fs room)
+clause-says c fs room = both-say (circuitRules c) _ (circuit-says c) (both-say (faultRules 1 c fs) _ (faults-say 1 c fs) (room-says (length (wordsFor c fs)) room))
+
+refused-ruling : (v : Ruling) (w l m x y : ℕ) → Refused x y ≡ answered v w l m → v ≡ Ruling.Refused x y
+refused-ruling Ruling.Fine w l m x y e = let z : _≡_ {A = ℕ} 0 1 = cc in absurd (omega arith)
+refused-ruling (Ruling.Refused u t) w l m x y e = cc
+
+module _ {c fs : List ℕ} {w w′ : List ℤ} {r : Written} (p : Writes c fs w w′ r) (number place : ℕ) where
+  -- a refusal is the first that applies, with the lowest place
+  pub refused-applies : r ≡ Refused number place → Applies (clauseRules c fs (length w)) number place
+  unfolding writtenOf
+  refused-applies e =
+      applies (clauseRules c fs (length w)) (clause-says c fs (length w)) number place (refused-ruling (refusal (clauseRules c fs (length w))) _ _ _ number place (sym e ∙ p .answer))
+
+  -- and where one applies, it is given
+  pub applies-refused : Applies (clauseRules c fs (length w)) number place → r ≡ Refused number place
+  unfolding writtenOf
+  applies-refused a = p .answer ∙ rw (refused (clauseRules c fs (length w)) (clause-says c fs (length w)) number place a)
+
+-- where all that is asked holds, the list is written
+pub holds-success : {c fs : List ℕ} {w w′ : List ℤ} {r : Written} → Writes c fs w w′ r → AllHold (clauseRules c fs (length w))
+    → r ≡ Success (length (wordsFor c fs)) (length (clausesFor c fs)) (variablesOf c (linesOf c))
+unfolding writtenOf
+holds-success {c} {fs} {w} p a = p .answer ∙ rw (fine (clauseRules c fs (length w)) (clause-says c fs (length w)) a)

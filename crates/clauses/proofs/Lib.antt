@@ -1,0 +1,4 @@
+pub mod Loops
+pub mod Sizes
+pub mod Whole
+pub mod Answer

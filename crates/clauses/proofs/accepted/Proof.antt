@@ -1,0 +1,44 @@
+-- `clauses::accepted` meets its contract: a refusal of the fault is handed on, else the room decides.
+-- Assumes nothing.
+use mathlib.Core.Path.{sym, _∙_}
+use borrow.Author.Needs.{needs}
+use Rattle.clauses.proofs.Answer.{first-refused, first-fine, one-fault}
+use Rattle.clauses.proofs.accepted.Statement.{statement}
+use Rattle.clauses.proofs.accepted.Tie as tie
+
+check-faults-requires : tie.Need-check-faults-requires
+check-faults-requires c κs = search needs
+
+enum-known-v : tie.Need-enum-known-v
+enum-known-v c = search needs
+
+enum-told : tie.Need-enum-told
+enum-told c = search needs
+
+read-fault-requires : tie.Need-read-fault-requires
+read-fault-requires c κs = one-fault _ _ (sym (c .before .before .check-faults .ensures) ∙ c .enum-told .given .1)
+
+fitted-requires : tie.Need-fitted-requires
+fitted-requires c κs = search needs
+
+returns : tie.Need-returns
+returns c = first-refused _ _ (sym (c .before .before .before .check-faults .ensures) ∙ c .before .v .given .1)
+
+same-length : tie.Need-same-length
+same-length c = search needs
+
+returns-2 : tie.Need-returns-2
+returns-2 c = first-fine _ _ (sym (c .before .before .before .before .before .before .check-faults .ensures) ∙ c .before .before .before .before .enum-told .given .1) (rw (c .before .before .before .read-fault .ensures) at (c .before .fitted .ensures))
+
+pub accepted-spec : {M : Type 1} → statement M
+accepted-spec =
+    tie.close
+    (tie.spec
+    check-faults-requires
+    enum-known-v
+    enum-told
+    read-fault-requires
+    fitted-requires
+    returns
+    same-length
+    returns-2)

@@ -1,0 +1,50 @@
+-- `clauses::put_goods` meets its contract. The invariant: the lines below k have been written.
+-- Assumes nothing.
+use native.Mathlib.Omega.{arith}
+use Prim.Native.Nat.{_-_}
+use Rattle.clauses.proofs.Loops.{SoFar, so-far-none, line-room, so-far-more, so-far-all}
+use Rattle.line_clauses.specs.Clauses.{goodClauses}
+use Rattle.ground.proofs.Put.{put-long}
+use Rattle.clauses.proofs.put_goods.Statement.{statement}
+use Rattle.clauses.proofs.put_goods.Tie as tie
+
+abbrev Inv-loop : tie.InvT-loop
+Inv-loop circuit n words₀ at next₀ k₀ words next k = SoFar (goodClauses circuit) n words₀ at words next k
+
+abbrev μ-loop : tie.MeasureT-loop
+μ-loop circuit n words₀ at next₀ k₀ words next k = n - k
+
+loop-holds : tie.Need-loop-holds Inv-loop μ-loop
+loop-holds c = so-far-none _ _ _ _
+
+put-good-requires : tie.Need-put-good-requires Inv-loop μ-loop
+put-good-requires c κs = line-room (c .before .before .loop .inv) (c .before .before .before .before .pre .circuit) (c .before .before .before .before .pre .room) (c .before .loop-test .taken)
+
+add-k : tie.Need-add-k Inv-loop μ-loop
+add-k c = omega arith
+
+loop-less : tie.Need-loop-less Inv-loop μ-loop
+loop-less c = omega arith
+
+loop-again : tie.Need-loop-again Inv-loop μ-loop
+loop-again c = so-far-more (c .before .before .before .before .loop .inv) (c .before .before .before .loop-test .taken) (c .before .put-good .ensures)
+
+same-length : tie.Need-same-length Inv-loop μ-loop
+same-length c = put-long (c .before .loop .inv .put)
+
+returns : tie.Need-returns Inv-loop μ-loop
+returns c = so-far-all (c .before .loop .inv) (c .loop-test .left)
+
+pub put-goods-spec : {M : Type 1} → statement M
+put-goods-spec =
+    tie.close
+    (tie.spec
+    Inv-loop
+    μ-loop
+    loop-holds
+    put-good-requires
+    add-k
+    loop-less
+    loop-again
+    same-length
+    returns)

@@ -1,0 +1,37 @@
+-- What the functions inside part 5 owe each other; no reader of the promise needs it.
+-- Assumes nothing.
+use mathlib.Core.Path.{_≡_}
+use mathlib.Core.List.{List}
+use Prim.Native.Nat.{ℕ, _+_, _≤_}
+use lib.IntN.{ℤ}
+use lib.ListN.{length}
+use Rattle.answers.specs.Rules.{Rule, refusal, unless}
+use Rattle.circuit.specs.Record.{outputsBefore}
+use Rattle.lists.specs.declared.Fault.{Fault}
+use Rattle.cnf.specs.Lists.{gather}
+use Rattle.cnf.specs.Cnf.{Clauses, wordsOf}
+use Rattle.line_clauses.specs.Clauses.{clausesOf}
+use Rattle.line_clauses.specs.Inside.{Circuit}
+use Rattle.clauses.specs.declared.Written.{Written}
+use Rattle.clauses.specs.Promise.{answered, laidOn}
+
+-- an accepted circuit of n lines with so many outputs
+pub record Counted (c : List ℕ) (n outputs : ℕ) : Type 0 where
+  pub circuit : Circuit c n
+  pub outputs-are : outputs ≡ outputsBefore c n
+  pub few-outputs : outputs ≤ 2048
+
+-- room from `at` on for what all the lines bring
+pub record LinesRoom (c : List ℕ) (n : ℕ) (piece : ℕ → Clauses) (w : List ℤ) (at : ℕ) : Type 0 where
+  pub circuit : Circuit c n
+  pub room : at + length (wordsOf (gather piece n)) ≤ length w
+
+pub record WholeRoom (c : List ℕ) (f : Fault) (n outputs : ℕ) (w : List ℤ) : Type 0 where
+  pub counted : Counted c n outputs
+  pub room : length (wordsOf (clausesOf c f n)) ≤ length w
+
+-- ---- the answer and the words afterwards, where these are the rules, the clauses and the number of variables
+
+pub record Answers (rules : List Rule) (cs : Clauses) (variables : ℕ) (w w′ : List ℤ) (r : Written) : Type 0 where
+  pub answer : r ≡ answered (refusal rules) (length (wordsOf cs)) (length cs) variables
+  pub words : w′ ≡ unless (refusal rules) w (laidOn w (wordsOf cs))

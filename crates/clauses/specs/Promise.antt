@@ -1,0 +1,59 @@
+-- Part 5, the clause writer: its refusals, what it answers, and what the lent words hold afterwards.
+-- Assumes nothing.
+use mathlib.Core.Path.{_≡_}
+use mathlib.Core.List.{List, [], _∷_, _++_}
+use Prim.Native.Nat.{ℕ, _≤_}
+use lib.Dec.{leb}
+use lib.IntN.{ℤ}
+use lib.ListN.{length, drop}
+use Rattle.answers.specs.declared.Ruling.{Ruling}
+use Rattle.answers.specs.Rules.{Rule, refusal, unless}
+use Rattle.answers.specs.Rules.Rule.{whole}
+use Rattle.answers.specs.Area.{Numbers, success, refusedAt, told}
+use Rattle.circuit.specs.Record.{linesOf}
+use Rattle.circuit.specs.Check.{circuitRules}
+use Rattle.lists.specs.Faults.{faultAt, faultRules}
+use Rattle.cnf.specs.Cnf.{Clauses, wordsOf}
+use Rattle.clauses.specs.declared.Written.{Written}
+use Rattle.clauses.specs.declared.Written.the-variants.{Success, Refused}
+use Rattle.line_clauses.specs.Clauses.{clausesOf, variablesOf}
+
+-- the clauses fit the lent words, else the words needed are the place
+unfoldable pub roomRules : ℕ → ℕ → List Rule
+roomRules need room = whole 11 (leb need room) (need ≤ room) need ∷ []
+
+-- the list of a circuit and of the one fault record of these bytes
+abbrev pub clausesFor : List ℕ → List ℕ → Clauses
+clausesFor c fs = clausesOf c (faultAt fs 0) (linesOf c)
+
+abbrev pub wordsFor : List ℕ → List ℕ → List ℤ
+wordsFor c fs = wordsOf (clausesFor c fs)
+
+-- refusals 1 to 5, then 6 (not exactly one record, eight bytes) and 7, then 11
+abbrev pub clauseRules : List ℕ → List ℕ → ℕ → List Rule
+clauseRules c fs room = circuitRules c ++ (faultRules 1 c fs ++ roomRules (length (wordsFor c fs)) room)
+
+-- the answer by what the rules say: words, clauses and variables where all is fine
+abbrev pub answered : Ruling → ℕ → ℕ → ℕ → Written
+answered Ruling.Fine w l v = Success w l v
+answered (Ruling.Refused number place) w l v = Refused number place
+
+unfoldable pub writtenOf : List ℕ → List ℕ → ℕ → Written
+writtenOf c fs room = answered (refusal (clauseRules c fs room)) (length (wordsFor c fs)) (length (clausesFor c fs)) (variablesOf c (linesOf c))
+
+-- the paper's number and values for each case of the answer
+unfoldable pub numbersOf : Written → Numbers
+numbersOf (Success w l v) = success w l v
+numbersOf (Refused number place) = refusedAt number place
+
+-- the words v, and then what stood there
+abbrev pub laidOn : List ℤ → List ℤ → List ℤ
+laidOn w v = v ++ drop (length v) w
+
+-- the promise, whatever the bytes and the words: the answer's case, its number and values, and every word; a refusal writes nothing
+pub record Writes (c fs : List ℕ) (w w′ : List ℤ) (r : Written) : Type 0 where
+  pub answer : r ≡ writtenOf c fs (length w)
+  pub numbers :
+      numbersOf r
+      ≡ told (refusal (clauseRules c fs (length w))) (success (length (wordsFor c fs)) (length (clausesFor c fs)) (variablesOf c (linesOf c)))
+  pub words : w′ ≡ unless (refusal (clauseRules c fs (length w))) w (laidOn w (wordsFor c fs))

@@ -1,0 +1,25 @@
+-- `cnf::put_buffer` meets its contract: two clauses, one after the other.
+-- Assumes nothing.
+use mir.Facts.{toZ-ofZ}
+use borrow.Author.Needs.{needs}
+use Rattle.ground.proofs.Put.{put-then}
+use Rattle.cnf.proofs.put_buffer.Statement.{statement}
+use Rattle.cnf.proofs.put_buffer.Tie as tie
+
+put-pair-requires : tie.Need-put-pair-requires
+put-pair-requires c κs = search needs
+
+put-pair-requires-2 : tie.Need-put-pair-requires-2
+put-pair-requires-2 c κs = search needs
+
+same-length : tie.Need-same-length
+same-length c = search needs
+
+returns : tie.Need-returns
+returns c =
+    let s = c .before .before .before .before .before .before in
+    simp (toZ-ofZ (s .fits .y), toZ-ofZ (s .fits .not-y), toZ-ofZ (s .fits .a), toZ-ofZ (s .fits .not-a)) at
+    (put-then (c .before .before .before .before .put-pair .ensures) (c .before .put-pair2 .ensures))
+
+pub put-buffer-spec : {M : Type 1} → statement M
+put-buffer-spec = tie.close (tie.spec put-pair-requires put-pair-requires-2 same-length returns)

@@ -1,0 +1,62 @@
+-- `cnf::put_shape` meets its contract: one shape for each branch.
+-- Assumes nothing.
+use borrow.Author.Tests.{le-leb, lt-leb}
+use mir.Facts.{toZ-ofZ}
+use native.Mathlib.Omega.{arith}
+use borrow.Author.Needs.{needs}
+use Rattle.cnf.specs.Write.{byShape}
+use Rattle.cnf.proofs.put_shape.Statement.{statement}
+use Rattle.cnf.proofs.put_shape.Tie as tie
+
+put-buffer-requires : tie.Need-put-buffer-requires
+unfolding byShape
+put-buffer-requires c κs = omega (arith, simp (le-leb _ _ (c .before .if1 .taken)) at (c .before .before .pre))
+
+same-length : tie.Need-same-length
+same-length c = search needs
+
+returns : tie.Need-returns
+unfolding byShape
+returns c =
+    let s = c .before .before .before .before in
+    simp (le-leb _ _ (c .before .before .before .if1 .taken)) (simp (toZ-ofZ (s .fits .y), toZ-ofZ (s .fits .not-y), toZ-ofZ (s .fits .a), toZ-ofZ (s .fits .not-a)) at (c .before .put-buffer .ensures))
+
+put-and-requires : tie.Need-put-and-requires
+unfolding byShape
+put-and-requires c κs = omega (arith, simp (lt-leb _ _ (c .before .before .if1 .left), le-leb _ _ (c .before .if2 .taken)) at (c .before .before .before .pre))
+
+same-length-2 : tie.Need-same-length-2
+same-length-2 c = search needs
+
+returns-2 : tie.Need-returns-2
+unfolding byShape
+returns-2 c =
+    let s = c .before .before .before .before .before in
+    simp (lt-leb _ _ (c .before .before .before .before .if1 .left), le-leb _ _ (c .before .before .before .if2 .taken)) (simp (toZ-ofZ (s .fits .y), toZ-ofZ (s .fits .not-y), toZ-ofZ (s .fits .a), toZ-ofZ (s .fits .not-a), toZ-ofZ (s .fits .b), toZ-ofZ (s .fits .not-b)) at (c .before .put-and .ensures))
+
+put-xor-requires : tie.Need-put-xor-requires
+unfolding byShape
+put-xor-requires c κs = omega (arith, simp (lt-leb _ _ (c .before .before .if1 .left), lt-leb _ _ (c .before .if2 .left)) at (c .before .before .before .pre))
+
+same-length-3 : tie.Need-same-length-3
+same-length-3 c = search needs
+
+returns-3 : tie.Need-returns-3
+unfolding byShape
+returns-3 c =
+    let s = c .before .before .before .before .before in
+    simp (lt-leb _ _ (c .before .before .before .before .if1 .left), lt-leb _ _ (c .before .before .before .if2 .left)) (simp (toZ-ofZ (s .fits .y), toZ-ofZ (s .fits .not-y), toZ-ofZ (s .fits .a), toZ-ofZ (s .fits .not-a), toZ-ofZ (s .fits .b), toZ-ofZ (s .fits .not-b)) at (c .before .put-xor .ensures))
+
+pub put-shape-spec : {M : Type 1} → statement M
+put-shape-spec =
+    tie.close
+    (tie.spec
+    put-buffer-requires
+    same-length
+    returns
+    put-and-requires
+    same-length-2
+    returns-2
+    put-xor-requires
+    same-length-3
+    returns-3)

@@ -1,0 +1,26 @@
+-- `cnf::size_of` meets its contract: one answer for each branch.
+-- Assumes nothing.
+use borrow.Author.Tests.{eq-eqb, ne-eqb, le-leb, lt-leb}
+use Rattle.cnf.proofs.Sizes.{byKind, takes}
+use Rattle.cnf.specs.Write.{byShape}
+use Rattle.cnf.proofs.size_of.Statement.{statement}
+use Rattle.cnf.proofs.size_of.Tie as tie
+
+returns : tie.Need-returns
+unfolding byKind byShape
+returns c = takes _ (c .before .pre) _ (simp (eq-eqb _ _ (c .if1 .taken))) (simp (eq-eqb _ _ (c .if1 .taken)))
+
+returns-2 : tie.Need-returns-2
+unfolding byKind byShape
+returns-2 c = takes _ (c .before .before .pre) _ (simp (ne-eqb _ _ (c .before .if1 .left), le-leb _ _ (c .if2 .taken))) (simp (ne-eqb _ _ (c .before .if1 .left), le-leb _ _ (c .if2 .taken)))
+
+returns-3 : tie.Need-returns-3
+unfolding byKind byShape
+returns-3 c = takes _ (c .before .before .before .pre) _ (simp (ne-eqb _ _ (c .before .before .if1 .left), lt-leb _ _ (c .before .if2 .left), le-leb _ _ (c .if3 .taken))) (simp (ne-eqb _ _ (c .before .before .if1 .left), lt-leb _ _ (c .before .if2 .left), le-leb _ _ (c .if3 .taken)))
+
+returns-4 : tie.Need-returns-4
+unfolding byKind byShape
+returns-4 c = takes _ (c .before .before .before .pre) _ (simp (ne-eqb _ _ (c .before .before .if1 .left), lt-leb _ _ (c .before .if2 .left), lt-leb _ _ (c .if3 .left))) (simp (ne-eqb _ _ (c .before .before .if1 .left), lt-leb _ _ (c .before .if2 .left), lt-leb _ _ (c .if3 .left)))
+
+pub size-of-spec : {M : Type 1} → statement M
+size-of-spec = tie.close (tie.spec returns returns-2 returns-3 returns-4)

@@ -1,0 +1,57 @@
+-- The clauses of a gate, by its kind: the paper's table, over the gate's own value y and its pins a and b.
+-- Assumes nothing.
+use mathlib.Core.List.{List, [], _∷_, map}
+use Prim.Native.Nat.{ℕ}
+use lib.Dec.{eqb}
+use lib.IntN.{ℤ, pos, negℤ}
+use Rattle.ground.specs.Choose.{choose}
+use Rattle.gates.specs.Gate.{atPins}
+use Rattle.cnf.specs.Cnf.{Clauses}
+
+-- the value at a site of the gate, or its negation: site 0 is the gate itself, site s its pin s
+pub data Literal : Type 0 where
+  plus : ℕ → Literal
+  minus : ℕ → Literal
+
+abbrev y : Literal
+y = Literal.plus 0
+
+abbrev -y : Literal
+-y = Literal.minus 0
+
+abbrev a : Literal
+a = Literal.plus 1
+
+abbrev -a : Literal
+-a = Literal.minus 1
+
+abbrev b : Literal
+b = Literal.plus 2
+
+abbrev -b : Literal
+-b = Literal.minus 2
+
+-- an input, kind 0, has none
+unfoldable pub table : ℕ → List (List Literal)
+table kind =
+    choose (eqb kind 1) ((-y ∷ a ∷ []) ∷ (y ∷ -a ∷ []) ∷ [])
+    (choose (eqb kind 2) ((-y ∷ -a ∷ []) ∷ (y ∷ a ∷ []) ∷ [])
+    (choose (eqb kind 3) ((-y ∷ a ∷ []) ∷ (-y ∷ b ∷ []) ∷ (y ∷ -a ∷ -b ∷ []) ∷ [])
+    (choose (eqb kind 4) ((y ∷ a ∷ []) ∷ (y ∷ b ∷ []) ∷ (-y ∷ -a ∷ -b ∷ []) ∷ [])
+    (choose (eqb kind 5) ((y ∷ -a ∷ []) ∷ (y ∷ -b ∷ []) ∷ (-y ∷ a ∷ b ∷ []) ∷ [])
+    (choose (eqb kind 6) ((-y ∷ -a ∷ []) ∷ (-y ∷ -b ∷ []) ∷ (y ∷ a ∷ b ∷ []) ∷ [])
+    (choose (eqb kind 7) ((-y ∷ a ∷ b ∷ []) ∷ (-y ∷ -a ∷ -b ∷ []) ∷ (y ∷ -a ∷ b ∷ []) ∷ (y ∷ a ∷ -b ∷ []) ∷ [])
+    (choose (eqb kind 8) ((y ∷ a ∷ b ∷ []) ∷ (y ∷ -a ∷ -b ∷ []) ∷ (-y ∷ -a ∷ b ∷ []) ∷ (-y ∷ a ∷ -b ∷ []) ∷ [])
+    [])))))))
+
+-- as a word, where site s has the variable with the number `number s`
+abbrev pub wordOf : (ℕ → ℕ) → Literal → ℤ
+wordOf number (Literal.plus s) = pos (number s)
+wordOf number (Literal.minus s) = negℤ (pos (number s))
+
+unfoldable pub gateClauses : ℕ → (ℕ → ℕ) → Clauses
+gateClauses kind number = map (map (wordOf number)) (table kind)
+
+-- variable y at the gate itself, a and b at its pins
+abbrev pub sites : ℕ → ℕ → ℕ → ℕ → ℕ
+sites y a b s = choose (eqb s 0) y (atPins a b s)

@@ -1,0 +1,55 @@
+-- `line_clauses::pin_variable` meets its contract: the stuck value, or the source.
+-- Assumes nothing.
+use native.Mathlib.Omega.{arith}
+use Prim.Native.Nat.{_<_}
+use borrow.Author.Needs.{needs}
+use Rattle.line_clauses.proofs.Lines.{lower, pin-stuck, pin-source}
+use Rattle.line_clauses.proofs.pin_variable.Statement.{statement}
+use Rattle.line_clauses.proofs.pin_variable.Tie as tie
+
+-- the source is lower than the line
+low : (c : tie.After-source) → (c .source .result < c .before .before .before .before .before .args .k) × (c .before .before .before .before .before .args .k < 2048)
+low c =
+    let p = c .before .before .before .before .before .pre in
+    (rw (c .source .ensures, c .before .wide .ensures .0) (lower (p .0) _ (p .1) (p .2)), omega arith)
+
+is-at-requires : tie.Need-is-at-requires
+is-at-requires c κs = search needs
+
+mul-result : tie.Need-mul-result
+mul-result c = search needs
+
+add-result : tie.Need-add-result
+add-result c = search needs
+
+returns : tie.Need-returns
+returns c = (pin-stuck _ _ _ _ _ (c .before .is-at .ensures) (c .if1 .taken), omega arith)
+
+wide-requires : tie.Need-wide-requires
+wide-requires c κs = search needs
+
+source-requires : tie.Need-source-requires
+source-requires c κs = search needs
+
+mul-result-2 : tie.Need-mul-result-2
+mul-result-2 c = omega (arith, low c)
+
+add-result-2 : tie.Need-add-result-2
+add-result-2 c = omega (arith, low c)
+
+returns-2 : tie.Need-returns-2
+returns-2 c = (pin-source _ _ _ _ _ (c .before .before .before .is-at .ensures) (c .before .before .if1 .left) (c .before .before .before .before .before .pre .1) (c .before .wide .ensures .0) (c .source .ensures), omega (arith, low c))
+
+pub pin-variable-spec : {M : Type 1} → statement M
+pin-variable-spec =
+    tie.close
+    (tie.spec
+    is-at-requires
+    mul-result
+    add-result
+    returns
+    wide-requires
+    source-requires
+    mul-result-2
+    add-result-2
+    returns-2)

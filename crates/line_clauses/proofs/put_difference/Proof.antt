@@ -1,0 +1,69 @@
+-- `line_clauses::put_difference` meets its contract: nothing, or the XOR of good and faulty.
+-- Assumes nothing.
+use native.Mathlib.Omega.{arith}
+use borrow.Author.Needs.{needs}
+use Rattle.line_clauses.proofs.Lines.{difference-none, difference-gate, gate-room, put-line}
+use Rattle.ground.proofs.Put.{put-none}
+use Rattle.line_clauses.proofs.put_difference.Statement.{statement}
+use Rattle.line_clauses.proofs.put_difference.Tie as tie
+
+mul-if1 : tie.Need-mul-if1
+mul-if1 c = search needs
+
+add-if1 : tie.Need-add-if1
+add-if1 c = search needs
+
+shared-slice-read-if1 : tie.Need-shared-slice-read-if1
+shared-slice-read-if1 c = search needs
+
+returns : tie.Need-returns
+returns c = rw (difference-none _ _ _ (c .if1 .taken)) (put-none _ _)
+
+mul-put-gate : tie.Need-mul-put-gate
+mul-put-gate c = search needs
+
+add-put-gate : tie.Need-add-put-gate
+add-put-gate c = search needs
+
+add-put-gate-2 : tie.Need-add-put-gate-2
+add-put-gate-2 c = search needs
+
+mul-put-gate-2 : tie.Need-mul-put-gate-2
+mul-put-gate-2 c = search needs
+
+add-put-gate-3 : tie.Need-add-put-gate-3
+add-put-gate-3 c = search needs
+
+mul-put-gate-3 : tie.Need-mul-put-gate-3
+mul-put-gate-3 c = search needs
+
+add-put-gate-4 : tie.Need-add-put-gate-4
+add-put-gate-4 c = search needs
+
+put-gate-requires : tie.Need-put-gate-requires
+put-gate-requires c κs = gate-room _ _ _ _ (difference-gate _ _ _ (c .before .if1 .left) (c .before .before .before .before .pre .below)) (c .before .before .before .before .pre .own .room) (omega arith) (omega arith) (omega arith) (omega arith)
+
+same-length : tie.Need-same-length
+same-length c = search needs
+
+returns-2 : tie.Need-returns-2
+returns-2 c = put-line (difference-gate _ _ _ (c .before .before .before .if1 .left) (c .before .before .before .before .before .before .pre .below)) (c .before .put-gate .ensures)
+
+pub put-difference-spec : {M : Type 1} → statement M
+put-difference-spec =
+    tie.close
+    (tie.spec
+    mul-if1
+    add-if1
+    shared-slice-read-if1
+    returns
+    mul-put-gate
+    add-put-gate
+    add-put-gate-2
+    mul-put-gate-2
+    add-put-gate-3
+    mul-put-gate-3
+    add-put-gate-4
+    put-gate-requires
+    same-length
+    returns-2)

@@ -1,0 +1,124 @@
+-- `line_clauses::put_faulty` meets its contract: a buffer, or the gate as the fault leaves it.
+-- Assumes nothing.
+use native.Mathlib.Omega.{arith}
+use borrow.Author.Needs.{needs}
+use Rattle.line_clauses.proofs.Lines.{kind-last, gate-line, faulty-stuck, faulty-input, faulty-gate, gate-room, put-line}
+use Rattle.line_clauses.proofs.put_faulty.Statement.{statement}
+use Rattle.line_clauses.proofs.put_faulty.Tie as tie
+
+is-at-requires : tie.Need-is-at-requires
+is-at-requires c κs = search needs
+
+mul-put-gate : tie.Need-mul-put-gate
+mul-put-gate c = search needs
+
+add-put-gate : tie.Need-add-put-gate
+add-put-gate c = search needs
+
+mul-put-gate-2 : tie.Need-mul-put-gate-2
+mul-put-gate-2 c = search needs
+
+add-put-gate-2 : tie.Need-add-put-gate-2
+add-put-gate-2 c = search needs
+
+mul-put-gate-3 : tie.Need-mul-put-gate-3
+mul-put-gate-3 c = search needs
+
+add-put-gate-3 : tie.Need-add-put-gate-3
+add-put-gate-3 c = search needs
+
+put-gate-requires : tie.Need-put-gate-requires
+put-gate-requires c κs = gate-room _ _ _ _ (faulty-stuck _ _ _ _ (c .before .before .is-at .ensures) (c .before .if1 .taken)) (c .before .before .before .before .pre .room) (omega arith) (omega arith) (omega arith) (omega arith)
+
+same-length : tie.Need-same-length
+same-length c = search needs
+
+returns : tie.Need-returns
+returns c = put-line (faulty-stuck _ _ _ _ (c .before .before .before .before .is-at .ensures) (c .before .before .before .if1 .taken)) (c .before .put-gate .ensures)
+
+mul-kind : tie.Need-mul-kind
+mul-kind c = search needs
+
+shared-slice-read-kind : tie.Need-shared-slice-read-kind
+shared-slice-read-kind c = search needs
+
+mul-put-gate-4 : tie.Need-mul-put-gate-4
+mul-put-gate-4 c = search needs
+
+add-put-gate-4 : tie.Need-add-put-gate-4
+add-put-gate-4 c = search needs
+
+mul-put-gate-5 : tie.Need-mul-put-gate-5
+mul-put-gate-5 c = search needs
+
+add-put-gate-5 : tie.Need-add-put-gate-5
+add-put-gate-5 c = search needs
+
+mul-put-gate-6 : tie.Need-mul-put-gate-6
+mul-put-gate-6 c = search needs
+
+add-put-gate-6 : tie.Need-add-put-gate-6
+add-put-gate-6 c = search needs
+
+put-gate-requires-2 : tie.Need-put-gate-requires-2
+put-gate-requires-2 c κs = gate-room _ _ _ _ (faulty-input _ _ _ _ (c .before .before .before .before .is-at .ensures) (c .before .before .before .if1 .left) (c .before .if2 .taken)) (c .before .before .before .before .before .before .pre .room) (omega arith) (omega arith) (omega arith) (omega arith)
+
+same-length-2 : tie.Need-same-length-2
+same-length-2 c = search needs
+
+returns-2 : tie.Need-returns-2
+returns-2 c = put-line (faulty-input _ _ _ _ (c .before .before .before .before .before .before .is-at .ensures) (c .before .before .before .before .before .if1 .left) (c .before .before .before .if2 .taken)) (c .before .put-gate2 .ensures)
+
+pin-variable-requires : tie.Need-pin-variable-requires
+pin-variable-requires c κs = (gate-line (c .before .before .before .before .before .pre .line) (c .if2 .left), omega arith, omega arith)
+
+pin-variable-requires-2 : tie.Need-pin-variable-requires-2
+pin-variable-requires-2 c κs = (gate-line (c .before .before .before .before .before .before .pre .line) (c .before .if2 .left), omega arith, omega arith)
+
+mul-put-gate-7 : tie.Need-mul-put-gate-7
+mul-put-gate-7 c = search needs
+
+add-put-gate-7 : tie.Need-add-put-gate-7
+add-put-gate-7 c = search needs
+
+put-gate-requires-3 : tie.Need-put-gate-requires-3
+put-gate-requires-3 c κs = gate-room _ _ _ _ (faulty-gate _ _ _ _ (c .before .before .before .before .before .before .is-at .ensures) (c .before .before .before .before .before .if1 .left) (c .before .before .before .if2 .left) (kind-last (c .before .before .before .before .before .before .before .before .pre .line)) (c .before .before .pin-variable .ensures .0) (c .before .pin-variable2 .ensures .0)) (c .before .before .before .before .before .before .before .before .pre .room) (kind-last (c .before .before .before .before .before .before .before .before .pre .line)) (omega arith) (omega arith) (omega arith)
+
+same-length-3 : tie.Need-same-length-3
+same-length-3 c = search needs
+
+returns-3 : tie.Need-returns-3
+returns-3 c = put-line (faulty-gate _ _ _ _ (c .before .before .before .before .before .before .before .before .is-at .ensures) (c .before .before .before .before .before .before .before .if1 .left) (c .before .before .before .before .before .if2 .left) (kind-last (c .before .before .before .before .before .before .before .before .before .before .pre .line)) (c .before .before .before .before .pin-variable .ensures .0) (c .before .before .before .pin-variable2 .ensures .0)) (c .before .put-gate3 .ensures)
+
+pub put-faulty-spec : {M : Type 1} → statement M
+put-faulty-spec =
+    tie.close
+    (tie.spec
+    is-at-requires
+    mul-put-gate
+    add-put-gate
+    mul-put-gate-2
+    add-put-gate-2
+    mul-put-gate-3
+    add-put-gate-3
+    put-gate-requires
+    same-length
+    returns
+    mul-kind
+    shared-slice-read-kind
+    mul-put-gate-4
+    add-put-gate-4
+    mul-put-gate-5
+    add-put-gate-5
+    mul-put-gate-6
+    add-put-gate-6
+    put-gate-requires-2
+    same-length-2
+    returns-2
+    pin-variable-requires
+    pin-variable-requires-2
+    mul-put-gate-7
+    add-put-gate-7
+    put-gate-requires-3
+    same-length-3
+    returns-3)

@@ -1,0 +1,85 @@
+-- `line_clauses::put_good` meets its contract: nothing for an input, else the gate.
+-- Assumes nothing.
+use native.Mathlib.Omega.{arith}
+use Prim.Native.Nat.{_<_}
+use borrow.Author.Needs.{needs}
+use Rattle.line_clauses.proofs.Lines.{kind-last, gate-line, lower, good-none, good-gate, gate-room, put-line}
+use Rattle.ground.proofs.Put.{put-none}
+use Rattle.line_clauses.proofs.put_good.Statement.{statement}
+use Rattle.line_clauses.proofs.put_good.Tie as tie
+
+-- both sources are lower than the line
+low : (c : tie.After-source2)
+    → (c .before .source .result < c .before .before .before .before .before .args .k)
+    × (c .source2 .result < c .before .before .before .before .before .args .k)
+    × (c .before .before .before .before .before .args .k < 2048)
+low c =
+    let p = c .before .before .before .before .before .pre in
+    let g = gate-line (p .line) (c .before .before .if1 .left) in (
+      rw (c .before .source .ensures) (lower g 1 (omega arith) (omega arith)),
+      rw (c .source2 .ensures) (lower g 2 (omega arith) (omega arith)),
+      omega (arith, p .line .inside),
+    )
+
+mul-kind : tie.Need-mul-kind
+mul-kind c = search needs
+
+shared-slice-read-kind : tie.Need-shared-slice-read-kind
+shared-slice-read-kind c = search needs
+
+returns : tie.Need-returns
+returns c = rw (good-none _ _ (c .if1 .taken)) (put-none _ _)
+
+source-requires : tie.Need-source-requires
+source-requires c κs = search needs
+
+source-requires-2 : tie.Need-source-requires-2
+source-requires-2 c κs = search needs
+
+mul-put-gate : tie.Need-mul-put-gate
+mul-put-gate c = search needs
+
+add-put-gate : tie.Need-add-put-gate
+add-put-gate c = search needs
+
+mul-put-gate-2 : tie.Need-mul-put-gate-2
+mul-put-gate-2 c = omega (arith, low (c .before))
+
+add-put-gate-2 : tie.Need-add-put-gate-2
+add-put-gate-2 c = omega (arith, low (c .before))
+
+mul-put-gate-3 : tie.Need-mul-put-gate-3
+mul-put-gate-3 c = omega (arith, low (c .before))
+
+add-put-gate-3 : tie.Need-add-put-gate-3
+add-put-gate-3 c = omega (arith, low (c .before))
+
+put-gate-requires : tie.Need-put-gate-requires
+put-gate-requires c κs =
+    let h = low (c .before) in
+    gate-room _ _ _ _ (good-gate _ _ (kind-last (c .before .before .before .before .before .before .pre .line)) (c .before .before .source .ensures) (c .before .source2 .ensures)) (c .before .before .before .before .before .before .pre .room) (kind-last (c .before .before .before .before .before .before .pre .line)) (omega arith) (omega arith) (omega arith)
+
+same-length : tie.Need-same-length
+same-length c = search needs
+
+returns-2 : tie.Need-returns-2
+returns-2 c = put-line (good-gate _ _ (kind-last (c .before .before .before .before .before .before .before .before .pre .line)) (c .before .before .before .before .source .ensures) (c .before .before .before .source2 .ensures)) (c .before .put-gate .ensures)
+
+pub put-good-spec : {M : Type 1} → statement M
+put-good-spec =
+    tie.close
+    (tie.spec
+    mul-kind
+    shared-slice-read-kind
+    returns
+    source-requires
+    source-requires-2
+    mul-put-gate
+    add-put-gate
+    mul-put-gate-2
+    add-put-gate-2
+    mul-put-gate-3
+    add-put-gate-3
+    put-gate-requires
+    same-length
+    returns-2)

@@ -1,0 +1,119 @@
+// The clauses of one line: how much they take, and the writer of them, for the good line, the faulty one and the difference.
+use circuit::source;
+use cnf::Size;
+use cnf::put_gate;
+use cnf::size_of;
+use ground::wide;
+use lists::Fault;
+ghost use mathlib.Core.Path.{_≡_};
+ghost use Prim.Native.Nat.{_≤_};
+ghost use Rattle.gates.specs.Gate.{lastKind};
+ghost use Rattle.cnf.specs.Cnf.{wordsOf};
+ghost use Rattle.ground.specs.Put.{Put};
+ghost use Rattle.line_clauses.specs.Clauses.{isAt, faultySite, goodClauses, faultyClauses, differenceClauses};
+ghost use Rattle.line_clauses.specs.Inside.{Line, GateLine, faultyKind, LineTakes, LineRoom, DifferenceRoom};
+
+// The fault is at site s of line k.
+fn is_at(fault: Fault, k: usize, s: u8) -> bool
+    ensures { λ r. ⌜ r ≡ isAt fault k s ⌝ }
+{
+    if k != fault.line {
+        return false;
+    }
+    s == fault.site
+}
+
+// The kind of the gate that writes the faulty line k.
+fn faulty_kind(circuit: &[u8], fault: Fault, n: usize, k: usize) -> u8
+    requires { ⌜ Line (now circuit) n k ⌝ }
+    ensures { λ r. ⌜ (r ≡ faultyKind (now (circuit .entry)) fault k) × (r ≤ lastKind) ⌝ }
+{
+    if is_at(fault, k, 0) {
+        return 1;
+    }
+    let kind = circuit[8 * k];
+    if kind == 0 {
+        return 1;
+    }
+    kind
+}
+
+// Line k, good and faulty.
+pub fn line_size(circuit: &[u8], fault: Fault, n: usize, k: usize) -> Size
+    requires { ⌜ Line (now circuit) n k ⌝ }
+    ensures { λ r. ⌜ LineTakes (now (circuit .entry)) fault n k r ⌝ }
+{
+    let good = size_of(circuit[8 * k]);
+    let faulty = size_of(faulty_kind(circuit, fault, n, k));
+    Size {
+        words: good.words + faulty.words,
+        clauses: good.clauses + faulty.clauses,
+    }
+}
+
+// The good line k.
+pub fn put_good(circuit: &[u8], n: usize, k: usize, words: &mut [i32], at: usize) -> usize
+    requires { ⌜ LineRoom (now circuit) n k (goodClauses (now circuit) k) (now words) at ⌝ }
+    ensures { λ r. ⌜ Put (now (words .entry)) (now (words .exit)) at (wordsOf (goodClauses (now (circuit .entry)) k)) r ⌝ }
+{
+    let kind = circuit[8 * k];
+    if kind == 0 {
+        return at;
+    }
+    let a = source(circuit, k, 1);
+    let b = source(circuit, k, 2);
+    put_gate(words, at, kind, 2 * k + 1, 2 * a + 1, 2 * b + 1)
+}
+
+// The variable that pin s of the faulty line k reads.
+fn pin_variable(circuit: &[u8], fault: Fault, n: usize, k: usize, s: u8) -> usize
+    requires { ⌜ GateLine (now circuit) n k × (1 ≤ s) × (s ≤ 3) ⌝ }
+    ensures { λ r. ⌜ (r ≡ faultySite (now (circuit .entry)) fault n k s) × (r ≤ 8192) ⌝ }
+{
+    if is_at(fault, k, s) {
+        return 2 * n + 1;
+    }
+    2 * source(circuit, k, wide(s)) + 2
+}
+
+// The faulty line k.
+pub fn put_faulty(
+    circuit: &[u8],
+    fault: Fault,
+    n: usize,
+    k: usize,
+    words: &mut [i32],
+    at: usize,
+) -> usize
+    requires { ⌜ LineRoom (now circuit) n k (faultyClauses (now circuit) fault n k) (now words) at ⌝ }
+    ensures { λ r. ⌜ Put (now (words .entry)) (now (words .exit)) at (wordsOf (faultyClauses (now (circuit .entry)) fault n k)) r ⌝ }
+{
+    if is_at(fault, k, 0) {
+        return put_gate(words, at, 1, 2 * k + 2, 2 * n + 1, 2 * n + 1);
+    }
+    let kind = circuit[8 * k];
+    if kind == 0 {
+        return put_gate(words, at, 1, 2 * k + 2, 2 * k + 1, 2 * k + 1);
+    }
+    let a = pin_variable(circuit, fault, n, k, 1);
+    let b = pin_variable(circuit, fault, n, k, 2);
+    put_gate(words, at, kind, 2 * k + 2, a, b)
+}
+
+// The difference at line k, if it is an output; j outputs stand below it.
+pub fn put_difference(
+    circuit: &[u8],
+    n: usize,
+    k: usize,
+    j: usize,
+    words: &mut [i32],
+    at: usize,
+) -> usize
+    requires { ⌜ DifferenceRoom (now circuit) n k j (now words) at ⌝ }
+    ensures { λ r. ⌜ Put (now (words .entry)) (now (words .exit)) at (wordsOf (differenceClauses (now (circuit .entry)) n k)) r ⌝ }
+{
+    if circuit[8 * k + 1] != 1 {
+        return at;
+    }
+    put_gate(words, at, 7, 2 * n + 2 + j, 2 * k + 1, 2 * k + 2)
+}
