@@ -1,0 +1,4 @@
+pub mod Fillings
+pub mod Meaning
+pub mod Look
+pub mod Verdicts
