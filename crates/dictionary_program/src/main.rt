@@ -1,0 +1,4 @@
+// The dictionary program; its data is example A.
+fn main() {
+    program::run();
+}

@@ -1,0 +1,6 @@
+pub mod Digits
+pub mod Pieces
+pub mod Lines
+pub mod Small
+pub mod Made
+pub mod Whole

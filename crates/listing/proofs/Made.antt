@@ -1,0 +1,107 @@
+-- The program's own buffers are of their size, so dictionary maker and compactor refuse nothing but circuit, faults and patterns.
+-- Assumes nothing.
+use mathlib.Core.Path.{_≡_, refl, sym, ap, _∙_}
+use mathlib.Core.List.{List, _++_}
+use Prim.Native.Nat.{ℕ, _*_, _≤_}
+use native.Mathlib.Omega.{arith}
+use lib.ListN.{length}
+use Rattle.answers.specs.declared.Ruling.{Ruling}
+use Rattle.answers.specs.declared.Ruling.the-variants.{Fine, Refused}
+use Rattle.answers.specs.Rules.{Rule, refusal, unless, AllHold}
+use Rattle.answers.proofs.Rules.{after-refused, after-fine, both-fine, fine}
+use Rattle.circuit.specs.Record.{linesOf, inputsOf}
+use Rattle.circuit.specs.Check.{circuitRules}
+use Rattle.lists.specs.Faults.{faultCount, faultRules}
+use Rattle.lists.specs.Patterns.{patternCount, patternRules}
+use Rattle.lists.proofs.Faults.{good-faults}
+use Rattle.lists.proofs.Patterns.{good-patterns}
+use Rattle.rows.specs.Table.{tableOf}
+use Rattle.rows.proofs.Entries.{made}
+use Rattle.dictionary.specs.Dictionary.{bufferRules, listRules, restRules, dictionaryRules, Dictionary}
+use Rattle.dictionary.proofs.Answer.{buffers-say, lists-few}
+use Rattle.needs.specs.Needs as needs
+use Rattle.compact.specs.Compact.{tableRules, marksRules, compactRules, Sized, Compacts}
+use Rattle.compact.proofs.Refusals.{compact-says}
+use Rattle.listing.specs.Listing.{programRules, dictionaryOf}
+use Rattle.listing.specs.Owed.{Full, Counted, Sizes, Tabled}
+use Rattle.listing.proofs.Small.{table-small}
+
+buffers-fine : (n faults patterns table work : ℕ) → table ≡ faults * patterns → work ≡ 2 * n → refusal (bufferRules n faults patterns table work) ≡ Fine
+unfolding bufferRules AllHold
+buffers-fine n faults patterns table work t w =
+    fine (bufferRules n faults patterns table work) (buffers-say n faults patterns table work) ((t, w), tt)
+
+module _ (c fs ps t w : List ℕ) where
+  -- where the lists are fine, so are the buffers
+  rest-same : {n : ℕ} → Sizes c n fs ps (length t)
+      → length w ≡ 2 * n
+      → refusal (restRules c (linesOf c) (inputsOf c) fs ps (length t) (length w)) ≡ refusal (listRules c (inputsOf c) fs ps)
+  rest-same {n} s two = go (refusal (listRules c (inputsOf c) fs ps)) refl
+    where
+      lists : List Rule
+      lists = listRules c (inputsOf c) fs ps
+
+      buffers : List Rule
+      buffers = bufferRules (linesOf c) (faultCount fs) (patternCount (inputsOf c) ps) (length t) (length w)
+
+      go : (v : Ruling) → refusal lists ≡ v → refusal (lists ++ buffers) ≡ refusal lists
+      go (Refused x y) e = after-refused lists buffers e ∙ sym e
+      go Fine e =
+          let few = lists-few c n (inputsOf c) fs ps e in
+          after-fine lists buffers e
+          ∙ buffers-fine (linesOf c) (faultCount fs) (patternCount (inputsOf c) ps) (length t) (length w) (s .entries (few .0) (few .1)) (two ∙ ap (λ (x : ℕ). 2 * x) (s .lines-are))
+          ∙ sym e
+
+  same-refusal : {n : ℕ} → Sizes c n fs ps (length t) → length w ≡ 2 * n → refusal (dictionaryRules c fs ps t w) ≡ refusal (programRules c fs ps)
+  same-refusal {n} s two = go (refusal (circuitRules c)) refl
+    where
+      rest : List Rule
+      rest = restRules c (linesOf c) (inputsOf c) fs ps (length t) (length w)
+
+      lists : List Rule
+      lists = listRules c (inputsOf c) fs ps
+
+      go : (v : Ruling) → refusal (circuitRules c) ≡ v → refusal (circuitRules c ++ rest) ≡ refusal (circuitRules c ++ lists)
+      go (Refused x y) e = after-refused (circuitRules c) rest e ∙ sym (after-refused (circuitRules c) lists e)
+      go Fine e = after-fine (circuitRules c) rest e ∙ rest-same s two ∙ sym (after-fine (circuitRules c) lists e)
+
+  pub tabled : {n : ℕ} {r : Ruling} {t′ w′ : List ℕ} → Sizes c n fs ps (length t) → length w ≡ 2 * n → Dictionary c fs ps t w r t′ w′ → Tabled c fs ps t r t′
+  tabled s two d =
+      let q = same-refusal s two in
+      record {
+        answer = d .answer ∙ q;
+        table = d .table ∙ ap (λ (v : Ruling). unless v t (tableOf c (linesOf c) (inputsOf c) fs ps)) q;
+      }
+
+-- where nothing is refused, the dictionary is a table for the compactor
+pub fine-sized : (c fs ps : List ℕ) → refusal (programRules c fs ps) ≡ Fine → Sized (faultCount fs) (patternCount (inputsOf c) ps) (length (dictionaryOf c fs ps))
+fine-sized c fs ps e =
+    let b = both-fine (faultRules 256 c fs) (patternRules (inputsOf c) ps) (both-fine (circuitRules c) _ e .1) in
+    let faults = good-faults 256 c fs (b .0) .records in
+    let patterns = good-patterns (inputsOf c) ps (b .1) .records in
+    record {
+      some-fault = faults .some;
+      few-faults = faults .few;
+      some-pattern = patterns .some;
+      few-patterns = patterns .few;
+      product = made c (linesOf c) (inputsOf c) fs ps .size;
+    }
+
+module _ {c fs ps t t′ : List ℕ} {r : Ruling} (made-so : Tabled c fs ps t r t′) (is-fine : r ≡ Fine) where
+  rules-fine : refusal (programRules c fs ps) ≡ Fine
+  rules-fine = sym (made-so .answer) ∙ is-fine
+
+  pub table-is : t′ ≡ dictionaryOf c fs ps
+  table-is = made-so .table ∙ rw rules-fine
+
+  pub full : {f p out : ℕ} → Counted c fs ps f p → 71680 ≤ out → Full t′ out f p
+  full {f} {p} {out} k room =
+      let sized = fine-sized c fs ps rules-fine in
+      rw (table-is, k .faults, k .patterns)
+      (record { sized = sized; small = λ i l. table-small c (linesOf c) (inputsOf c) fs ps i; lines = omega (arith, sized .few-patterns) })
+
+-- the compactor makes the marks of a full table
+pub marks-are : {t m m′ : List ℕ} {out f p : ℕ} {r : Ruling} → Full t out f p → length m ≡ p → Compacts f p t m r m′ → m′ ≡ needs.compacted (needs.tableOf f t) f p
+unfolding tableRules marksRules AllHold
+marks-are {t} {m} {m′} {out} {f} {p} k size so =
+    so .marks ∙ rw (fine (compactRules f p t m) (compact-says f p t m) (k .sized, (k .small, (size, tt))))

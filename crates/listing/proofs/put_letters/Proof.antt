@@ -1,0 +1,70 @@
+-- `listing::put_letters` meets its contract. The invariant: the first i letters stand.
+-- Assumes nothing.
+use lib.ListN.{length-set, length, length-map}
+use borrow.Author.Needs.{needs}
+use native.Mathlib.Omega.{arith}
+use mathlib.Core.List.{map}
+use mathlib.Core.Path.{_≡_, refl}
+use Prim.Native.Nat.{_≤_, _-_}
+use Rattle.listing.proofs.Pieces.{letter-at}
+use Rattle.listing.specs.Text.{letterOf}
+use Rattle.ground.proofs.Put.{Partly, partly-none, partly-more, partly-all}
+use Rattle.listing.proofs.put_letters.Statement.{statement}
+use Rattle.listing.proofs.put_letters.Tie as tie
+
+abbrev Inv-loop : tie.InvT-loop
+Inv-loop out₀ at row i₀ out i = (i ≤ length row) × (length out ≡ length out₀) × Partly (map letterOf row) out₀ at out i
+
+abbrev μ-loop : tie.MeasureT-loop
+μ-loop out₀ at row i₀ out i = length row - i
+
+loop-holds : tie.Need-loop-holds Inv-loop μ-loop
+loop-holds c = (omega arith, refl, partly-none _ _ _)
+
+shared-slice-read-letter : tie.Need-shared-slice-read-letter Inv-loop μ-loop
+shared-slice-read-letter c = search needs
+
+letter-requires : tie.Need-letter-requires Inv-loop μ-loop
+letter-requires c κs = search needs
+
+add-out : tie.Need-add-out Inv-loop μ-loop
+add-out c = search needs
+
+slice-write-out : tie.Need-slice-write-out Inv-loop μ-loop
+slice-write-out c = search needs
+
+add-i : tie.Need-add-i Inv-loop μ-loop
+add-i c = search needs
+
+loop-less : tie.Need-loop-less Inv-loop μ-loop
+loop-less c = search needs
+
+loop-again : tie.Need-loop-again Inv-loop μ-loop
+loop-again c = (omega arith, simp length-set (omega arith), partly-more (letterOf 0) (c .before .before .before .loop .inv .2) (rw length-map (omega arith)) (letter-at (c .before .before .before .before .before .before .args .row .now) (c .before .before .before .loop .i) (c .letter .ensures)))
+
+add-result : tie.Need-add-result Inv-loop μ-loop
+add-result c = search needs
+
+same-length : tie.Need-same-length Inv-loop μ-loop
+same-length c = search needs
+
+returns : tie.Need-returns Inv-loop μ-loop
+returns c = partly-all (c .before .loop .inv .2) (rw length-map (omega arith))
+
+pub put-letters-spec : {M : Type 1} → statement M
+put-letters-spec =
+    tie.close
+    (tie.spec
+    Inv-loop
+    μ-loop
+    loop-holds
+    shared-slice-read-letter
+    letter-requires
+    add-out
+    slice-write-out
+    add-i
+    loop-less
+    loop-again
+    add-result
+    same-length
+    returns)

@@ -1,0 +1,70 @@
+-- `listing::put_lines` meets its contract. The invariant: the lines of the first p patterns stand.
+-- Assumes nothing.
+use lib.ListN.{length-take}
+use native.Mathlib.Omega.{arith}
+use Prim.Native.Nat.{_-_}
+use Rattle.listing.proofs.Lines.{SoFar, start, row-fits, line-fits, more, finished}
+use Rattle.ground.proofs.Put.{put-long}
+use Rattle.listing.proofs.put_lines.Statement.{statement}
+use Rattle.listing.proofs.put_lines.Tie as tie
+
+abbrev Inv-loop : tie.InvT-loop
+Inv-loop out₀ table marks faults patterns p₀ at₀ from₀ out p at from = SoFar table marks out₀ faults patterns out p at from
+
+abbrev μ-loop : tie.MeasureT-loop
+μ-loop out₀ table marks faults patterns p₀ at₀ from₀ out p at from = patterns - p
+
+loop-holds : tie.Need-loop-holds Inv-loop μ-loop
+loop-holds c = start _ _ _ _ _
+
+add-to : tie.Need-add-to Inv-loop μ-loop
+add-to c = omega (arith, row-fits (c .before .before .before .before .before .pre) (c .before .loop .inv) (omega arith))
+
+shared-slice-read-put-line : tie.Need-shared-slice-read-put-line Inv-loop μ-loop
+shared-slice-read-put-line c = omega arith
+
+sub-put-line : tie.Need-sub-put-line Inv-loop μ-loop
+sub-put-line c = omega arith
+
+part-put-line-start : tie.Need-part-put-line-start Inv-loop μ-loop
+part-put-line-start c = omega arith
+
+part-put-line-end : tie.Need-part-put-line-end Inv-loop μ-loop
+part-put-line-end c = omega (arith, row-fits (c .before .before .before .before .before .before .before .pre) (c .before .before .before .loop .inv) (omega arith))
+
+put-line-requires : tie.Need-put-line-requires Inv-loop μ-loop
+put-line-requires c κs = simp length-take (omega (arith, line-fits (c .before .before .before .before .before .before .before .before .pre) (c .before .before .before .before .loop .inv) (omega arith)))
+
+add-p : tie.Need-add-p Inv-loop μ-loop
+add-p c = omega arith
+
+loop-less : tie.Need-loop-less Inv-loop μ-loop
+loop-less c = omega arith
+
+loop-again : tie.Need-loop-again Inv-loop μ-loop
+loop-again c = more (c .before .before .before .before .before .before .before .before .before .before .before .pre) (c .before .before .before .before .before .before .before .loop .inv) (omega arith) (c .before .before .put-line .ensures)
+
+same-length : tie.Need-same-length Inv-loop μ-loop
+same-length c = put-long (c .before .loop .inv .put)
+
+returns : tie.Need-returns Inv-loop μ-loop
+returns c = finished (c .before .loop .inv) (omega arith)
+
+pub put-lines-spec : {M : Type 1} → statement M
+put-lines-spec =
+    tie.close
+    (tie.spec
+    Inv-loop
+    μ-loop
+    loop-holds
+    add-to
+    shared-slice-read-put-line
+    sub-put-line
+    part-put-line-start
+    part-put-line-end
+    put-line-requires
+    add-p
+    loop-less
+    loop-again
+    same-length
+    returns)

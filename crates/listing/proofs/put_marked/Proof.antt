@@ -1,0 +1,25 @@
+-- `listing::put_marked` meets its contract: the compactor makes the marks.
+-- Assumes nothing.
+use borrow.Author.Needs.{needs}
+use Rattle.listing.proofs.Made.{marks-are}
+use Rattle.listing.proofs.put_marked.Statement.{statement}
+use Rattle.listing.proofs.put_marked.Tie as tie
+
+compact-requires : tie.Need-compact-requires
+compact-requires c κs = search needs
+
+put-lines-requires : tie.Need-put-lines-requires
+put-lines-requires c κs = search needs
+
+same-length : tie.Need-same-length
+same-length c = search needs
+
+same-length-2 : tie.Need-same-length-2
+same-length-2 c = search needs
+
+returns : tie.Need-returns
+returns c = let s = c .before .before .before .before .before .before .before .before .before .before .before .before in rw (← marks-are (s .pre .0) (s .pre .1) (c .before .before .before .before .before .before .before .compact .ensures)) (c .before .before .put-lines .ensures)
+
+pub put-marked-spec : {M : Type 1} → statement M
+put-marked-spec =
+    tie.close (tie.spec compact-requires put-lines-requires same-length same-length-2 returns)

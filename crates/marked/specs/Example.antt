@@ -1,0 +1,83 @@
+-- What a marked example claims: for each kind of claim the inputs, the expected answer, and what the definitions of the promises must give.
+-- Assumes nothing.
+use mathlib.Core.Path.{_≡_}
+use mathlib.Core.Logic.{_↔_}
+use mathlib.Core.List.{List, [], _∷_}
+use Prim.Native.Nat.{ℕ, suc, _*_}
+use lib.ListN.{replicate}
+use Rattle.ground.specs.Choose.{choose}
+use Rattle.answers.specs.declared.Ruling.{Ruling}
+use Rattle.answers.specs.Rules.{refusal, unless}
+use Rattle.circuit.specs.declared.Checked.{Checked}
+use Rattle.circuit.specs.Record.{linesOf, inputsOf}
+use Rattle.circuit.specs.Check.{checkOf}
+use Rattle.needs.specs.Needs as needs
+use Rattle.compact.specs.Compact.{compactRules}
+use Rattle.listing.specs.Listing.{outputOf}
+use Rattle.nodes.specs.declared.Verdict.{Verdict}
+use Rattle.search.specs.declared.Searched.the-variants as searched
+use Rattle.search.specs.Search.{searchRules, answered, verdictFor, testFor}
+use Rattle.cnf.specs.Lists.{gather}
+use Rattle.cnf.specs.Cnf.{Assignment, Clauses, Satisfies}
+use Rattle.clauses.specs.declared.Written.{Written}
+use Rattle.line_clauses.specs.Clauses.{variablesOf}
+use Rattle.clauses.specs.Promise.{clausesFor, wordsFor, writtenOf}
+
+pub data Example : Type 0 where
+  -- the check answers this of a circuit
+  check : List ℕ → Checked → Example
+  -- circuit, faults and patterns, and the whole text that the dictionary program prints
+  prints : List ℕ → List ℕ → List ℕ → List ℕ → Example
+  -- circuit, fault and budget; the verdict, and the test buffer afterwards
+  search : List ℕ → List ℕ → ℕ → Verdict → List ℕ → Example
+  -- numbers of faults and patterns, table; the marks, and the pairs of faults that are told apart
+  compact : ℕ → ℕ → List ℕ → List ℕ → List (List ℕ) → Example
+  -- circuit and fault; the clauses
+  clauses : List ℕ → List ℕ → Clauses → Example
+  -- circuit, fault and the number of lent words; the writer's answer
+  write : List ℕ → List ℕ → ℕ → Written → Example
+  -- circuit and fault; an assignment satisfies the words exactly if these are its true variables
+  solve : List ℕ → List ℕ → List ℕ → Example
+
+-- lent memory, as it was before: no entry, mark or value is 255, so that what a part leaves alone is seen
+abbrev pub lent : ℕ → List ℕ
+lent n = replicate n 255
+
+-- ---- the marks that the compactor leaves
+
+abbrev pub marksOf : ℕ → ℕ → List ℕ → List ℕ
+marksOf F P t = unless (refusal (compactRules F P t (lent P))) (lent P) (needs.compacted (needs.tableOf F t) F P)
+
+-- ---- the pairs told apart by some pattern of the whole table
+
+abbrev pub pairsOf : ℕ → ℕ → List ℕ → List (List ℕ)
+pairsOf F P t =
+    gather (λ g. gather (λ f. choose (needs.apart (needs.tableOf F t) P needs.whole f g) ((f ∷ g ∷ []) ∷ []) []) g) F
+
+-- ---- the search with buffers of the exact sizes
+
+abbrev pub searchRuling : List ℕ → List ℕ → Ruling
+searchRuling c f = refusal (searchRules c f (inputsOf c) (2 * linesOf c))
+
+-- ---- the variables that an assignment makes true, of 1 to v
+
+abbrev pub trueTo : ℕ → Assignment → List ℕ
+trueTo v σ = gather (λ k. choose (σ (suc k)) (suc k ∷ []) []) v
+
+-- ---- what the definitions must give
+
+abbrev pub Holds : Example → Type 0
+Holds (Example.check c r) = checkOf c ≡ r
+Holds (Example.prints c fs ps text) = outputOf c fs ps ≡ text
+Holds (Example.search c f b v t) =
+    (answered (searchRuling c f) (verdictFor c f b) ≡ searched.Verdict v)
+    × (unless (searchRuling c f) (lent (inputsOf c)) (testFor c f b (lent (inputsOf c))) ≡ t)
+Holds (Example.compact F P t m pairs) = (marksOf F P t ≡ m) × (pairsOf F P t ≡ pairs)
+Holds (Example.clauses c f cs) = clausesFor c f ≡ cs
+Holds (Example.write c f room r) = writtenOf c f room ≡ r
+Holds (Example.solve c f vs) = (σ : Assignment) → Satisfies σ (wordsFor c f) ↔ (trueTo (variablesOf c (linesOf c)) σ ≡ vs)
+
+-- every example of a list
+abbrev pub AllHold : List Example → Type 0
+AllHold [] = Unit
+AllHold (x ∷ l) = Holds x × AllHold l

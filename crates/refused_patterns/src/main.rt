@@ -1,0 +1,4 @@
+// The dictionary program on example A with a pattern byte above 2.
+fn main() {
+    program::run();
+}
