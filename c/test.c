@@ -1,0 +1,251 @@
+/* The entries through the header, as C calls them: a table of cases for each, and what an answer area of another size does. */
+#include "ullimaqsu.h"
+int printf(const char *, ...);
+
+static int failures;
+
+static void expect(int holds, const char *what) {
+    if (!holds) failures++, printf("C test: FAILED: %s\n", what);
+}
+
+/* The k-th number of an answer. */
+static uint64_t number(const uint8_t *answer, int k) {
+    uint64_t n = 0;
+    for (int i = 7; i >= 0; i--) n = n << 8 | answer[8 * k + i];
+    return n;
+}
+
+static int answers(const uint8_t *answer, const uint64_t *numbers) {
+    for (int k = 0; k < 4; k++)
+        if (number(answer, k) != numbers[k]) return 0;
+    return 1;
+}
+
+/* What memory that is not written holds. */
+#define JUNK 0xee
+
+static void fill(uint8_t *at, size_t len) {
+    for (size_t k = 0; k < len; k++) at[k] = JUNK;
+}
+
+static int stays(const uint8_t *at, size_t len) {
+    for (size_t k = 0; k < len; k++)
+        if (at[k] != JUNK) return 0;
+    return 1;
+}
+
+static int same(const uint8_t *a, const uint8_t *b, size_t len) {
+    for (size_t k = 0; k < len; k++)
+        if (a[k] != b[k]) return 0;
+    return 1;
+}
+
+#define INPUT 0, 0, 0, 0, 0, 0, 0, 0
+#define EIGHT_INPUTS INPUT, INPUT, INPUT, INPUT, INPUT, INPUT, INPUT, INPUT
+#define OUTPUT_OF(line) 1, 1, line, 0, 0, 0, 0, 0
+
+static const uint8_t
+    example_a[] = {INPUT, INPUT, INPUT, 3, 0, 0, 0, 1, 0, 0, 0, 5, 1, 3, 0, 2, 0, 0, 0},
+    first_is_a_buffer[] = {1, 1, 0, 0, 0, 0, 0, 0},
+    reads_itself[] = {INPUT, INPUT, 2, 1, 2, 0, 0, 0, 0, 0},
+    no_output[] = {INPUT, 2, 0, 0, 0, 0, 0, 0, 0},
+    inputs_64[] = {EIGHT_INPUTS, EIGHT_INPUTS, EIGHT_INPUTS, EIGHT_INPUTS, EIGHT_INPUTS, EIGHT_INPUTS, EIGHT_INPUTS, EIGHT_INPUTS, OUTPUT_OF(63)},
+    inputs_65[] = {EIGHT_INPUTS, EIGHT_INPUTS, EIGHT_INPUTS, EIGHT_INPUTS, EIGHT_INPUTS, EIGHT_INPUTS, EIGHT_INPUTS, EIGHT_INPUTS, INPUT, OUTPUT_OF(64)};
+
+static const struct {
+    const char *name;
+    const uint8_t *circuit;
+    size_t len;
+    uint32_t returned;
+    uint64_t numbers[4];
+} checks[] = {
+    {"example A", example_a, sizeof example_a, 0, {5, 3, 1, 0}},
+    {"64 inputs", inputs_64, sizeof inputs_64, 0, {65, 64, 1, 0}},
+    {"no circuit at all", 0, 0, 1, {0, 0, 0, 0}},
+    {"seven bytes", example_a, 7, 1, {0, 0, 0, 0}},
+    {"line 0 is a buffer", first_is_a_buffer, sizeof first_is_a_buffer, 2, {0, 0, 0, 0}},
+    {"a line reads itself", reads_itself, sizeof reads_itself, 2, {2, 0, 0, 0}},
+    {"65 inputs", inputs_65, sizeof inputs_65, 4, {0, 0, 0, 0}},
+    {"65 inputs and no output", inputs_65, 65 * 8, 4, {0, 0, 0, 0}},
+    {"no output", no_output, sizeof no_output, 5, {0, 0, 0, 0}},
+};
+
+static void test_check(void) {
+    for (size_t i = 0; i < sizeof checks / sizeof *checks; i++) {
+        uint8_t area[34];
+        fill(area, sizeof area);
+        uint32_t returned = ullimaqsu_check(checks[i].circuit, checks[i].len, area + 1, 32);
+        expect(returned == checks[i].returned && answers(area + 1, checks[i].numbers), checks[i].name);
+        expect(stays(area, 1) && stays(area + 33, 1), "the bytes around the answer area stay");
+    }
+}
+
+static void test_areas(void) {
+    for (size_t len = 0; len <= 40; len++) {
+        uint8_t area[40];
+        fill(area, sizeof area);
+        uint32_t returned = ullimaqsu_check(example_a, sizeof example_a, len ? area : 0, len);
+        expect(returned == (len == 32 ? 0 : 10), "an area of another size is refused");
+        expect(len == 32 || stays(area, sizeof area), "an area of another size stays");
+    }
+}
+
+static const uint8_t
+    faults[] = {3, 0, 0, 0, 0, 0, 0, 0, 3, 0, 0, 1, 0, 0, 0, 0, 2, 0, 0, 1, 0, 0, 0, 0, 0, 0, 0, 0, 0, 0, 0, 0},
+    patterns[] = {1, 1, 0, 0, 1, 0, 0, 2, 0, 2, 1, 0},
+    table_of_a[] = {1, 0, 0, 1, 0, 1, 1, 0, 0, 1, 1, 0, 2, 2, 2, 2},
+    work_of_a[] = {2, 1, 0, 2, 2, 0, 1, 0, 0, 0};
+
+/* Example A, with other lengths. */
+static const struct {
+    const char *name;
+    size_t circuit, faults, patterns, table, work;
+    uint32_t returned;
+} dictionaries[] = {
+    {"dictionary of example A", 40, 32, 12, 16, 10, 0},
+    {"seven bytes of a circuit, and nothing else right", 7, 31, 11, 15, 9, 1},
+    {"inputs alone, and nothing else right", 24, 31, 11, 15, 9, 5},
+    {"part of a fault, and nothing after it right", 40, 31, 11, 15, 9, 6},
+    {"no faults", 40, 0, 12, 0, 10, 6},
+    {"part of a pattern, and nothing after it right", 40, 32, 11, 15, 9, 8},
+    {"no patterns", 40, 32, 0, 0, 10, 8},
+    {"a table too small", 40, 32, 12, 15, 10, 10},
+    {"a table too large", 40, 32, 12, 17, 10, 10},
+    {"a work memory too small", 40, 32, 12, 16, 9, 10},
+    {"a work memory too large", 40, 32, 12, 16, 11, 10},
+};
+
+static void test_dictionary(void) {
+    static const uint64_t none[4];
+    for (size_t i = 0; i < sizeof dictionaries / sizeof *dictionaries; i++) {
+        uint8_t table[20], work[20], area[32];
+        fill(table, sizeof table), fill(work, sizeof work);
+        uint32_t returned = ullimaqsu_dictionary(example_a, dictionaries[i].circuit, faults, dictionaries[i].faults, patterns,
+                                                 dictionaries[i].patterns, table, dictionaries[i].table, work, dictionaries[i].work, area, 32);
+        size_t made = returned ? 0 : sizeof table_of_a, worked = returned ? 0 : sizeof work_of_a;
+        expect(returned == dictionaries[i].returned && answers(area, none), dictionaries[i].name);
+        expect(same(table, table_of_a, made) && stays(table + made, sizeof table - made), "the table is filled, and nothing else");
+        expect(same(work, work_of_a, worked) && stays(work + worked, sizeof work - worked), "the work memory is filled, and nothing else");
+    }
+}
+
+/* Example A's table, with other counts and lengths; where a byte is bad, it is this one. */
+static const struct {
+    const char *name;
+    uint64_t faults, patterns;
+    size_t table, marks;
+    int bad;
+    uint32_t returned;
+    uint64_t place;
+} compactions[] = {
+    {"compaction of example A", 4, 4, 16, 4, -1, 0, 0},
+    {"no faults", 0, 4, 0, 4, -1, 12, 0},
+    {"257 patterns", 1, 257, 257, 257, -1, 12, 0},
+    {"counts whose product is 0 in 64 bits", (uint64_t)1 << 32, (uint64_t)1 << 32, 0, 0, -1, 12, 0},
+    {"a table too small, and nothing after it right", 4, 4, 15, 3, 7, 12, 0},
+    {"an entry above 2, and too few marks", 4, 4, 16, 3, 7, 13, 7},
+    {"too few marks", 4, 4, 16, 3, -1, 10, 0},
+    {"too many marks", 4, 4, 16, 5, -1, 10, 0},
+};
+
+static void test_compact(void) {
+    static const uint8_t marks_of_a[] = {1, 1, 0, 0};
+    for (size_t i = 0; i < sizeof compactions / sizeof *compactions; i++) {
+        uint8_t table[257] = {0}, marks[257], area[32];
+        const uint64_t numbers[4] = {compactions[i].place};
+        for (size_t k = 0; k < sizeof table_of_a; k++) table[k] = table_of_a[k];
+        if (compactions[i].bad >= 0) table[compactions[i].bad] = 3;
+        fill(marks, sizeof marks);
+        uint32_t returned = ullimaqsu_compact(compactions[i].faults, compactions[i].patterns, table, compactions[i].table, marks,
+                                              compactions[i].marks, area, 32);
+        size_t marked = returned ? 0 : sizeof marks_of_a;
+        expect(returned == compactions[i].returned && answers(area, numbers), compactions[i].name);
+        expect(same(marks, marks_of_a, marked) && stays(marks + marked, sizeof marks - marked), "the marks are set, and nothing else");
+    }
+}
+
+/* Example A and the circuit whose output is always 0, for one of these faults, with other lengths. */
+static const uint8_t always_0[] = {INPUT, 2, 0, 0, 0, 0, 0, 0, 0, 3, 1, 0, 0, 1, 0, 0, 0};
+static const uint8_t line_3_at_1[] = {3, 0, 0, 1, 0, 0, 0, 0}, line_3_at_0[] = {3, 0, 0, 0, 0, 0, 0, 0}, line_2_at_0[] = {2, 0, 0, 0, 0, 0, 0, 0};
+static const struct {
+    const char *name;
+    const uint8_t *circuit;
+    size_t circuit_len;
+    const uint8_t *fault;
+    size_t fault_len;
+    uint64_t budget;
+    size_t test, work;
+    uint32_t returned;
+    uint64_t numbers[4];
+    uint8_t found[3];
+} searches[] = {
+    {"A, line 3 stuck at 1", example_a, 40, line_3_at_1, 8, 4, 3, 10, 0, {0, 4, 0, 0}, {0, 0, 0}},
+    {"A, line 3 stuck at 1, budget 3", example_a, 40, line_3_at_1, 8, 3, 3, 10, 0, {2, 3, 0, 0}, {JUNK, JUNK, JUNK}},
+    {"A, line 3 stuck at 0", example_a, 40, line_3_at_0, 8, (uint64_t)-1, 3, 10, 0, {0, 14, 0, 0}, {1, 1, 0}},
+    {"always 0, stuck at 0", always_0, 24, line_2_at_0, 8, 3, 1, 6, 0, {1, 3, 0, 0}, {JUNK, JUNK, JUNK}},
+    {"always 0, stuck at 0, budget 2", always_0, 24, line_2_at_0, 8, 2, 1, 6, 0, {2, 2, 0, 0}, {JUNK, JUNK, JUNK}},
+    {"always 0, stuck at 0, budget 0", always_0, 24, line_2_at_0, 8, 0, 1, 6, 0, {2, 0, 0, 0}, {JUNK, JUNK, JUNK}},
+    {"no output, and nothing else right", example_a, 24, line_3_at_1, 7, 9, 2, 9, 5, {0, 0, 0, 0}, {JUNK, JUNK, JUNK}},
+    {"two faults", example_a, 40, faults, 16, 9, 3, 10, 6, {0, 0, 0, 0}, {JUNK, JUNK, JUNK}},
+    {"no such line, and no lent memory", always_0, 24, line_3_at_1, 8, 9, 0, 0, 7, {0, 0, 0, 0}, {JUNK, JUNK, JUNK}},
+    {"a test buffer too small", example_a, 40, line_3_at_1, 8, 9, 2, 10, 10, {0, 0, 0, 0}, {JUNK, JUNK, JUNK}},
+    {"a work memory too large", example_a, 40, line_3_at_1, 8, 9, 3, 11, 10, {0, 0, 0, 0}, {JUNK, JUNK, JUNK}},
+};
+
+static void test_search(void) {
+    for (size_t i = 0; i < sizeof searches / sizeof *searches; i++) {
+        uint8_t test[4], work[12], area[32];
+        fill(test, sizeof test), fill(work, sizeof work);
+        uint32_t returned = ullimaqsu_search(searches[i].circuit, searches[i].circuit_len, searches[i].fault, searches[i].fault_len,
+                                             searches[i].budget, test, searches[i].test, work, searches[i].work, area, 32);
+        size_t worked = returned || searches[i].budget == 0 ? 0 : searches[i].work;
+        expect(returned == searches[i].returned && answers(area, searches[i].numbers), searches[i].name);
+        expect(same(test, searches[i].found, 3) && stays(test + 3, 1), "the test buffer is written for a test alone");
+        expect(stays(work + worked, sizeof work - worked), "nothing but the work memory is written");
+        for (size_t k = 0; k < worked; k++) expect(work[k] <= 2, "the work memory holds values");
+    }
+}
+
+/* Line 0 input, 1 = NOT 0 output, line 1 stuck at 0, with other lengths. */
+static const uint8_t inverter[] = {INPUT, 2, 1, 0, 0, 0, 0, 0, 0}, line_1_at_0[] = {1, 0, 0, 0, 0, 0, 0, 0};
+static const int32_t words_of_inverter[] = {
+    -3, -1, 0, 3, 1, 0, -5, 0, -2, 1, 0, 2, -1, 0, -4, 5, 0, 4, -5, 0,
+    -6, 3, 4, 0, -6, -3, -4, 0, 6, -3, 4, 0, 6, 3, -4, 0, 6, 0,
+};
+static const struct {
+    const char *name;
+    size_t circuit, fault, words;
+    uint32_t returned;
+    uint64_t numbers[4];
+} clause_lists[] = {
+    {"clauses of an inverter", 16, 8, 38, 0, {38, 12, 6, 0}},
+    {"clauses of an inverter, and room to spare", 16, 8, 40, 0, {38, 12, 6, 0}},
+    {"37 words", 16, 8, 37, 11, {38, 0, 0, 0}},
+    {"no words", 16, 8, 0, 11, {38, 0, 0, 0}},
+    {"part of a circuit, and nothing else right", 15, 7, 0, 1, {0, 0, 0, 0}},
+    {"part of a fault, and no words", 16, 7, 0, 6, {0, 0, 0, 0}},
+};
+
+static void test_clauses(void) {
+    for (size_t i = 0; i < sizeof clause_lists / sizeof *clause_lists; i++) {
+        int32_t words[42];
+        uint8_t area[32];
+        for (size_t k = 0; k < 42; k++) words[k] = JUNK;
+        uint32_t returned = ullimaqsu_clauses(inverter, clause_lists[i].circuit, line_1_at_0, clause_lists[i].fault, words,
+                                              clause_lists[i].words, area, 32);
+        expect(returned == clause_lists[i].returned && answers(area, clause_lists[i].numbers), clause_lists[i].name);
+        for (size_t k = 0; k < 42; k++)
+            expect(words[k] == (returned || k >= 38 ? JUNK : words_of_inverter[k]), "the clauses are written, and nothing else");
+    }
+}
+
+int main(void) {
+    test_check();
+    test_areas();
+    test_dictionary();
+    test_compact();
+    test_search();
+    test_clauses();
+    printf("C test: %s\n", failures ? "FAILED" : "ok");
+    return failures != 0;
+}

@@ -1,0 +1,44 @@
+-- From a part's report to the promise of its entry; and that a promise allows one result only.
+-- Assumes nothing.
+use mathlib.Core.Path.{_≡_, sym, _∙_}
+use mathlib.Core.Bool.{true, false}
+use mathlib.Core.List.{List}
+use Prim.Native.Nat.{ℕ}
+use lib.Dec.{eqb}
+use lib.IntN.{ℤ}
+use lib.ListN.{length}
+use Rattle.answers.specs.Area.{Numbers, Reported, Entered}
+use Rattle.entries.specs.Entries.{Made, Compacted, Found, Laid}
+
+-- an area of another size: 10, and it stays
+pub other-size : {a : List ℕ} (answer : Numbers) → eqb (length a) 32 ≡ false → Entered a answer 10 a
+other-size answer e = record { number = rw e; bytes = rw e }
+
+-- an area of 32 bytes: what was reported, of an answer with the numbers that are promised
+pub reported : {a : List ℕ} {found : Numbers} (answer : Numbers) {r : ℕ} {a′ : List ℕ}
+    → eqb (length a) 32 ≡ true
+    → found ≡ answer
+    → Reported found r a′
+    → Entered a answer r a′
+reported answer e q p = record { number = rw (e, ← q) (p .number); bytes = rw (e, ← q) (p .bytes) }
+
+-- ---- one result
+
+pub one-return : {a : List ℕ} {answer : Numbers} {r s : ℕ} {a′ b′ : List ℕ} → Entered a answer r a′ → Entered a answer s b′ → (r ≡ s) × (a′ ≡ b′)
+one-return p q = (p .number ∙ sym (q .number), p .bytes ∙ sym (q .bytes))
+
+module _ {c fs ps t w a : List ℕ} {r s : ℕ} {t₁ w₁ a₁ t₂ w₂ a₂ : List ℕ} where
+  pub one-made : Made c fs ps t w a r t₁ w₁ a₁ → Made c fs ps t w a s t₂ w₂ a₂ → (r ≡ s) × (t₁ ≡ t₂) × (w₁ ≡ w₂) × (a₁ ≡ a₂)
+  one-made p q = let o = one-return (p .answer) (q .answer) in (o .0, p .table ∙ sym (q .table), p .work ∙ sym (q .work), o .1)
+
+module _ {F P : ℕ} {t m a : List ℕ} {r s : ℕ} {m₁ a₁ m₂ a₂ : List ℕ} where
+  pub one-compacted : Compacted F P t m a r m₁ a₁ → Compacted F P t m a s m₂ a₂ → (r ≡ s) × (m₁ ≡ m₂) × (a₁ ≡ a₂)
+  one-compacted p q = let o = one-return (p .answer) (q .answer) in (o .0, p .marks ∙ sym (q .marks), o .1)
+
+module _ {c f : List ℕ} {b : ℕ} {t w a : List ℕ} {r s : ℕ} {t₁ w₁ a₁ t₂ w₂ a₂ : List ℕ} where
+  pub one-found : Found c f b t w a r t₁ w₁ a₁ → Found c f b t w a s t₂ w₂ a₂ → (r ≡ s) × (t₁ ≡ t₂) × (w₁ ≡ w₂) × (a₁ ≡ a₂)
+  one-found p q = let o = one-return (p .answer) (q .answer) in (o .0, p .test ∙ sym (q .test), p .work ∙ sym (q .work), o .1)
+
+module _ {c f : List ℕ} {w : List ℤ} {a : List ℕ} {r s : ℕ} {w₁ : List ℤ} {a₁ : List ℕ} {w₂ : List ℤ} {a₂ : List ℕ} where
+  pub one-laid : Laid c f w a r w₁ a₁ → Laid c f w a s w₂ a₂ → (r ≡ s) × (w₁ ≡ w₂) × (a₁ ≡ a₂)
+  one-laid p q = let o = one-return (p .answer) (q .answer) in (o .0, p .words ∙ sym (q .words), o .1)

@@ -1,0 +1,53 @@
+-- What the C entries promise: the answer in numbers, and what lent memory holds afterwards.
+-- With an answer area of another size than 32 bytes nothing is written at all (`entered`).
+-- Assumes nothing.
+use mathlib.Core.Path.{_≡_}
+use mathlib.Core.List.{List}
+use Prim.Native.Nat.{ℕ}
+use lib.IntN.{ℤ}
+use lib.ListN.{length}
+use Rattle.answers.specs.Rules.{refusal, unless}
+use Rattle.answers.specs.Area.{Numbers, success, told, done, Entered, entered}
+use Rattle.circuit.specs.Record.{linesOf, inputsOf, outputsOf}
+use Rattle.circuit.specs.Check.{circuitRules}
+use Rattle.rows.specs.Table.{tableOf, workOf}
+use Rattle.dictionary.specs.Dictionary.{dictionaryRules}
+use Rattle.entries.specs.declared.Reply.{Reply}
+use Rattle.needs.specs.Needs as needs
+use Rattle.compact.specs.Compact.{compactRules}
+use Rattle.search.specs.Search.{searchRules, verdictFor, testFor, workFor, verdictNumbers}
+use Rattle.line_clauses.specs.Clauses.{variablesOf}
+use Rattle.clauses.specs.Promise.{clauseRules, clausesFor, wordsFor, laidOn}
+
+-- a reply in the paper's numbers
+abbrev pub numbersIn : Reply → Numbers
+numbersIn r = record { number = r .number; values = record { first = r .first; second = r .second; third = r .third; fourth = 0 } }
+
+-- the circuit check: lines, inputs, outputs
+abbrev pub checkNumbers : List ℕ → Numbers
+checkNumbers c = told (refusal (circuitRules c)) (success (linesOf c) (inputsOf c) (outputsOf c))
+
+-- the dictionary maker: done; the table t and the work memory w, lent with the answer area a, become t′ and w′
+pub record Made (c fs ps t w a : List ℕ) (r : ℕ) (t′ w′ a′ : List ℕ) : Type 0 where
+  pub answer : Entered a (told (refusal (dictionaryRules c fs ps t w)) done) r a′
+  pub table : t′ ≡ entered a t (unless (refusal (dictionaryRules c fs ps t w)) t (tableOf c (linesOf c) (inputsOf c) fs ps))
+  pub work : w′ ≡ entered a w (unless (refusal (dictionaryRules c fs ps t w)) w (workOf c (linesOf c) (inputsOf c) fs ps))
+
+-- the compactor: done; the marks m, lent with the answer area a, become m′
+pub record Compacted (F P : ℕ) (t m a : List ℕ) (r : ℕ) (m′ a′ : List ℕ) : Type 0 where
+  pub answer : Entered a (told (refusal (compactRules F P t m)) done) r a′
+  pub marks : m′ ≡ entered a m (unless (refusal (compactRules F P t m)) m (needs.compacted (needs.tableOf F t) F P))
+
+-- the test search: outcome and nodes; the test buffer t and the work memory w become t′ and w′
+pub record Found (c f : List ℕ) (b : ℕ) (t w a : List ℕ) (r : ℕ) (t′ w′ a′ : List ℕ) : Type 0 where
+  pub answer : Entered a (told (refusal (searchRules c f (length t) (length w))) (verdictNumbers (verdictFor c f b))) r a′
+  pub test : t′ ≡ entered a t (unless (refusal (searchRules c f (length t) (length w))) t (testFor c f b t))
+  pub work : w′ ≡ entered a w (unless (refusal (searchRules c f (length t) (length w))) w (workFor c f b w))
+
+-- the clause writer: words, clauses and variables; the words w become w′
+pub record Laid (c f : List ℕ) (w : List ℤ) (a : List ℕ) (r : ℕ) (w′ : List ℤ) (a′ : List ℕ) : Type 0 where
+  pub answer :
+      Entered a
+      (told (refusal (clauseRules c f (length w))) (success (length (wordsFor c f)) (length (clausesFor c f)) (variablesOf c (linesOf c))))
+      r a′
+  pub words : w′ ≡ entered a w (unless (refusal (clauseRules c f (length w))) w (laidOn w (wordsFor c f)))

@@ -1,0 +1,199 @@
+// What C calls: each entry takes a slice as a pointer and a length, checks the answer area, calls its part and reports the answer.
+use answers::Ruling;
+use answers::put_numbers;
+use circuit::Checked;
+use circuit::check;
+use clauses::Written;
+use clauses::clauses;
+use compact::compact;
+use dictionary::dictionary;
+use nodes::Verdict;
+use search::Searched;
+use search::search;
+ghost use mathlib.Core.Path.{_≡_};
+ghost use lib.ListN.{length};
+ghost use Rattle.answers.specs.Area.{refusedAt, told, done, Reported, Entered};
+ghost use Rattle.answers.specs.Area as answering;
+ghost use Rattle.circuit.specs.Check.{numbersOf};
+ghost use Rattle.search.specs.Search.{verdictNumbers};
+ghost use Rattle.search.specs.Search as searching;
+ghost use Rattle.clauses.specs.Promise as writing;
+ghost use Rattle.entries.specs.Entries.{numbersIn, checkNumbers, Made, Compacted, Found, Laid};
+
+// The size of the answer area, and the refusal of any other.
+const AREA: usize = 32;
+
+const OTHER_SIZE: u32 = 10;
+
+// An answer in numbers: the refusal's number or 0, and three values. The fourth value of the area is always 0.
+struct Reply {
+    number: u32,
+    first: u64,
+    second: u64,
+    third: u64,
+}
+
+// ---- each part's answer in numbers
+
+fn success(first: u64, second: u64, third: u64) -> Reply
+    ensures { λ r. ⌜ numbersIn r ≡ answering.success first second third ⌝ }
+{
+    Reply {
+        number: 0,
+        first,
+        second,
+        third,
+    }
+}
+
+fn refused(number: u32, place: usize) -> Reply
+    ensures { λ r. ⌜ numbersIn r ≡ refusedAt number place ⌝ }
+{
+    Reply {
+        number,
+        first: place as u64,
+        second: 0,
+        third: 0,
+    }
+}
+
+fn of_ruling(v: Ruling) -> Reply
+    ensures { λ r. ⌜ numbersIn r ≡ told v done ⌝ }
+{
+    match v {
+        Ruling::Fine => success(0, 0, 0),
+        Ruling::Refused(number, place) => refused(number, place),
+    }
+}
+
+fn of_checked(v: Checked) -> Reply
+    ensures { λ r. ⌜ numbersIn r ≡ numbersOf v ⌝ }
+{
+    match v {
+        Checked::Accepted(n, inputs, outputs) => success(n as u64, inputs as u64, outputs as u64),
+        Checked::Refused(number, place) => refused(number, place),
+    }
+}
+
+fn of_verdict(v: Verdict) -> Reply
+    ensures { λ r. ⌜ numbersIn r ≡ verdictNumbers v ⌝ }
+{
+    match v {
+        Verdict::Test(nodes) => success(0, nodes, 0),
+        Verdict::Redundant(nodes) => success(1, nodes, 0),
+        Verdict::GivenUp(nodes) => success(2, nodes, 0),
+    }
+}
+
+fn of_searched(v: Searched) -> Reply
+    ensures { λ r. ⌜ numbersIn r ≡ searching.numbersOf v ⌝ }
+{
+    match v {
+        Searched::Verdict(found) => of_verdict(found),
+        Searched::Refused(number, place) => refused(number, place),
+    }
+}
+
+fn of_written(v: Written) -> Reply
+    ensures { λ r. ⌜ numbersIn r ≡ writing.numbersOf v ⌝ }
+{
+    match v {
+        Written::Success(words, clauses, variables) => success(
+            words as u64,
+            clauses as u64,
+            variables as u64,
+        ),
+        Written::Refused(number, place) => refused(number, place),
+    }
+}
+
+// The number is returned, the values are the area's bytes.
+fn report(reply: Reply, area: &mut [u8]) -> u32
+    requires { ⌜ length (now area) ≡ 32 ⌝ }
+    ensures { λ r. ⌜ Reported (numbersIn reply) r (now (area .exit)) ⌝ }
+{
+    put_numbers(area, reply.first, reply.second, reply.third, 0);
+    reply.number
+}
+
+// ---- the entries
+
+#[no_mangle]
+pub extern "C" fn ullimaqsu_check(circuit: &[u8], answer: &mut [u8]) -> u32
+    ensures { λ r. ⌜ Entered (now (answer .entry)) (checkNumbers (now (circuit .entry))) r (now (answer .exit)) ⌝ }
+{
+    if answer.len() != AREA {
+        return OTHER_SIZE;
+    }
+    let v = check(circuit);
+    report(of_checked(v), answer)
+}
+
+#[no_mangle]
+pub extern "C" fn ullimaqsu_dictionary(
+    circuit: &[u8],
+    faults: &[u8],
+    patterns: &[u8],
+    table: &mut [u8],
+    work: &mut [u8],
+    answer: &mut [u8],
+) -> u32
+    ensures { λ r. ⌜ Made (now (circuit .entry)) (now (faults .entry)) (now (patterns .entry)) (now (table .entry)) (now (work .entry)) (now (answer .entry)) r (now (table .exit)) (now (work .exit)) (now (answer .exit)) ⌝ }
+{
+    if answer.len() != AREA {
+        return OTHER_SIZE;
+    }
+    let v = dictionary(circuit, faults, patterns, table, work);
+    report(of_ruling(v), answer)
+}
+
+#[no_mangle]
+pub extern "C" fn ullimaqsu_compact(
+    fault_count: u64,
+    pattern_count: u64,
+    table: &[u8],
+    marks: &mut [u8],
+    answer: &mut [u8],
+) -> u32
+    ensures { λ r. ⌜ Compacted «fault_count» «pattern_count» (now (table .entry)) (now (marks .entry)) (now (answer .entry)) r (now (marks .exit)) (now (answer .exit)) ⌝ }
+{
+    if answer.len() != AREA {
+        return OTHER_SIZE;
+    }
+    let v = compact(fault_count, pattern_count, table, marks);
+    report(of_ruling(v), answer)
+}
+
+#[no_mangle]
+pub extern "C" fn ullimaqsu_search(
+    circuit: &[u8],
+    fault: &[u8],
+    budget: u64,
+    test: &mut [u8],
+    work: &mut [u8],
+    answer: &mut [u8],
+) -> u32
+    ensures { λ r. ⌜ Found (now (circuit .entry)) (now (fault .entry)) budget (now (test .entry)) (now (work .entry)) (now (answer .entry)) r (now (test .exit)) (now (work .exit)) (now (answer .exit)) ⌝ }
+{
+    if answer.len() != AREA {
+        return OTHER_SIZE;
+    }
+    let v = search(circuit, fault, budget, test, work);
+    report(of_searched(v), answer)
+}
+
+#[no_mangle]
+pub extern "C" fn ullimaqsu_clauses(
+    circuit: &[u8],
+    fault: &[u8],
+    words: &mut [i32],
+    answer: &mut [u8],
+) -> u32
+    ensures { λ r. ⌜ Laid (now (circuit .entry)) (now (fault .entry)) (now (words .entry)) (now (answer .entry)) r (now (words .exit)) (now (answer .exit)) ⌝ }
+{
+    if answer.len() != AREA {
+        return OTHER_SIZE;
+    }
+    let v = clauses(circuit, fault, words);
+    report(of_written(v), answer)
+}

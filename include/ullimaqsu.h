@@ -1,0 +1,136 @@
+/* Ullimaqsu: proved test tools for combinational circuits and single stuck-at faults, for C99 and C++.
+ *
+ * Link with the archive libentries.a. Every entry is total: it takes any bytes of any length, answers what is described here and
+ * nothing else, keeps no state and writes nothing but what it was lent.
+ *
+ * Conventions
+ *
+ *   A slice is a pointer and then its length in elements. A slice of length 0 may have any pointer, NULL too. Slices do not overlap.
+ *   What is read comes first, then lent memory, then the answer area.
+ *   Numbers in records are little-endian, and so are the numbers of the answer.
+ *
+ *   Every entry returns 0, or the number of the refusal. The answer area is 32 bytes, four numbers of eight bytes each:
+ *       after 0           the numbers named at the entry, then zeros;
+ *       after a refusal   the place of what is wrong, then zeros. A refusal writes nothing else.
+ *   An area of another size returns 10 before every other check, and nothing at all is written.
+ *
+ * Circuit
+ *
+ *   1 to 2,048 records of 8 bytes, one a line; a line's number is its record's place, from 0. 1 to 64 lines are inputs.
+ *       byte 0       kind: 0 input, 1 buffer, 2 NOT, 3 AND, 4 NAND, 5 OR, 6 NOR, 7 XOR, 8 XNOR
+ *       byte 1       1 if the line is an output, else 0
+ *       bytes 2-3    first source, bytes 4-5 second source: lower than the line itself, or 0 where the kind has no such source
+ *       bytes 6-7    zero
+ *
+ * Fault
+ *
+ *   A record of 8 bytes. A fault on the line shows wherever the line is read and at the output if it is one; a fault on a pin is seen by
+ *   that gate alone.
+ *       bytes 0-1    line
+ *       byte 2       site: 0 the line itself, 1 its first pin, 2 its second pin; the kind must have that pin
+ *       byte 3       the stuck value, 0 or 1
+ *       bytes 4-7    zero
+ *
+ * Pattern, values and table
+ *
+ *   A pattern has one byte for each input, in line order: 0, 1, or 2 for X. Values of lines are written in the same way.
+ *   A table has one row for each pattern and, in the row, one byte for each fault:
+ *       1 fail       at some output both circuits have known values and these differ: every filling of the X's detects the fault
+ *       0 pass       at every output both are known and equal: no filling does
+ *       2 unknown    otherwise
+ *
+ * Refusals, in the order in which they are checked; the first that applies is given, with the lowest place
+ *
+ *   no.   when                                                               place
+ *    1    circuit not a multiple of 8 bytes, empty, or above 2,048 records   0
+ *    2    a circuit record breaks its layout                                 the line
+ *    3    no input                                                           0
+ *    4    more than 64 inputs                                                0
+ *    5    no output                                                          0
+ *    6    faults not a multiple of 8 bytes, empty, or above 256 records;     0
+ *         for search and clauses not 8 bytes
+ *    7    a fault record breaks its layout or names no line                  the record
+ *    8    patterns not a multiple of the inputs, empty, or above 256         0
+ *    9    a pattern byte above 2                                             the byte
+ *   10    a lent buffer not of its exact size                                0
+ *   11    the clauses do not fit the lent words                              the words needed
+ *   12    a count of faults or patterns outside 1 to 256, or a table that    0
+ *         is not of their product
+ *   13    a table byte above 2                                               the byte
+ *
+ *   The compactor checks 12 and 13 before the size of the marks.
+ */
+#ifndef ULLIMAQSU_H
+#define ULLIMAQSU_H
+
+#if __STDC_HOSTED__
+#include <stddef.h>
+#include <stdint.h>
+#else /* a freestanding compiler may have no headers at hand */
+typedef __SIZE_TYPE__ size_t;
+typedef __UINT8_TYPE__ uint8_t;
+typedef __UINT32_TYPE__ uint32_t;
+typedef __INT32_TYPE__ int32_t;
+typedef __UINT64_TYPE__ uint64_t;
+#endif
+
+#ifdef __cplusplus
+extern "C" {
+#endif
+
+/* The circuit check. Refusals 1 to 5.
+   Answer: the numbers of lines, inputs and outputs. */
+uint32_t ullimaqsu_check(const uint8_t *circuit, size_t circuit_len,
+                         uint8_t *answer, size_t answer_len);
+
+/* The dictionary maker. Refusals 1 to 10. N is the number of lines.
+   Fills the table, one entry for each pattern and fault: its size is exactly faults times patterns. The work memory, exactly 2 N bytes, then
+   holds the good and after them the faulty values of all lines, of the last pattern with the last fault.
+   Answer: nothing but that it is done. */
+uint32_t ullimaqsu_dictionary(const uint8_t *circuit, size_t circuit_len,
+                              const uint8_t *faults, size_t faults_len,
+                              const uint8_t *patterns, size_t patterns_len,
+                              uint8_t *table, size_t table_len,
+                              uint8_t *work, size_t work_len,
+                              uint8_t *answer, size_t answer_len);
+
+/* The compactor. Refusals 12, 13, then 10.
+   The needs of the whole table are that each detected fault stays detected, and that each pair of detected faults told apart, one failing
+   and the other passing under some pattern, stays told apart. From the last pattern to the first, a pattern is dropped exactly if those
+   still kept without it meet every need. Marks, one byte for each pattern: 1 kept, 0 dropped.
+   Answer: nothing but that it is done. */
+uint32_t ullimaqsu_compact(uint64_t fault_count, uint64_t pattern_count,
+                           const uint8_t *table, size_t table_len,
+                           uint8_t *marks, size_t marks_len,
+                           uint8_t *answer, size_t answer_len);
+
+/* The test search, for one fault. Refusals 1 to 7 and 10. N is the number of lines, n of inputs.
+   A node is a pattern; the first is all X. A node that fails is the test. One at which every output is known in both circuits and equal
+   is left. At any other the first X is set to 0 and, when that side is finished, to 1. The budget is the most nodes that are looked at:
+   the search gives up exactly if without a budget it would look at more.
+   The test buffer, exactly n bytes, is written only for a test. The work memory, exactly 2 N bytes, then holds the good and after them the
+   faulty values of the last node looked at; with budget 0 it stays.
+   Answer: the outcome, 0 test, 1 redundant (there is no test), 2 given up; and the number of nodes looked at. */
+uint32_t ullimaqsu_search(const uint8_t *circuit, size_t circuit_len,
+                          const uint8_t *fault, size_t fault_len,
+                          uint64_t budget,
+                          uint8_t *test, size_t test_len,
+                          uint8_t *work, size_t work_len,
+                          uint8_t *answer, size_t answer_len);
+
+/* The clause writer, for one fault. Refusals 1 to 7 and 11. N is the number of lines.
+   Variables: the good value of line k is 2k+1, its faulty value 2k+2, the stuck value 2N+1, the difference at the j-th output, from 0 in
+   line order, 2N+2+j. Clauses, in this order, each closed by a 0, a negated variable negative: the good gates in line order; the stuck
+   value; the faulty lines in line order, where the stuck line or pin reads the stuck value and an input its good value; the differences;
+   one clause of all differences. An input vector detects the fault exactly if it extends to an assignment that satisfies all of them, so
+   they can't be satisfied exactly if the fault is redundant. Words after the last clause stay.
+   Answer: the numbers of words, clauses and variables (2N+1 and the outputs). */
+uint32_t ullimaqsu_clauses(const uint8_t *circuit, size_t circuit_len,
+                           const uint8_t *fault, size_t fault_len,
+                           int32_t *words, size_t words_len,
+                           uint8_t *answer, size_t answer_len);
+
+#ifdef __cplusplus
+}
+#endif
+#endif

@@ -1,0 +1,40 @@
+//! The circuit check.
+use super::{pins, report, word};
+
+fn pin_ok(circuit: &[u8], k: usize, s: usize) -> bool {
+    let from = word(circuit, 8 * k + 2 * s);
+    if s <= pins(circuit[8 * k]) {
+        return from < k;
+    }
+    from == 0
+}
+
+fn line_ok(circuit: &[u8], k: usize) -> bool {
+    circuit[8 * k] <= 8 && circuit[8 * k + 1] <= 1 && (1..=3).all(|s| pin_ok(circuit, k, s))
+}
+
+/// The numbers of lines, inputs and outputs, or the number of the refusal and its place.
+pub fn check(circuit: &[u8]) -> Result<[usize; 3], (u32, usize)> {
+    if circuit.is_empty() || circuit.len() % 8 != 0 || circuit.len() / 8 > 2048 {
+        return Err((1, 0));
+    }
+    let n = circuit.len() / 8;
+    if let Some(bad) = (0..n).find(|&k| !line_ok(circuit, k)) {
+        return Err((2, bad));
+    }
+    let inputs = (0..n).filter(|&k| circuit[8 * k] == 0).count();
+    let outputs = (0..n).filter(|&k| circuit[8 * k + 1] == 1).count();
+    match (inputs, outputs) {
+        (0, _) => Err((3, 0)),
+        (65.., _) => Err((4, 0)),
+        (_, 0) => Err((5, 0)),
+        _ => Ok([n, inputs, outputs]),
+    }
+}
+
+pub fn enter(circuit: &[u8], answer: &mut [u8; 32]) -> u32 {
+    match check(circuit) {
+        Ok(counts) => report(0, counts.map(|count| count as u64), answer),
+        Err((number, place)) => report(number, [place as u64, 0, 0], answer),
+    }
+}

@@ -1,0 +1,77 @@
+//! Circuits that document 01 accepts, as the bytes of their records.
+use crate::Random;
+
+pub const INPUT: u8 = 0;
+pub const BUFFER: u8 = 1;
+pub const NOT: u8 = 2;
+pub const AND: u8 = 3;
+pub const NAND: u8 = 4;
+pub const OR: u8 = 5;
+pub const NOR: u8 = 6;
+pub const XOR: u8 = 7;
+pub const XNOR: u8 = 8;
+
+/// How many sources a kind has.
+pub fn sources(kind: u8) -> usize {
+    match kind {
+        INPUT => 0,
+        BUFFER | NOT => 1,
+        _ => 2,
+    }
+}
+
+/// The record of a line.
+pub fn record(kind: u8, output: bool, first: usize, second: usize) -> [u8; 8] {
+    let ([a0, a1], [b0, b1]) = ((first as u16).to_le_bytes(), (second as u16).to_le_bytes());
+    [kind, output as u8, a0, a1, b0, b1, 0, 0]
+}
+
+/// A circuit of so many lines with so many inputs, the first line among them; the others stand anywhere. Kinds are any or, in some
+/// circuits, nearly all the same; sources are near or far, often twice the same line; some lines are read by nobody. There are few outputs
+/// or many, at least one, on inputs too.
+pub fn circuit(random: &mut Random, lines: usize, inputs: usize) -> Vec<u8> {
+    let mut input = vec![false; lines];
+    input[0] = true;
+    for left in (1..inputs.min(lines)).rev() {
+        let line = if random.once_in(2) { inputs - left } else { random.below(lines) };
+        let free = (line..lines).chain(0..line).find(|&line| !input[line]);
+        input[free.expect("fewer inputs than lines")] = true;
+    }
+    let favourite = 1 + random.below(8) as u8;
+    let strict = random.once_in(4);
+    let reach = random.pick(&[2, 5, lines]);
+    let sparse = random.pick(&[1, 2, 5, lines]);
+    let mut bytes = vec![];
+    for (line, &input) in input.iter().enumerate() {
+        let kind = match input {
+            true => INPUT,
+            false if strict && !random.once_in(8) => favourite,
+            false => 1 + random.below(8) as u8,
+        };
+        let mut source = || line - 1 - random.below(reach.min(line));
+        let (first, second) = match sources(kind) {
+            0 => (0, 0),
+            1 => (source(), 0),
+            _ => (source(), source()),
+        };
+        let second = if sources(kind) == 2 && random.once_in(6) { first } else { second };
+        bytes.extend(record(kind, random.once_in(sparse), first, second));
+    }
+    if outputs(&bytes) == 0 {
+        let line = if random.once_in(2) { lines - 1 } else { random.below(lines) };
+        bytes[8 * line + 1] = 1;
+    }
+    bytes
+}
+
+/// A circuit of a few lines, now and then of one.
+pub fn small(random: &mut Random) -> Vec<u8> {
+    let most = random.pick(&[2, 4, 8, 16, 40]);
+    let lines = 1 + random.below(most);
+    let inputs = 1 + random.below(lines.min(64));
+    circuit(random, lines, inputs)
+}
+
+fn outputs(circuit: &[u8]) -> usize {
+    circuit.chunks_exact(8).filter(|record| record[1] == 1).count()
+}

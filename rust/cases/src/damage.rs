@@ -1,0 +1,109 @@
+//! Ways to spoil what is accepted. One damage may hide another, or do nothing: the second program says what is then right.
+use crate::circuits::{record, sources, BUFFER, INPUT};
+use crate::Random;
+
+/// Cuts, lengthens or empties a file.
+fn resize(random: &mut Random, bytes: &mut Vec<u8>) {
+    let len = bytes.len();
+    let new = match random.below(5) {
+        0 => 0,
+        1 => random.below(len + 1),
+        2 => len + 8,
+        _ => len + 1 + random.below(7),
+    };
+    let more = random.pick(&[0, 1, 2, 255]);
+    bytes.resize(new, more);
+}
+
+/// Changes one byte to a value that may matter.
+fn change(random: &mut Random, bytes: &mut [u8]) {
+    if let Some(last) = bytes.len().checked_sub(1) {
+        let at = random.below(last + 1);
+        bytes[at] = match random.below(4) {
+            0 => bytes[at] ^ 1 << random.below(8),
+            1 => random.byte(),
+            _ => random.pick(&[0, 1, 2, 3, 8, 9, 255]),
+        };
+    }
+}
+
+/// Spoils one field of one circuit record.
+fn spoil_line(random: &mut Random, bytes: &mut [u8]) {
+    let lines = bytes.len() / 8;
+    if lines == 0 {
+        return;
+    }
+    let line = random.below(lines);
+    let record = &mut bytes[8 * line..8 * line + 8];
+    let source = (line + random.pick(&[0, 1, 256])) as u16;
+    match random.below(6) {
+        0 => record[0] = 9 + random.below(247) as u8,
+        1 => record[1] = 2 + random.below(254) as u8,
+        2 => record[2..4].copy_from_slice(&source.to_le_bytes()),
+        3 => record[4..6].copy_from_slice(&source.to_le_bytes()),
+        4 => record[6 + random.below(2)] = 1 + random.below(255) as u8,
+        _ => record[2 + 2 * sources(record[0]).min(2)] = 1, // the first source that the kind lacks, or the bytes behind
+    }
+}
+
+/// Does one damage to a circuit.
+pub fn circuit(random: &mut Random, bytes: &mut Vec<u8>) {
+    match random.below(64) {
+        0 => bytes.extend(record(INPUT, false, 0, 0).repeat(64 - random.below(8))),
+        1 => bytes.extend(record(BUFFER, true, 0, 0).repeat(random.pick(&[1, 256, 2048 - 30, 2048]))),
+        2..=17 => bytes.chunks_exact_mut(8).for_each(|record| record[1] &= 0xfe),
+        18..=31 => resize(random, bytes),
+        32..=47 => spoil_line(random, bytes),
+        _ => change(random, bytes),
+    }
+}
+
+/// Does one damage to the faults of a circuit of so many lines.
+pub fn faults(random: &mut Random, bytes: &mut Vec<u8>, lines: usize) {
+    let records = bytes.len() / 8;
+    match random.below(16) {
+        0 => bytes.extend(vec![0; 8 * random.pick(&[1, 255, 256, 257])]),
+        1..=3 => resize(random, bytes),
+        4..=9 if records > 0 => {
+            let record = &mut bytes[8 * random.below(records)..][..8];
+            match random.below(4) {
+                0 => record[..2].copy_from_slice(&((lines + random.pick(&[0, 1, 256])) as u16).to_le_bytes()),
+                1 => record[2] = random.pick(&[1, 2, 3, 255]),
+                2 => record[3] = random.pick(&[2, 3, 255]),
+                _ => record[4 + random.below(4)] = random.pick(&[1, 128]),
+            }
+        }
+        _ => change(random, bytes),
+    }
+}
+
+/// Does one damage to patterns.
+pub fn patterns(random: &mut Random, bytes: &mut Vec<u8>) {
+    match random.below(16) {
+        0 if bytes.len() < 1000 => *bytes = bytes.repeat(random.pick(&[2, 256, 257])),
+        1..=5 => resize(random, bytes),
+        _ if bytes.is_empty() => (),
+        _ => {
+            let at = random.below(bytes.len());
+            bytes[at] = random.pick(&[3, 4, 128, 255]);
+        }
+    }
+}
+
+/// Another size for a buffer, near to the right one or far from it.
+pub fn size(random: &mut Random, right: usize) -> usize {
+    match random.below(4) {
+        0 => right + 1,
+        1 => right.saturating_sub(1),
+        2 => 0,
+        _ => 2 * right + random.below(3),
+    }
+}
+
+/// Does several damages, most often one.
+pub fn several(random: &mut Random, bytes: &mut Vec<u8>, one: impl Fn(&mut Random, &mut Vec<u8>)) {
+    one(random, bytes);
+    while random.once_in(3) {
+        one(random, bytes);
+    }
+}

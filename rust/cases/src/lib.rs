@@ -1,0 +1,14 @@
+//! What the tests draw their cases from: random numbers, circuits of every kind, damage, lent memory between guards, and counts of what
+//! was seen. Everything is bytes: nothing here knows the library or the second program.
+
+pub mod circuits;
+pub mod damage;
+pub mod faults;
+mod lent;
+mod random;
+pub mod tables;
+mod tally;
+
+pub use lent::Lent;
+pub use random::{drawn, Random};
+pub use tally::Tally;

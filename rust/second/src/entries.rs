@@ -1,0 +1,58 @@
+//! What the C entries return and leave behind.
+use crate::{Dictionary, Refusal, Searched, Written};
+
+/// What a caller in C sees: the number returned, the answer area, and the lent memory in order.
+#[derive(Clone, Debug, PartialEq, Eq)]
+pub struct Seen<T = u8> {
+    pub returned: u32,
+    pub answer: Vec<u8>,
+    pub lent: Vec<Vec<T>>,
+}
+
+/// What an entry does with the outcome of its part, which on success is the numbers of the answer and what lent memory then holds.
+///
+/// An area of 32 bytes takes the numbers, or the place of the refusal; lent memory stays where something was refused. An area of another
+/// size is refused before all else, and everything stays.
+pub fn seen<T: Clone>(area: &[u8], lent: &[&[T]], outcome: Result<(Vec<u64>, Vec<Vec<T>>), Refusal>) -> Seen<T> {
+    let untouched = lent.iter().map(|slice| slice.to_vec()).collect();
+    if area.len() != 32 {
+        return Seen { returned: 10, answer: area.to_vec(), lent: untouched };
+    }
+    let (returned, numbers, lent) = match outcome {
+        Ok((numbers, lent)) => (0, numbers, lent),
+        Err(Refusal { number, place }) => (number, vec![place as u64], untouched),
+    };
+    let mut answer: Vec<u8> = numbers.into_iter().flat_map(u64::to_le_bytes).collect();
+    answer.resize(32, 0);
+    Seen { returned, answer, lent }
+}
+
+pub fn check(circuit: &[u8], answer: &[u8]) -> Seen {
+    seen(answer, &[], crate::check(circuit).map(|counts| (counts.numbers(), vec![])))
+}
+
+pub fn dictionary(circuit: &[u8], faults: &[u8], patterns: &[u8], table: &[u8], work: &[u8], answer: &[u8]) -> Seen {
+    let made = crate::dictionary(circuit, faults, patterns, table.len(), work.len());
+    seen(answer, &[table, work], made.map(|Dictionary { table, work }| (vec![], vec![table, work])))
+}
+
+pub fn compact(fault_count: u64, pattern_count: u64, table: &[u8], marks: &[u8], answer: &[u8]) -> Seen {
+    let compacted = crate::compact(fault_count, pattern_count, table, marks.len());
+    seen(answer, &[marks], compacted.map(|marks| (vec![], vec![marks])))
+}
+
+pub fn search(circuit: &[u8], fault: &[u8], budget: u64, test: &[u8], work: &[u8], answer: &[u8]) -> Seen {
+    let searched = crate::search(circuit, fault, budget, test.len(), work.len());
+    let written = |Searched { outcome, nodes, test: found, work: last }| {
+        (vec![outcome as u64, nodes], vec![found.unwrap_or(test.to_vec()), last.unwrap_or(work.to_vec())])
+    };
+    seen(answer, &[test, work], searched.map(written))
+}
+
+pub fn clauses(circuit: &[u8], fault: &[u8], words: &[i32], answer: &[u8]) -> Seen<i32> {
+    let written = crate::clauses(circuit, fault, words.len()).map(|Written { words: new, clauses, variables }| {
+        let numbers = [new.len(), clauses, variables].map(|number| number as u64).to_vec();
+        (numbers, vec![[&new[..], &words[new.len()..]].concat()])
+    });
+    seen(answer, &[words], written)
+}

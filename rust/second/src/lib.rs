@@ -1,0 +1,27 @@
+//! The second program: document 01 done once more, from its words alone, to be compared with the library byte by byte.
+//!
+//! It goes its own way. Records are read into values that cannot be wrong, so that what is refused is what cannot be read; nothing is
+//! lent and nothing is written over; definitions are run as they stand. It depends on nothing and is in no hurry.
+
+pub mod circuit;
+pub mod clauses;
+pub mod compact;
+pub mod dictionary;
+pub mod entries;
+pub mod fault;
+pub mod pattern;
+pub mod program;
+pub mod refusal;
+pub mod search;
+pub mod values;
+
+pub use circuit::{check, Circuit, Counts};
+pub use clauses::{clauses, Written};
+pub use compact::compact;
+pub use dictionary::{dictionary, Dictionary, Entry};
+pub use fault::{Fault, Site};
+pub use pattern::Pattern;
+pub use program::{program, Files};
+pub use refusal::Refusal;
+pub use search::{search, Outcome, Search, Searched};
+pub use values::Value;

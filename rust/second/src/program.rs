@@ -1,0 +1,48 @@
+//! The dictionary program.
+use crate::circuit::Circuit;
+use crate::compact::{kept, Row};
+use crate::dictionary::Entry;
+use crate::fault::Fault;
+use crate::pattern;
+use crate::refusal::Refusal;
+
+/// The files of a directory; one that is absent is none.
+#[derive(Clone, Debug, Default)]
+pub struct Files {
+    pub circuit: Option<Vec<u8>>,
+    pub faults: Option<Vec<u8>>,
+    pub patterns: Option<Vec<u8>>,
+}
+
+/// What is read of a file: at most one byte above its limit, and nothing of one that is absent.
+fn read(file: &Option<Vec<u8>>, limit: usize) -> &[u8] {
+    let bytes = file.as_deref().unwrap_or_default();
+    &bytes[..bytes.len().min(limit + 1)]
+}
+
+fn table(files: &Files) -> Result<Vec<Row>, Refusal> {
+    let circuit = Circuit::read(read(&files.circuit, 16_384))?;
+    let faults = Fault::read_all(&circuit, read(&files.faults, 2_048), 256)?;
+    let patterns = pattern::read_all(read(&files.patterns, 16_384), circuit.inputs().count())?;
+    Ok(patterns.iter().map(|pattern| faults.iter().map(|&fault| circuit.entry(pattern, fault)).collect()).collect())
+}
+
+fn line(number: usize, kept: bool, row: &Row) -> String {
+    let letter = |entry: &Entry| match entry {
+        Entry::Fail => 'F',
+        Entry::Pass => 'P',
+        Entry::Unknown => 'U',
+    };
+    format!("{number} {} {}\n", if kept { 'K' } else { 'D' }, row.iter().map(letter).collect::<String>())
+}
+
+/// What the program prints.
+pub fn program(files: &Files) -> String {
+    match table(files) {
+        Err(Refusal { number, place }) => format!("refused {number} {place}\n"),
+        Ok(rows) => {
+            let kept = kept(&rows);
+            rows.iter().enumerate().map(|(number, row)| line(number, kept.contains(&number), row)).collect()
+        }
+    }
+}

@@ -1,0 +1,76 @@
+//! The test search.
+use crate::circuit::Circuit;
+use crate::dictionary::Entry;
+use crate::fault::Fault;
+use crate::pattern::Pattern;
+use crate::refusal::{ensure, Refusal};
+use crate::values::byte;
+
+/// How a search ends.
+#[derive(Clone, Copy, Debug, PartialEq, Eq)]
+pub enum Outcome {
+    Test = 0,
+    Redundant = 1,
+    GivenUp = 2,
+}
+
+/// What a search has found, and the last node that it looked at.
+#[derive(Clone, Debug, PartialEq, Eq)]
+pub struct Search {
+    pub outcome: Outcome,
+    pub nodes: u64,
+    pub last: Option<Pattern>,
+}
+
+/// All nodes in the order of the search, each with its entry, as if no test ended it.
+pub fn nodes(circuit: &Circuit, fault: Fault) -> impl Iterator<Item = (Pattern, Entry)> + '_ {
+    let mut waiting = vec![vec![None; circuit.inputs().count()]];
+    std::iter::from_fn(move || {
+        let node = waiting.pop()?;
+        let entry = circuit.entry(&node, fault);
+        if entry == Entry::Unknown {
+            let first = node.iter().position(Option::is_none).expect("without X an entry is known");
+            for value in [true, false] {
+                let mut side = node.clone();
+                side[first] = Some(value);
+                waiting.push(side);
+            }
+        }
+        Some((node, entry))
+    })
+}
+
+/// Looks at no more than `budget` nodes.
+pub fn search_circuit(circuit: &Circuit, fault: Fault, budget: u64) -> Search {
+    let mut search = Search { outcome: Outcome::Redundant, nodes: 0, last: None };
+    for (node, entry) in nodes(circuit, fault) {
+        if search.nodes == budget {
+            return Search { outcome: Outcome::GivenUp, ..search };
+        }
+        search = Search { nodes: search.nodes + 1, last: Some(node), ..search };
+        if entry == Entry::Fail {
+            return Search { outcome: Outcome::Test, ..search };
+        }
+    }
+    search
+}
+
+/// What the search leaves in lent memory, where it writes.
+pub struct Searched {
+    pub outcome: Outcome,
+    pub nodes: u64,
+    pub test: Option<Vec<u8>>,
+    pub work: Option<Vec<u8>>,
+}
+
+/// The test search, lent a test buffer and a work memory of these sizes.
+pub fn search(circuit: &[u8], fault: &[u8], budget: u64, test: usize, work: usize) -> Result<Searched, Refusal> {
+    let circuit = Circuit::read(circuit)?;
+    let fault = Fault::read_all(&circuit, fault, 1)?[0];
+    ensure(test == circuit.inputs().count(), 10)?;
+    ensure(work == 2 * circuit.lines.len(), 10)?;
+    let Search { outcome, nodes, last } = search_circuit(&circuit, fault, budget);
+    let work = last.as_ref().map(|node| circuit.work(node, fault));
+    let test = last.filter(|_| outcome == Outcome::Test).map(|node| node.iter().map(byte).collect());
+    Ok(Searched { outcome, nodes, test, work })
+}

@@ -1,0 +1,70 @@
+//! Values of lines: known, or X.
+use crate::circuit::{Circuit, Gate};
+use crate::fault::{Fault, Site};
+
+/// A known value, or `None` for X.
+pub type Value = Option<bool>;
+
+fn not(a: Value) -> Value {
+    Some(!a?)
+}
+
+fn and(a: Value, b: Value) -> Value {
+    match (a, b) {
+        (Some(false), _) | (_, Some(false)) => Some(false),
+        (Some(true), Some(true)) => Some(true),
+        _ => None,
+    }
+}
+
+fn or(a: Value, b: Value) -> Value {
+    match (a, b) {
+        (Some(true), _) | (_, Some(true)) => Some(true),
+        (Some(false), Some(false)) => Some(false),
+        _ => None,
+    }
+}
+
+fn xor(a: Value, b: Value) -> Value {
+    Some(a? ^ b?)
+}
+
+/// A value from its byte: 0, 1, or 2 for X.
+pub fn value(byte: u8) -> Option<Value> {
+    match byte {
+        0 => Some(Some(false)),
+        1 => Some(Some(true)),
+        2 => Some(None),
+        _ => None,
+    }
+}
+
+/// The byte of a value.
+pub fn byte(value: &Value) -> u8 {
+    value.map_or(2, u8::from)
+}
+
+impl Circuit {
+    /// The values of all lines under a pattern, with or without a fault.
+    pub fn values(&self, pattern: &[Value], fault: Option<Fault>) -> Vec<Value> {
+        let mut pattern = pattern.iter().copied();
+        let mut values = Vec::with_capacity(self.lines.len());
+        for (number, line) in self.lines.iter().enumerate() {
+            let stuck = |site| fault.filter(|fault| (fault.line, fault.site) == (number, site)).map(|fault| Some(fault.stuck));
+            let seen = |pin, source: usize| stuck(Site::Pin(pin)).unwrap_or(values[source]);
+            let value = match line.gate {
+                Gate::Input => pattern.next().expect("a value for each input"),
+                Gate::Buffer(a) => seen(1, a),
+                Gate::Not(a) => not(seen(1, a)),
+                Gate::And(a, b) => and(seen(1, a), seen(2, b)),
+                Gate::Nand(a, b) => not(and(seen(1, a), seen(2, b))),
+                Gate::Or(a, b) => or(seen(1, a), seen(2, b)),
+                Gate::Nor(a, b) => not(or(seen(1, a), seen(2, b))),
+                Gate::Xor(a, b) => xor(seen(1, a), seen(2, b)),
+                Gate::Xnor(a, b) => not(xor(seen(1, a), seen(2, b))),
+            };
+            values.push(stuck(Site::Line).unwrap_or(value));
+        }
+        values
+    }
+}

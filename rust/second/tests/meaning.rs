@@ -1,0 +1,146 @@
+//! The second program against what complete input vectors do, which is evaluated here on its own, over Booleans.
+use cases::{circuits, drawn, faults, Random};
+use second::circuit::{Circuit, Gate};
+use second::clauses::clauses_of;
+use second::search::{search_circuit, Search};
+use second::{Entry, Fault, Outcome, Site, Value};
+
+/// A line's value, by asking for those that it reads.
+fn truth(circuit: &Circuit, vector: &[bool], fault: Option<Fault>, line: usize) -> bool {
+    let stuck = |site| fault.filter(|fault| fault.line == line && fault.site == site).map(|fault| fault.stuck);
+    let pin = |pin, source| stuck(Site::Pin(pin)).unwrap_or_else(|| truth(circuit, vector, fault, source));
+    stuck(Site::Line).unwrap_or_else(|| match circuit.lines[line].gate {
+        Gate::Input => vector[circuit.inputs().position(|input| input == line).expect("an input")],
+        Gate::Buffer(a) => pin(1, a),
+        Gate::Not(a) => !pin(1, a),
+        Gate::And(a, b) => pin(1, a) && pin(2, b),
+        Gate::Nand(a, b) => !(pin(1, a) && pin(2, b)),
+        Gate::Or(a, b) => pin(1, a) || pin(2, b),
+        Gate::Nor(a, b) => !(pin(1, a) || pin(2, b)),
+        Gate::Xor(a, b) => pin(1, a) != pin(2, b),
+        Gate::Xnor(a, b) => pin(1, a) == pin(2, b),
+    })
+}
+
+/// Some output differs.
+fn detects(circuit: &Circuit, vector: &[bool], fault: Fault) -> bool {
+    circuit.outputs().any(|line| truth(circuit, vector, None, line) != truth(circuit, vector, Some(fault), line))
+}
+
+/// All fillings of the X's.
+fn fillings(pattern: &[Value]) -> Vec<Vec<bool>> {
+    pattern.iter().fold(vec![vec![]], |done, value| {
+        let known = value.map_or(vec![false, true], |value| vec![value]);
+        done.iter().flat_map(|start| known.iter().map(move |&value| [&start[..], &[value]].concat())).collect()
+    })
+}
+
+fn tiny(random: &mut Random) -> (Circuit, Vec<Fault>) {
+    tiny_of(random, 10)
+}
+
+/// A circuit of so many lines at most, and all its faults.
+fn tiny_of(random: &mut Random, most: usize) -> (Circuit, Vec<Fault>) {
+    let lines = 1 + random.below(most);
+    let inputs = 1 + random.below(lines.min(4));
+    let bytes = circuits::circuit(random, lines, inputs);
+    let circuit = Circuit::read(&bytes).expect("sound");
+    let faults = Fault::read_all(&circuit, &faults::every(&bytes).concat(), 256).expect("sound");
+    (circuit, faults)
+}
+
+/// Every pattern of so many values.
+fn every_pattern(inputs: usize) -> Vec<Vec<Value>> {
+    (0..inputs).fold(vec![vec![]], |done, _| {
+        done.iter().flat_map(|start| [Some(false), Some(true), None].map(|value| [&start[..], &[value]].concat())).collect()
+    })
+}
+
+#[test]
+fn entries_speak_of_all_fillings() {
+    let mut seen = [0; 3];
+    for (circuit, faults) in drawn(1, 150, tiny) {
+        for pattern in every_pattern(circuit.inputs().count()) {
+            for &fault in &faults {
+                let detected: Vec<_> = fillings(&pattern).iter().map(|vector| detects(&circuit, vector, fault)).collect();
+                let entry = circuit.entry(&pattern, fault);
+                match entry {
+                    Entry::Fail => assert!(detected.iter().all(|&detected| detected)),
+                    Entry::Pass => assert!(detected.iter().all(|&detected| !detected)),
+                    Entry::Unknown => assert!(detected.len() > 1),
+                }
+                seen[entry as usize] += 1;
+            }
+        }
+    }
+    assert!(seen.iter().all(|&times| times > 1000), "{seen:?}");
+}
+
+/// The nodes from here on, in order, up to the first that fails: the definition as a recursion.
+fn visit(circuit: &Circuit, fault: Fault, node: Vec<Value>, looked: &mut Vec<Vec<Value>>) -> bool {
+    looked.push(node.clone());
+    match circuit.entry(&node, fault) {
+        Entry::Fail => true,
+        Entry::Pass => false,
+        Entry::Unknown => [Some(false), Some(true)].into_iter().any(|value| {
+            let mut side = node.clone();
+            *side.iter_mut().find(|value| value.is_none()).expect("an X") = value;
+            visit(circuit, fault, side, looked)
+        }),
+    }
+}
+
+#[test]
+fn searches_agree_with_all_vectors_and_all_budgets() {
+    let mut seen = [0; 3];
+    for (circuit, faults) in drawn(2, 300, tiny) {
+        let inputs = circuit.inputs().count();
+        for fault in faults {
+            let mut looked = vec![];
+            let found = visit(&circuit, fault, vec![None; inputs], &mut looked);
+            assert_eq!(found, fillings(&vec![None; inputs]).iter().any(|vector| detects(&circuit, vector, fault)));
+            assert!(looked.len() < 1 << (inputs + 1));
+            for budget in 0..looked.len() + 3 {
+                let outcome = match found {
+                    _ if looked.len() > budget => Outcome::GivenUp,
+                    true => Outcome::Test,
+                    false => Outcome::Redundant,
+                };
+                let nodes = looked.len().min(budget);
+                let last = nodes.checked_sub(1).map(|last| looked[last].clone());
+                assert_eq!(search_circuit(&circuit, fault, budget as u64), Search { outcome, nodes: nodes as u64, last });
+                seen[outcome as usize] += 1;
+            }
+        }
+    }
+    assert!(seen.iter().all(|&times| times > 1000), "{seen:?}");
+}
+
+/// The clauses of tiny circuits, over all assignments: a vector extends to one that satisfies them exactly if it detects the fault, and then in
+/// one way.
+#[test]
+fn clauses_are_satisfied_by_detecting_vectors() {
+    let mut seen = [0; 2];
+    for (circuit, faults) in drawn(3, 400, |random| tiny_of(random, 4)) {
+        let variables = 2 * circuit.lines.len() + 1 + circuit.outputs().count();
+        for fault in faults {
+            let clauses = clauses_of(&circuit, fault);
+            assert!(clauses.iter().flatten().all(|literal| (1..=variables).contains(&(literal.unsigned_abs() as usize))));
+            let mut ways = std::collections::HashMap::new();
+            for assignment in 0..1usize << variables {
+                let truth = |variable: i32| assignment >> (variable - 1) & 1 == 1;
+                let holds = |&literal: &i32| truth(literal.abs()) == (literal > 0);
+                if clauses.iter().all(|clause| clause.iter().any(holds)) {
+                    let vector: Vec<bool> = circuit.inputs().map(|line| truth(2 * line as i32 + 1)).collect();
+                    *ways.entry(vector).or_insert(0) += 1;
+                }
+            }
+            for vector in fillings(&vec![None; circuit.inputs().count()]) {
+                let detected = detects(&circuit, &vector, fault);
+                assert_eq!(ways.get(&vector), detected.then_some(&1));
+                seen[usize::from(detected)] += 1;
+            }
+        }
+    }
+    assert!(seen.iter().all(|&times| times > 1000), "{seen:?}");
+}

@@ -1,0 +1,150 @@
+//! Safe calls of Ullimaqsu, the proved test tools for combinational circuits and single stuck-at faults.
+//!
+//! Circuits are the bytes of their records, as `include/ullimaqsu.h` describes them. Every call takes any bytes; what is wrong with them
+//! comes back as a [`Refusal`]. [`raw`] has the same entries with nothing interpreted.
+//!
+//! On x86-64 the archive is linked. Elsewhere each thread that calls starts the bridge, an x86-64 program under the kit's emulator:
+//! right for tests, and slow.
+
+pub mod raw;
+mod refusal;
+
+#[cfg(not(direct))]
+mod bridge;
+#[cfg(direct)]
+mod direct;
+
+pub use refusal::Refusal;
+
+use raw::{enter, Call};
+use refusal::answered;
+
+/// The numbers of an accepted circuit.
+#[derive(Clone, Copy, Debug, PartialEq, Eq)]
+pub struct Counts {
+    pub lines: u64,
+    pub inputs: u64,
+    pub outputs: u64,
+}
+
+/// How a search ended.
+#[derive(Clone, Copy, Debug, PartialEq, Eq)]
+pub enum Outcome {
+    /// The test buffer holds a test.
+    Test,
+    /// There is no test.
+    Redundant,
+    /// The search would have looked at more nodes than the budget allows.
+    GivenUp,
+}
+
+/// How a search ended, and how many nodes it looked at.
+#[derive(Clone, Copy, Debug, PartialEq, Eq)]
+pub struct Search {
+    pub outcome: Outcome,
+    pub nodes: u64,
+}
+
+/// The numbers of a clause list.
+#[derive(Clone, Copy, Debug, PartialEq, Eq)]
+pub struct Clauses {
+    pub words: u64,
+    pub clauses: u64,
+    pub variables: u64,
+}
+
+/// The circuit check: the numbers of lines, inputs and outputs, or what is wrong.
+///
+/// ```
+/// let not = [0, 0, 0, 0, 0, 0, 0, 0, 2, 1, 0, 0, 0, 0, 0, 0];
+/// assert_eq!(ullimaqsu::check(&not), Ok(ullimaqsu::Counts { lines: 2, inputs: 1, outputs: 1 }));
+/// let refusal = ullimaqsu::check(&not[8..]).unwrap_err();
+/// assert_eq!(refusal.to_string(), "refusal 2: a circuit record breaks its layout (line 0)");
+/// ```
+pub fn check(circuit: &[u8]) -> Result<Counts, Refusal> {
+    let mut area = [0; 32];
+    let returned = enter(Call::Check { circuit, answer: &mut area });
+    let [lines, inputs, outputs, _] = answered(returned, area)?;
+    Ok(Counts { lines, inputs, outputs })
+}
+
+/// The dictionary maker. Fills the table, one row for each pattern and in it one byte for each fault: 0 pass, 1 fail, 2 unknown; its length is
+/// the number of faults times that of patterns. The work memory, two bytes for each line, then holds the good and the faulty values of the
+/// last pattern with the last fault. A refusal writes nothing.
+///
+/// ```
+/// let not = [0, 0, 0, 0, 0, 0, 0, 0, 2, 1, 0, 0, 0, 0, 0, 0];
+/// let output_stuck_at_0 = [1, 0, 0, 0, 0, 0, 0, 0];
+/// let (mut table, mut work) = ([0; 3], [0; 4]);
+/// ullimaqsu::dictionary(&not, &output_stuck_at_0, &[0, 1, 2], &mut table, &mut work)?;
+/// assert_eq!(table, [1, 0, 2]);
+/// assert_eq!(work, [2, 2, 2, 0]);
+/// # Ok::<(), ullimaqsu::Refusal>(())
+/// ```
+pub fn dictionary(circuit: &[u8], faults: &[u8], patterns: &[u8], table: &mut [u8], work: &mut [u8]) -> Result<(), Refusal> {
+    let mut area = [0; 32];
+    let returned = enter(Call::Dictionary { circuit, faults, patterns, table, work, answer: &mut area });
+    answered(returned, area).map(|_| ())
+}
+
+/// The compactor. Marks each pattern of a table, 1 kept or 0 dropped, so that the kept ones detect every fault and tell apart every pair of
+/// detected faults that the whole table does, and none of them can be spared. A refusal writes nothing.
+///
+/// ```
+/// let table = [1, 0, 0, 1, 0, 1, 1, 0, 0, 1, 1, 0, 2, 2, 2, 2];
+/// let mut marks = [9; 4];
+/// ullimaqsu::compact(4, 4, &table, &mut marks)?;
+/// assert_eq!(marks, [1, 1, 0, 0]);
+/// # Ok::<(), ullimaqsu::Refusal>(())
+/// ```
+pub fn compact(fault_count: u64, pattern_count: u64, table: &[u8], marks: &mut [u8]) -> Result<(), Refusal> {
+    let mut area = [0; 32];
+    let returned = enter(Call::Compact { fault_count, pattern_count, table, marks, answer: &mut area });
+    answered(returned, area).map(|_| ())
+}
+
+/// The test search for one fault, looking at no more nodes than the budget. The test buffer, one byte for each input, is written only for a
+/// test. The work memory, two bytes for each line, then holds the good and the faulty values of the last node; with budget 0 it stays. A
+/// refusal writes nothing.
+///
+/// ```
+/// use ullimaqsu::{search, Outcome};
+/// let not = [0, 0, 0, 0, 0, 0, 0, 0, 2, 1, 0, 0, 0, 0, 0, 0];
+/// let output_stuck_at_0 = [1, 0, 0, 0, 0, 0, 0, 0];
+/// let (mut test, mut work) = ([9], [9; 4]);
+/// let found = search(&not, &output_stuck_at_0, u64::MAX, &mut test, &mut work)?;
+/// assert_eq!((found.outcome, found.nodes, test), (Outcome::Test, 2, [0]));
+/// # Ok::<(), ullimaqsu::Refusal>(())
+/// ```
+pub fn search(circuit: &[u8], fault: &[u8], budget: u64, test: &mut [u8], work: &mut [u8]) -> Result<Search, Refusal> {
+    let mut area = [0; 32];
+    let returned = enter(Call::Search { circuit, fault, budget, test, work, answer: &mut area });
+    let [outcome, nodes, ..] = answered(returned, area)?;
+    let outcome = match outcome {
+        0 => Outcome::Test,
+        1 => Outcome::Redundant,
+        _ => Outcome::GivenUp,
+    };
+    Ok(Search { outcome, nodes })
+}
+
+/// The clause writer for one fault: clauses that can be satisfied exactly if the fault has a test, each closed by a 0, for a SAT solver. Words
+/// after the last clause stay. Refusal 11 says how many words are needed. A refusal writes nothing.
+///
+/// ```
+/// let not = [0, 0, 0, 0, 0, 0, 0, 0, 2, 1, 0, 0, 0, 0, 0, 0];
+/// let output_stuck_at_0 = [1, 0, 0, 0, 0, 0, 0, 0];
+/// let refusal = ullimaqsu::clauses(&not, &output_stuck_at_0, &mut []).unwrap_err();
+/// assert_eq!(refusal.to_string(), "refusal 11: the clauses do not fit the lent words (words needed: 38)");
+/// let mut words = vec![0; refusal.place as usize];
+/// let written = ullimaqsu::clauses(&not, &output_stuck_at_0, &mut words)?;
+/// assert_eq!((written.words, written.clauses, written.variables), (38, 12, 6));
+/// assert_eq!(words[..6], [-3, -1, 0, 3, 1, 0]);
+/// # Ok::<(), ullimaqsu::Refusal>(())
+/// ```
+pub fn clauses(circuit: &[u8], fault: &[u8], words: &mut [i32]) -> Result<Clauses, Refusal> {
+    let mut area = [0; 32];
+    let returned = enter(Call::Clauses { circuit, fault, words, answer: &mut area });
+    let [words, clauses, variables, _] = answered(returned, area)?;
+    Ok(Clauses { words, clauses, variables })
+}

@@ -1,0 +1,205 @@
+//! The circuit check against the second program.
+//!
+//! `sound_circuits` and `damaged_circuits` compare 1,000,000 cases together; over the bridge that takes a few seconds.
+mod harness;
+
+use cases::circuits::{circuit, record, small, AND, BUFFER, INPUT, NOT, OR};
+use cases::{damage, drawn, Random};
+use harness::{compare, first_defect_is_told, library, wrong_programs_are_seen, Case, Defect};
+use second::entries::{self, Seen};
+use second::{Counts, Refusal};
+use std::ops::Range;
+use ullimaqsu::raw::Call;
+
+#[derive(Clone, Debug)]
+struct Check {
+    circuit: Vec<u8>,
+    answer: Vec<u8>,
+}
+
+impl Case for Check {
+    type Element = u8;
+    const GUARD: u8 = 0xa5;
+
+    fn read(&self) -> Vec<&[u8]> {
+        vec![&self.circuit]
+    }
+    fn lent(&self) -> Vec<&[u8]> {
+        vec![]
+    }
+    fn answer(&self) -> &[u8] {
+        &self.answer
+    }
+    fn call<'a>(&self, read: Vec<&'a [u8]>, _: Vec<&'a mut [u8]>, answer: &'a mut [u8]) -> Call<'a> {
+        Call::Check { circuit: read[0], answer }
+    }
+    fn second(&self) -> Seen {
+        entries::check(&self.circuit, &self.answer)
+    }
+}
+
+/// The circuits, each with an area that is full of junk and now and then has another size.
+fn with_areas(circuits: impl Iterator<Item = Vec<u8>>) -> impl Iterator<Item = Check> {
+    let mut random = Random::new(0);
+    circuits.map(move |circuit| {
+        let len = if random.once_in(20) { random.pick(&[0, 1, 8, 31, 33, 64]) } else { 32 };
+        Check { circuit, answer: random.junk(len) }
+    })
+}
+
+fn damaged(random: &mut Random) -> Vec<u8> {
+    let mut circuit = small(random);
+    damage::several(random, &mut circuit, damage::circuit);
+    circuit
+}
+
+/// Every byte at every place of circuits of two lines, the second of every kind.
+fn every_byte() -> impl Iterator<Item = Vec<u8>> {
+    let places = (0..9).flat_map(|kind| (0..16).map(move |place| (kind, place)));
+    places.flat_map(|(kind, place)| {
+        (0..=255).map(move |byte| {
+            let mut circuit = [record(INPUT, false, 0, 0), record(kind, true, 0, 0)].concat();
+            circuit[place] = byte;
+            circuit
+        })
+    })
+}
+
+/// The sizes at which something changes, sound and with one or two defects.
+fn boundaries() -> impl Iterator<Item = Vec<u8>> {
+    let mut random = Random::new(3);
+    let defects: [fn(&mut Vec<u8>); 7] = [
+        |_| (),
+        |circuit| circuit.chunks_exact_mut(8).for_each(|record| record[1] = 0),
+        |circuit| circuit[0] = BUFFER,
+        |circuit| *circuit.last_mut().unwrap() = 1,
+        |circuit| circuit.push(0),
+        |circuit| circuit.truncate(circuit.len() - 1),
+        |circuit| circuit.extend(record(INPUT, false, 0, 0)),
+    ];
+    let mut all = vec![vec![]];
+    for lines in [1, 2, 63, 64, 65, 66, 2046, 2047, 2048, 2049] {
+        for inputs in [1, 2, 63, 64, 65, 66].into_iter().filter(|&inputs| inputs <= lines) {
+            let sound = circuit(&mut random, lines, inputs);
+            for one in defects {
+                for other in defects {
+                    let mut circuit = sound.clone();
+                    one(&mut circuit);
+                    other(&mut circuit);
+                    all.push(circuit);
+                }
+            }
+        }
+    }
+    all.into_iter()
+}
+
+#[test]
+fn sound_circuits() {
+    assert_eq!(compare("check, sound circuits", with_areas(drawn(1, 300_000, small))).seen(), [0, 10]);
+}
+
+#[test]
+fn damaged_circuits() {
+    assert_eq!(compare("check, damaged circuits", with_areas(drawn(2, 700_000, damaged))).seen(), [0, 1, 2, 4, 5, 10]);
+}
+
+#[test]
+fn every_byte_and_all_boundaries() {
+    assert_eq!(compare("check, every byte", with_areas(every_byte())).seen(), [0, 2, 5, 10]);
+    assert_eq!(compare("check, boundaries", with_areas(boundaries())).seen(), [0, 1, 2, 4, 5, 10]);
+}
+
+/// An area of another size comes before every other check, and stays.
+#[test]
+fn areas() {
+    let circuits = [vec![], record(INPUT, true, 0, 0).to_vec(), record(BUFFER, true, 0, 0).to_vec()];
+    let cases: Vec<_> =
+        circuits.iter().flat_map(|circuit| (0..=80).map(|len| Check { circuit: circuit.clone(), answer: vec![7; len] })).collect();
+    for (case, seen) in cases.iter().zip(library(&cases)) {
+        assert_eq!(seen, case.second());
+        let right = case.answer.len() == 32;
+        assert_eq!((right, right), (seen.returned != 10, seen.answer != case.answer));
+    }
+}
+
+/// The right check over a circuit in which some bytes of some records are cleared.
+fn cleared(circuit: &[u8], bytes: Range<usize>, some: fn(usize, &[u8]) -> bool) -> Result<Counts, Refusal> {
+    let mut circuit = circuit.to_vec();
+    let records = circuit.chunks_exact_mut(8).enumerate();
+    records.filter(|(line, record)| some(*line, record)).for_each(|(_, record)| record[bytes.clone()].fill(0));
+    second::check(&circuit)
+}
+
+/// The right check, except that one refusal is given as another where the condition holds.
+fn instead(circuit: &[u8], number: u32, condition: bool, other: u32) -> Result<Counts, Refusal> {
+    second::check(circuit).map_err(|right| if right.number == number && condition { Refusal { number: other, place: 0 } } else { right })
+}
+
+type Wrong = (&'static str, fn(&[u8]) -> Result<Counts, Refusal>);
+
+/// Programs that are wrong in one way each.
+const WRONG: [Wrong; 12] = [
+    ("refuses everything", |_| Err(Refusal { number: 1, place: 0 })),
+    ("swaps two counts", |c| second::check(c).map(|n| Counts { inputs: n.outputs, outputs: n.inputs, ..n })),
+    ("gives a place one too high", |c| second::check(c).map_err(|r| Refusal { place: r.place + (r.number == 2) as usize, ..r })),
+    ("lets a line read itself", |c| cleared(c, 2..4, |line, r| r[0] > 0 && line > 0 && r[2..4] == (line as u16).to_le_bytes())),
+    ("lets a buffer have a second source", |c| cleared(c, 4..6, |_, r| r[0] == BUFFER)),
+    ("lets an input have a source", |c| cleared(c, 2..4, |_, r| r[0] == INPUT)),
+    ("does not look at bytes 6 and 7", |c| cleared(c, 6..8, |_, _| true)),
+    ("takes any byte but 1 for no output", |c| cleared(c, 1..2, |_, r| r[1] > 1)),
+    ("takes kind 9 for an input", |c| cleared(c, 0..1, |_, r| r[0] == 9)),
+    ("asks for outputs before it counts inputs", |c| instead(c, 4, c.chunks_exact(8).all(|r| r[1] == 0), 5)),
+    ("counts inputs before it looks at layouts", |c| instead(c, 2, c.chunks_exact(8).filter(|r| r[0] == INPUT).count() > 64, 4)),
+    ("looks at layouts before it looks at the size", |c| instead(c, 1, c.len() > 8 && c[0] == BUFFER, 2)),
+];
+
+#[test]
+fn wrong_programs() {
+    let cases: Vec<_> = with_areas(drawn(4, 20_000, damaged).chain(every_byte()).chain(boundaries())).collect();
+    let with_area = |check: fn(&[u8]) -> Result<Counts, Refusal>| {
+        move |case: &Check| entries::seen(&case.answer, &[], check(&case.circuit).map(|counts| (counts.numbers(), vec![])))
+    };
+    wrong_programs_are_seen(&cases, WRONG.map(|(name, check)| (name, with_area(check))));
+    wrong_programs_are_seen(&cases, [("takes any area", |case: &Check| entries::check(&case.circuit, &[0; 32]))]);
+}
+
+#[test]
+fn two_defects_at_once() {
+    let circuit = [record(INPUT, false, 0, 0), record(INPUT, true, 0, 0), record(AND, true, 0, 1)].concat();
+    let defects: [Defect<Check>; 5] = [
+        (10, |case| case.answer.push(0)),
+        (1, |case| case.circuit.push(0)),
+        (2, |case| case.circuit[15] = 1),
+        (4, |case| case.circuit.extend(record(INPUT, false, 0, 0).repeat(64))),
+        (5, |case| case.circuit.chunks_mut(8).for_each(|record| record[1] &= 2)),
+    ];
+    first_defect_is_told(&Check { circuit, answer: vec![7; 32] }, &defects);
+}
+
+/// The safe calls, on the marked examples and beside the second program.
+#[test]
+fn bindings() {
+    let refused = |number, place| Err(ullimaqsu::Refusal { number, place });
+    let accepted = |lines, inputs, outputs| Ok(ullimaqsu::Counts { lines, inputs, outputs });
+    let inputs = |count, output| record(INPUT, output, 0, 0).repeat(count);
+    let a = [&inputs(3, false)[..], &record(AND, false, 0, 1), &record(OR, true, 3, 2)].concat();
+    assert_eq!(ullimaqsu::check(&a), accepted(5, 3, 1));
+    assert_eq!(ullimaqsu::check(&inputs(64, true)), accepted(64, 64, 64));
+    assert_eq!(ullimaqsu::check(&inputs(65, true)), refused(4, 0));
+    assert_eq!(ullimaqsu::check(&inputs(65, false)), refused(4, 0));
+    assert_eq!(ullimaqsu::check(&inputs(64, false)), refused(5, 0));
+    assert_eq!(ullimaqsu::check(&record(BUFFER, true, 0, 0)), refused(2, 0));
+    assert_eq!(ullimaqsu::check(&[record(INPUT, true, 0, 0), record(NOT, true, 1, 0)].concat()), refused(2, 1));
+    assert_eq!(ullimaqsu::check(&[]), refused(1, 0));
+    for circuit in drawn(5, 1_000, damaged) {
+        let said = match second::check(&circuit) {
+            Ok(Counts { lines, inputs, outputs }) => accepted(lines as u64, inputs as u64, outputs as u64),
+            Err(Refusal { number, place }) => refused(number, place as u64),
+        };
+        assert_eq!(ullimaqsu::check(&circuit), said);
+    }
+    let words = |number, place| ullimaqsu::Refusal { number, place }.to_string();
+    assert_eq!(words(2, 17), "refusal 2: a circuit record breaks its layout (line 17)");
+    assert_eq!(words(5, 0), "refusal 5: the circuit has no output");
+}

@@ -1,0 +1,268 @@
+//! The dictionary maker against the second program: table, work memory and answer, byte by byte.
+mod harness;
+
+use cases::circuits::{circuit, record, small, sources, AND, INPUT, OR};
+use cases::faults::{every, inputs, patterns, some};
+use cases::{damage, drawn, Random};
+use harness::{compare, first_defect_is_told, wrong_programs_are_seen, Case, Defect};
+use second::entries::{self, Seen};
+use second::{Circuit, Entry, Fault, Value};
+use ullimaqsu::raw::Call;
+
+#[derive(Clone, Debug)]
+struct Dictionary {
+    circuit: Vec<u8>,
+    faults: Vec<u8>,
+    patterns: Vec<u8>,
+    table: Vec<u8>,
+    work: Vec<u8>,
+    answer: Vec<u8>,
+}
+
+impl Case for Dictionary {
+    type Element = u8;
+    const GUARD: u8 = 0xa5;
+
+    fn read(&self) -> Vec<&[u8]> {
+        vec![&self.circuit, &self.faults, &self.patterns]
+    }
+    fn lent(&self) -> Vec<&[u8]> {
+        vec![&self.table, &self.work]
+    }
+    fn answer(&self) -> &[u8] {
+        &self.answer
+    }
+    fn call<'a>(&self, read: Vec<&'a [u8]>, lent: Vec<&'a mut [u8]>, answer: &'a mut [u8]) -> Call<'a> {
+        let [circuit, faults, patterns] = read.try_into().expect("three");
+        let [table, work] = lent.try_into().expect("two");
+        Call::Dictionary { circuit, faults, patterns, table, work, answer }
+    }
+    fn second(&self) -> Seen {
+        entries::dictionary(&self.circuit, &self.faults, &self.patterns, &self.table, &self.work, &self.answer)
+    }
+}
+
+/// Lends junk of the right sizes.
+fn lend(random: &mut Random, circuit: Vec<u8>, faults: Vec<u8>, patterns: Vec<u8>) -> Dictionary {
+    let table = random.junk(faults.len() / 8 * (patterns.len() / inputs(&circuit)));
+    let (work, answer) = (random.junk(circuit.len() / 4), random.junk(32));
+    Dictionary { circuit, faults, patterns, table, work, answer }
+}
+
+/// A small circuit with some of its faults or all of them, and some patterns.
+fn sound(random: &mut Random) -> Dictionary {
+    let circuit = small(random);
+    let faults = if random.once_in(20) {
+        every(&circuit).concat()
+    } else {
+        let count = 1 + random.below(8);
+        some(random, &circuit, count)
+    };
+    let count = 1 + random.below(8);
+    let patterns = patterns(random, &circuit, count);
+    lend(random, circuit, faults, patterns)
+}
+
+/// One thing or several are wrong.
+fn damaged(random: &mut Random) -> Dictionary {
+    let mut case = sound(random);
+    let lines = case.circuit.len() / 8;
+    let mut times = 0;
+    while times == 0 || random.once_in(2) {
+        times += 1;
+        match random.below(12) {
+            0..=1 => damage::several(random, &mut case.circuit, damage::circuit),
+            2..=4 => damage::several(random, &mut case.faults, |random, bytes| damage::faults(random, bytes, lines)),
+            5..=7 => damage::several(random, &mut case.patterns, damage::patterns),
+            8..=9 => case.table.resize(damage::size(random, case.table.len()), 7),
+            10 => case.work.resize(damage::size(random, case.work.len()), 7),
+            _ => case.answer.resize(random.pick(&[0, 31, 33, 64]), 7),
+        }
+    }
+    case
+}
+
+/// The sizes at which something changes.
+fn boundaries(random: &mut Random) -> Vec<Dictionary> {
+    let mut all = vec![];
+    for (lines, wide) in [(1, 1), (2, 1), (64, 64), (65, 64), (66, 65), (2047, 64), (2048, 1), (2048, 64), (2049, 64)] {
+        for fault_count in [0, 1, 2, 255, 256, 257] {
+            for pattern_count in [0, 1, 2] {
+                let circuit = circuit(random, lines, wide);
+                let (faults, patterns) = (some(random, &circuit, fault_count), patterns(random, &circuit, pattern_count));
+                all.push(lend(random, circuit, faults, patterns));
+            }
+        }
+    }
+    for pattern_count in [255, 256, 257] {
+        let circuit = circuit(random, 100, 10);
+        let (faults, patterns) = (some(random, &circuit, 3), patterns(random, &circuit, pattern_count));
+        all.push(lend(random, circuit, faults, patterns));
+    }
+    all
+}
+
+/// 2,048 lines, 64 inputs, 256 faults, 256 patterns.
+fn largest(random: &mut Random) -> Dictionary {
+    let circuit = circuit(random, 2048, 64);
+    let (faults, patterns) = (some(random, &circuit, 256), patterns(random, &circuit, 256));
+    lend(random, circuit, faults, patterns)
+}
+
+#[test]
+fn sound_dictionaries() {
+    assert_eq!(compare("dictionary, sound", drawn(1, 100_000, sound)).seen(), [0]);
+}
+
+#[test]
+fn damaged_dictionaries() {
+    assert_eq!(compare("dictionary, damaged", drawn(2, 150_000, damaged)).seen(), [0, 1, 2, 4, 5, 6, 7, 8, 9, 10]);
+}
+
+#[test]
+fn boundaries_and_largest() {
+    assert_eq!(compare("dictionary, boundaries", boundaries(&mut Random::new(3)).into_iter()).seen(), [0, 1, 4, 6, 8]);
+    assert_eq!(compare("dictionary, largest", drawn(4, 1, largest)).seen(), [0]);
+}
+
+/// What can be wrong, in the order in which it is looked for.
+const DEFECTS: [Defect<Dictionary>; 11] = [
+    (10, |case| case.answer.push(0)),
+    (1, |case| case.circuit.push(0)),
+    (2, |case| case.circuit[15] = 1),
+    (4, |case| case.circuit.extend(record(INPUT, false, 0, 0).repeat(64))),
+    (5, |case| case.circuit.chunks_mut(8).for_each(|record| record[1] &= 2)),
+    (6, |case| case.faults.push(0)),
+    (7, |case| case.faults[11] = 2),
+    (8, |case| case.patterns.push(0)),
+    (9, |case| case.patterns[3] = 3),
+    (10, |case| case.table.push(0)),
+    (10, |case| case.work.clear()),
+];
+
+#[test]
+fn two_defects_at_once() {
+    let circuit = [record(INPUT, false, 0, 0), record(INPUT, true, 0, 0), record(AND, true, 0, 1)].concat();
+    let mut random = Random::new(5);
+    let (faults, patterns) = (some(&mut random, &circuit, 2), patterns(&mut random, &circuit, 3));
+    first_defect_is_told(&lend(&mut random, circuit, faults, patterns), &DEFECTS);
+}
+
+/// The table by another entry, and otherwise what the second program says.
+fn by(case: &Dictionary, entry: fn(&[(Value, Value)]) -> Entry) -> Seen {
+    let mut seen = case.second();
+    if seen.returned == 0 {
+        let circuit = Circuit::read(&case.circuit).expect("sound");
+        let faults = Fault::read_all(&circuit, &case.faults, 256).expect("sound");
+        let patterns = second::pattern::read_all(&case.patterns, inputs(&case.circuit)).expect("sound");
+        let of = |pattern: &[Value], fault| {
+            let (good, faulty) = (circuit.values(pattern, None), circuit.values(pattern, Some(fault)));
+            entry(&circuit.outputs().map(|line| (good[line], faulty[line])).collect::<Vec<_>>()) as u8
+        };
+        seen.lent[0] = patterns.iter().flat_map(|pattern| faults.iter().map(|&fault| of(pattern, fault))).collect();
+    }
+    seen
+}
+
+/// What the second program says of an accepted case that is changed first.
+fn of_changed(case: &Dictionary, change: fn(&mut Dictionary)) -> Seen {
+    then(case, |case, seen| {
+        let mut other = case.clone();
+        change(&mut other);
+        *seen = other.second();
+    })
+}
+
+/// What the second program says, changed where it accepts.
+fn then(case: &Dictionary, change: impl Fn(&Dictionary, &mut Seen)) -> Seen {
+    let mut seen = case.second();
+    if seen.returned == 0 {
+        change(case, &mut seen);
+    }
+    seen
+}
+
+fn differs(outputs: &[(Value, Value)]) -> bool {
+    outputs.iter().any(|(good, faulty)| good.is_some() && faulty.is_some() && good != faulty)
+}
+
+type Wrong = (&'static str, fn(&Dictionary) -> Seen);
+
+/// Programs that are wrong in one way each.
+const WRONG: [Wrong; 9] = [
+    ("answers unknown everywhere", |case| by(case, |_| Entry::Unknown)),
+    ("takes X against X for equal", |case| {
+        by(case, |outputs| match outputs.iter().all(|(good, faulty)| good == faulty) {
+            true => Entry::Pass,
+            false if differs(outputs) => Entry::Fail,
+            false => Entry::Unknown,
+        })
+    }),
+    ("looks at the first output alone", |case| {
+        by(case, |outputs| match outputs[0] {
+            (Some(good), Some(faulty)) if good == faulty => Entry::Pass,
+            (Some(_), Some(_)) => Entry::Fail,
+            _ => Entry::Unknown,
+        })
+    }),
+    ("takes a pin fault for a fault of the line that feeds it", |case| {
+        of_changed(case, |case| {
+            for fault in case.faults.chunks_exact_mut(8).filter(|fault| fault[2] > 0) {
+                let source = 8 * usize::from(fault[0]) + 2 * usize::from(fault[2]);
+                fault[..2].copy_from_slice(&case.circuit[source..source + 2]);
+                fault[2] = 0;
+            }
+        })
+    }),
+    ("swaps first and second pin", |case| {
+        of_changed(case, |case| {
+            let two_pins = |fault: &&mut [u8]| fault[2] > 0 && sources(case.circuit[8 * usize::from(fault[0])]) == 2;
+            case.faults.chunks_exact_mut(8).filter(two_pins).for_each(|fault| fault[2] = 3 - fault[2])
+        })
+    }),
+    ("puts each row at the next one's place", |case| then(case, |case, seen| seen.lent[0].rotate_right(case.faults.len() / 8))),
+    ("leaves the work of the first fault", |case| {
+        then(case, |case, seen| {
+            let mut first = case.clone();
+            first.faults.truncate(8);
+            first.table.truncate(case.patterns.len() / inputs(&case.circuit));
+            seen.lent[1] = first.second().lent[1].clone();
+        })
+    }),
+    ("gives the pattern in place of the byte", |case| {
+        let mut seen = case.second();
+        if seen.returned == 9 {
+            seen.answer[0] /= inputs(&case.circuit) as u8;
+        }
+        seen
+    }),
+    ("writes the table though something is refused", |case| {
+        let mut seen = case.second();
+        if seen.returned == 10 && case.answer.len() == 32 {
+            seen.lent[0].fill(2);
+        }
+        seen
+    }),
+];
+
+#[test]
+fn wrong_programs() {
+    let cases: Vec<_> = drawn(6, 2_000, sound).chain(drawn(7, 4_000, damaged)).collect();
+    wrong_programs_are_seen(&cases, WRONG);
+}
+
+/// The safe call, on example A.
+#[test]
+fn bindings() {
+    let inputs = record(INPUT, false, 0, 0).repeat(3);
+    let a = [&inputs[..], &record(AND, false, 0, 1), &record(OR, true, 3, 2)].concat();
+    let faults = [[3, 0, 0, 0, 0, 0, 0, 0], [3, 0, 0, 1, 0, 0, 0, 0], [2, 0, 0, 1, 0, 0, 0, 0], [0, 0, 0, 0, 0, 0, 0, 0]].concat();
+    let patterns = [1, 1, 0, 0, 1, 0, 0, 2, 0, 2, 1, 0];
+    let (mut table, mut work) = ([9; 16], [9; 10]);
+    assert_eq!(ullimaqsu::dictionary(&a, &faults, &patterns, &mut table, &mut work), Ok(()));
+    assert_eq!(table, [1, 0, 0, 1, 0, 1, 1, 0, 0, 1, 1, 0, 2, 2, 2, 2]);
+    assert_eq!(work, [2, 1, 0, 2, 2, 0, 1, 0, 0, 0]);
+    let refused = ullimaqsu::dictionary(&a, &[0, 0, 1, 0, 0, 0, 0, 0], &patterns, &mut table, &mut work);
+    assert_eq!(refused, Err(ullimaqsu::Refusal { number: 7, place: 0 }));
+    assert_eq!(refused.unwrap_err().to_string(), "refusal 7: a fault record breaks its layout or names no line (record 0)");
+}

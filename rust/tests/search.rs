@@ -1,0 +1,217 @@
+//! The test search against the second program, and its verdicts against all input vectors.
+mod harness;
+#[path = "wrong/search.rs"]
+mod wrong;
+
+use cases::circuits::{circuit, record, AND, INPUT, NOT, XOR};
+use cases::faults::{self, some};
+use cases::{damage, drawn, Random};
+use harness::{compare, first_defect_is_told, library, wrong_programs_are_seen, Case, Defect};
+use second::entries::{self, Seen};
+use second::search::search_circuit;
+use second::values::byte;
+use second::{Circuit, Entry, Fault, Pattern};
+use ullimaqsu::raw::Call;
+use ullimaqsu::Outcome;
+
+#[derive(Clone, Debug)]
+struct Search {
+    circuit: Vec<u8>,
+    fault: Vec<u8>,
+    budget: u64,
+    test: Vec<u8>,
+    work: Vec<u8>,
+    answer: Vec<u8>,
+}
+
+/// Verdicts are counted with these numbers.
+const TEST: u32 = 100;
+const REDUNDANT: u32 = 101;
+const GIVEN_UP: u32 = 102;
+
+impl Case for Search {
+    type Element = u8;
+    const GUARD: u8 = 0xa5;
+
+    fn read(&self) -> Vec<&[u8]> {
+        vec![&self.circuit, &self.fault]
+    }
+    fn lent(&self) -> Vec<&[u8]> {
+        vec![&self.test, &self.work]
+    }
+    fn answer(&self) -> &[u8] {
+        &self.answer
+    }
+    fn call<'a>(&self, read: Vec<&'a [u8]>, lent: Vec<&'a mut [u8]>, answer: &'a mut [u8]) -> Call<'a> {
+        let [circuit, fault] = read.try_into().expect("two");
+        let [test, work] = lent.try_into().expect("two");
+        Call::Search { circuit, fault, budget: self.budget, test, work, answer }
+    }
+    fn second(&self) -> Seen {
+        entries::search(&self.circuit, &self.fault, self.budget, &self.test, &self.work, &self.answer)
+    }
+    fn counted(seen: &Seen) -> u32 {
+        if seen.returned == 0 {
+            TEST + u32::from(seen.answer[0])
+        } else {
+            seen.returned
+        }
+    }
+}
+
+impl Search {
+    /// The circuit and the fault of an accepted case.
+    fn parts(&self) -> (Circuit, Fault) {
+        let circuit = Circuit::read(&self.circuit).expect("sound");
+        let fault = Fault::read_all(&circuit, &self.fault, 1).expect("sound")[0];
+        (circuit, fault)
+    }
+}
+
+/// Any fault of a circuit, no end to the budget, and junk of the right sizes.
+fn lend(random: &mut Random, circuit: Vec<u8>) -> Search {
+    let fault = some(random, &circuit, 1);
+    let (test, work, answer) = (random.junk(faults::inputs(&circuit)), random.junk(circuit.len() / 4), random.junk(32));
+    Search { circuit, fault, budget: u64::MAX, test, work, answer }
+}
+
+fn few_inputs(random: &mut Random) -> Search {
+    let lines = 1 + random.below(30);
+    let inputs = 1 + random.below(lines.min(7));
+    let circuit = circuit(random, lines, inputs);
+    lend(random, circuit)
+}
+
+/// With a budget around the number of nodes that are needed.
+fn sound(random: &mut Random) -> Search {
+    let case = few_inputs(random);
+    let (circuit, fault) = case.parts();
+    let count = search_circuit(&circuit, fault, u64::MAX).nodes;
+    let fewer = random.word() % count;
+    let budget = random.pick(&[0, 1, fewer, count - 1, count, count + 1, u64::MAX]);
+    Search { budget, ..case }
+}
+
+/// 60 to 64 inputs, and a small budget.
+fn many_inputs(random: &mut Random) -> Search {
+    let inputs = 60 + random.below(5);
+    let lines = inputs + random.below(200);
+    let circuit = circuit(random, lines, inputs);
+    let budget = random.pick(&[0, 1, 2, 63, 64, 65, 66, 67, 200]);
+    Search { budget, ..lend(random, circuit) }
+}
+
+/// The parity of 64 inputs, whose output is stuck at 0: the search goes down to the last input before it knows anything.
+fn parity() -> Search {
+    let mut circuit = record(INPUT, false, 0, 0).repeat(64);
+    (1..64).for_each(|input| circuit.extend(record(XOR, input == 63, if input == 1 { 0 } else { 62 + input }, input)));
+    Search { fault: faults::record(126, 0, false).to_vec(), ..lend(&mut Random::new(0), circuit) }
+}
+
+/// One thing or several are wrong.
+fn damaged(random: &mut Random) -> Search {
+    let mut case = sound(random);
+    let lines = case.circuit.len() / 8;
+    let mut times = 0;
+    while times == 0 || random.once_in(2) {
+        times += 1;
+        match random.below(8) {
+            0..=1 => damage::several(random, &mut case.circuit, damage::circuit),
+            2..=4 => damage::several(random, &mut case.fault, |random, bytes| damage::faults(random, bytes, lines)),
+            5 => case.test.resize(damage::size(random, case.test.len()), 7),
+            6 => case.work.resize(damage::size(random, case.work.len()), 7),
+            _ => case.answer.resize(random.pick(&[0, 31, 33, 64]), 7),
+        }
+    }
+    // a damaged circuit may have many inputs: no long searches
+    Search { budget: case.budget.min(300), ..case }
+}
+
+#[test]
+fn sound_searches() {
+    assert_eq!(compare("search, sound", drawn(1, 60_000, sound)).seen(), [TEST, REDUNDANT, GIVEN_UP]);
+}
+
+#[test]
+fn damaged_searches() {
+    let seen = [1, 2, 4, 5, 6, 7, 10, TEST, REDUNDANT, GIVEN_UP];
+    assert_eq!(compare("search, damaged", drawn(2, 150_000, damaged)).seen(), seen);
+}
+
+#[test]
+fn searches_with_many_inputs() {
+    assert_eq!(compare("search, 60 to 64 inputs", drawn(3, 3_000, many_inputs)).seen(), [TEST, REDUNDANT, GIVEN_UP]);
+    let budgets = [0, 1, 64, 65, 66, 67, u64::MAX].into_iter().map(|budget| Search { budget, ..parity() });
+    assert_eq!(compare("search, parity of 64 inputs", budgets).seen(), [TEST, GIVEN_UP]);
+    let largest = |random: &mut Random| {
+        let circuit = circuit(random, 2048, 64);
+        Search { budget: 100, ..lend(random, circuit) }
+    };
+    assert_eq!(compare("search, 2,048 lines", drawn(4, 50, largest)).seen(), [TEST, GIVEN_UP]);
+}
+
+/// Every complete pattern of so many inputs.
+fn vectors(inputs: usize) -> impl Iterator<Item = Pattern> {
+    (0..1 << inputs).map(move |bits: usize| (0..inputs).map(|input| Some(bits >> input & 1 == 1)).collect())
+}
+
+/// Without a budget, there is a test exactly if some vector detects the fault; then every filling of it does, and there are no more than
+/// 2^(n+1) - 1 nodes.
+#[test]
+fn verdicts_and_all_vectors() {
+    let cases: Vec<_> = drawn(5, 3_000, few_inputs).collect();
+    let mut found = [0; 2];
+    for (case, seen) in cases.iter().zip(library(&cases)) {
+        let (circuit, fault) = case.parts();
+        let inputs = case.test.len();
+        let detecting: Vec<_> = vectors(inputs).filter(|vector| circuit.entry(vector, fault) == Entry::Fail).collect();
+        assert_eq!(Search::counted(&seen), if detecting.is_empty() { REDUNDANT } else { TEST }, "{case:?}");
+        if !detecting.is_empty() {
+            let fills = |vector: &Pattern| vector.iter().zip(&seen.lent[0]).all(|(value, &test)| test == 2 || byte(value) == test);
+            assert!(vectors(inputs).filter(fills).all(|vector| detecting.contains(&vector)), "{case:?}");
+        }
+        let nodes = u64::from_le_bytes(seen.answer[8..16].try_into().expect("eight bytes"));
+        assert!((1..2 << inputs).contains(&nodes), "{case:?}");
+        found[usize::from(seen.answer[0])] += 1;
+    }
+    assert!(found.iter().all(|&times| times > 300), "{found:?}");
+}
+
+/// What can be wrong, in the order in which it is looked for.
+const DEFECTS: [Defect<Search>; 9] = [
+    (10, |case| case.answer.push(0)),
+    (1, |case| case.circuit.push(0)),
+    (2, |case| case.circuit[15] = 1),
+    (4, |case| case.circuit.extend(record(INPUT, false, 0, 0).repeat(64))),
+    (5, |case| case.circuit.chunks_mut(8).for_each(|record| record[1] &= 2)),
+    (6, |case| case.fault.extend([0; 8])),
+    (7, |case| case.fault[3] = 2),
+    (10, |case| case.test.push(0)),
+    (10, |case| case.work.clear()),
+];
+
+#[test]
+fn two_defects_at_once() {
+    let circuit = [record(INPUT, false, 0, 0), record(INPUT, true, 0, 0), record(AND, true, 0, 1)].concat();
+    first_defect_is_told(&lend(&mut Random::new(6), circuit), &DEFECTS);
+}
+
+#[test]
+fn wrong_programs() {
+    let cases: Vec<_> = drawn(7, 4_000, sound).chain(drawn(8, 2_000, damaged)).collect();
+    wrong_programs_are_seen(&cases, wrong::PROGRAMS);
+}
+
+#[test]
+fn bindings() {
+    let never = [record(INPUT, false, 0, 0), record(NOT, false, 0, 0), record(AND, true, 0, 1)].concat();
+    let (mut test, mut work) = ([9; 1], [9; 6]);
+    let mut search = |budget| ullimaqsu::search(&never, &faults::record(2, 0, false), budget, &mut test, &mut work).expect("sound");
+    let found = |outcome, nodes| ullimaqsu::Search { outcome, nodes };
+    assert_eq!(search(0), found(Outcome::GivenUp, 0));
+    assert_eq!(search(2), found(Outcome::GivenUp, 2));
+    assert_eq!(search(3), found(Outcome::Redundant, 3));
+    assert_eq!((test, work), ([9], [1, 0, 0, 1, 0, 0]));
+    let refused = ullimaqsu::search(&never, &[0; 16], 1, &mut test, &mut work).unwrap_err();
+    assert_eq!((refused.number, refused.place), (6, 0));
+}
