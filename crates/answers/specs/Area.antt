@@ -43,12 +43,7 @@ told (Refused m k) s = refusedAt m k
 abbrev pub done : Numbers
 done = success 0 0 0
 
--- an answer as it is handed out: its number is returned, its values are the area's bytes
-pub record Reported (answer : Numbers) (r : ℕ) (a′ : List ℕ) : Type 0 where
-  pub number : r ≡ answer .number
-  pub bytes : a′ ≡ areaOf (answer .values)
-
--- what C gets of it, where the area held a: another size than 32 gives 10, before all else, and the area stays
+-- what C gets of an answer, where the area held a: another size than 32 gives 10, before all else, and the area stays
 pub record Entered (a : List ℕ) (answer : Numbers) (r : ℕ) (a′ : List ℕ) : Type 0 where
   pub number : r ≡ choose (eqb (length a) 32) (answer .number) 10
   pub bytes : a′ ≡ choose (eqb (length a) 32) (areaOf (answer .values)) a

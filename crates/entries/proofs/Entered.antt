@@ -7,20 +7,20 @@ use Prim.Native.Nat.{ℕ}
 use lib.Dec.{eqb}
 use lib.IntN.{ℤ}
 use lib.ListN.{length}
-use Rattle.answers.specs.Area.{Numbers, Reported, Entered}
+use Rattle.answers.specs.Area.{Numbers, areaOf, Entered}
 use Rattle.entries.specs.Entries.{Made, Compacted, Found, Laid}
 
 -- an area of another size: 10, and it stays
 pub other-size : {a : List ℕ} (answer : Numbers) → eqb (length a) 32 ≡ false → Entered a answer 10 a
 other-size answer e = record { number = rw e; bytes = rw e }
 
--- an area of 32 bytes: what was reported, of an answer with the numbers that are promised
-pub reported : {a : List ℕ} {found : Numbers} (answer : Numbers) {r : ℕ} {a′ : List ℕ}
-    → eqb (length a) 32 ≡ true
-    → found ≡ answer
-    → Reported found r a′
-    → Entered a answer r a′
-reported answer e q p = record { number = rw (e, ← q) (p .number); bytes = rw (e, ← q) (p .bytes) }
+-- an area of 32 bytes: the number and the bytes of the answer
+pub right-size : {a : List ℕ} (answer : Numbers) {a′ : List ℕ} → eqb (length a) 32 ≡ true → a′ ≡ areaOf (answer .values) → Entered a answer (answer .number) a′
+right-size answer e p = record { number = rw e; bytes = rw e p }
+
+-- the same of an answer with the numbers that are promised
+pub entered-as : {a : List ℕ} {found answer : Numbers} {r : ℕ} {a′ : List ℕ} → found ≡ answer → Entered a found r a′ → Entered a answer r a′
+entered-as q p = rw (← q) p
 
 -- ---- one result
 

@@ -12,7 +12,7 @@ use search::Searched;
 use search::search;
 ghost use mathlib.Core.Path.{_≡_};
 ghost use lib.ListN.{length};
-ghost use Rattle.answers.specs.Area.{refusedAt, told, done, Reported, Entered};
+ghost use Rattle.answers.specs.Area.{refusedAt, told, done, Entered};
 ghost use Rattle.answers.specs.Area as answering;
 ghost use Rattle.circuit.specs.Check.{numbersOf};
 ghost use Rattle.search.specs.Search.{verdictNumbers};
@@ -107,24 +107,23 @@ fn of_written(v: Written) -> Reply
     }
 }
 
-// The number is returned, the values are the area's bytes.
+// The number is returned, the values are the area's bytes. An area of another size gives 10 and stays.
 fn report(reply: Reply, area: &mut [u8]) -> u32
-    requires { ⌜ length (now area) ≡ 32 ⌝ }
-    ensures { λ r. ⌜ Reported (numbersIn reply) r (now (area .exit)) ⌝ }
+    ensures { λ r. ⌜ Entered (now (area .entry)) (numbersIn reply) r (now (area .exit)) ⌝ }
 {
+    if area.len() != AREA {
+        return OTHER_SIZE;
+    }
     put_numbers(area, reply.first, reply.second, reply.third, 0);
     reply.number
 }
 
-// ---- the entries
+// ---- the entries. Those with lent memory look at the area first: with one of another size nothing is written at all
 
 #[no_mangle]
 pub extern "C" fn ullimaqsu_check(circuit: &[u8], answer: &mut [u8]) -> u32
     ensures { λ r. ⌜ Entered (now (answer .entry)) (checkNumbers (now (circuit .entry))) r (now (answer .exit)) ⌝ }
 {
-    if answer.len() != AREA {
-        return OTHER_SIZE;
-    }
     let v = check(circuit);
     report(of_checked(v), answer)
 }

@@ -1,14 +1,10 @@
--- `entries::ullimaqsu_check` meets its contract: an area of another size first, else the answer of the part.
+-- `entries::ullimaqsu_check` meets its contract: the answer of the part, reported.
 -- Assumes nothing.
-use borrow.Author.Tests.{eq-eqb, ne-eqb}
 use mathlib.Core.Path.{_∙_}
 use borrow.Author.Needs.{needs}
-use Rattle.entries.proofs.Entered.{other-size, reported}
+use Rattle.entries.proofs.Entered.{entered-as}
 use Rattle.entries.proofs.ullimaqsu_check.Statement.{statement}
 use Rattle.entries.proofs.ullimaqsu_check.Tie as tie
-
-returns : tie.Need-returns
-returns c = other-size _ (ne-eqb _ _ (c .if1 .taken))
 
 check-requires : tie.Need-check-requires
 check-requires c κs = search needs
@@ -22,10 +18,9 @@ report-requires c κs = search needs
 same-length : tie.Need-same-length
 same-length c = search needs
 
-returns-2 : tie.Need-returns-2
-returns-2 c = reported _ (eq-eqb _ _ (c .before .before .before .before .before .before .if1 .left)) (c .before .before .before .before .of-checked .ensures ∙ c .before .before .before .before .before .check .ensures .numbers) (c .before .before .report .ensures)
+returns : tie.Need-returns
+returns c = entered-as (c .before .before .before .before .of-checked .ensures ∙ c .before .before .before .before .before .check .ensures .numbers) (c .before .before .report .ensures)
 
 pub ullimaqsu-check-spec : {M : Type 1} → statement M
 ullimaqsu-check-spec =
-    tie.close
-    (tie.spec returns check-requires of-checked-requires report-requires same-length returns-2)
+    tie.close (tie.spec check-requires of-checked-requires report-requires same-length returns)

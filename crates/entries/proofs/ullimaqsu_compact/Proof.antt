@@ -5,7 +5,7 @@ use borrow.Author.Tests.{eq-eqb, ne-eqb}
 use borrow.Author.Needs.{needs}
 use Rattle.answers.specs.Area.{told, done}
 use Rattle.answers.specs.declared.Ruling.{Ruling}
-use Rattle.entries.proofs.Entered.{other-size, reported}
+use Rattle.entries.proofs.Entered.{other-size, entered-as}
 use Rattle.entries.proofs.ullimaqsu_compact.Statement.{statement}
 use Rattle.entries.proofs.ullimaqsu_compact.Tie as tie
 
@@ -30,7 +30,7 @@ same-length-2 c = search needs
 returns-2 : tie.Need-returns-2
 returns-2 c = let e = eq-eqb _ _ (c .before .before .before .before .before .before .before .before .before .if1 .left) in
     let k = c .before .before .before .before .before .before .before .compact .ensures in
-    record { answer = reported _ e (c .before .before .before .before .of-ruling .ensures ∙ ap (λ (v : Ruling). told v done) (k .answer)) (c .before .before .report .ensures); marks = rw e (k .marks) }
+    record { answer = entered-as (c .before .before .before .before .of-ruling .ensures ∙ ap (λ (v : Ruling). told v done) (k .answer)) (c .before .before .report .ensures); marks = rw e (k .marks) }
 
 pub ullimaqsu-compact-spec : {M : Type 1} → statement M
 ullimaqsu-compact-spec =

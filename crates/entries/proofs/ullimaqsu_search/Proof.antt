@@ -3,7 +3,7 @@
 use borrow.Author.Tests.{eq-eqb, ne-eqb}
 use mathlib.Core.Path.{_∙_}
 use borrow.Author.Needs.{needs}
-use Rattle.entries.proofs.Entered.{other-size, reported}
+use Rattle.entries.proofs.Entered.{other-size, entered-as}
 use Rattle.entries.proofs.ullimaqsu_search.Statement.{statement}
 use Rattle.entries.proofs.ullimaqsu_search.Tie as tie
 
@@ -31,7 +31,7 @@ same-length-3 c = search needs
 returns-2 : tie.Need-returns-2
 returns-2 c = let e = eq-eqb _ _ (c .before .before .before .before .before .before .before .before .before .before .before .before .if1 .left) in
     let k = c .before .before .before .before .before .before .before .before .before .search .ensures in
-    record { answer = reported _ e (c .before .before .before .before .of-searched .ensures ∙ k .numbers) (c .before .before .report .ensures); test = rw e (k .test); work = rw e (k .work) }
+    record { answer = entered-as (c .before .before .before .before .of-searched .ensures ∙ k .numbers) (c .before .before .report .ensures); test = rw e (k .test); work = rw e (k .work) }
 
 pub ullimaqsu-search-spec : {M : Type 1} → statement M
 ullimaqsu-search-spec =

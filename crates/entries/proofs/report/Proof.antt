@@ -1,0 +1,23 @@
+-- `entries::report` meets its contract: an area of another size first, else the numbers.
+-- Assumes nothing.
+use borrow.Author.Tests.{eq-eqb, ne-eqb}
+use borrow.Author.Needs.{needs}
+use Rattle.entries.proofs.Entered.{other-size, right-size}
+use Rattle.entries.specs.Entries.{numbersIn}
+use Rattle.entries.proofs.report.Statement.{statement}
+use Rattle.entries.proofs.report.Tie as tie
+
+returns : tie.Need-returns
+returns c = other-size _ (ne-eqb _ _ (c .if1 .taken))
+
+put-numbers-requires : tie.Need-put-numbers-requires
+put-numbers-requires c κs = search needs
+
+same-length : tie.Need-same-length
+same-length c = search needs
+
+returns-2 : tie.Need-returns-2
+returns-2 c = right-size (numbersIn (c .before .before .before .before .before .before .args .reply)) (eq-eqb _ _ (c .before .before .before .before .if1 .left)) (c .before .before .put-numbers .ensures)
+
+pub report-spec : {M : Type 1} → statement M
+report-spec = tie.close (tie.spec returns put-numbers-requires same-length returns-2)
