@@ -54,6 +54,10 @@ rule-cases (each m n test asked) s =
     }))
     (first-cases n test)
 
+pub or-fine : (v : Ruling) → orElse v Fine ≡ v
+or-fine Fine = refl
+or-fine (Refused m k) = refl
+
 pub not-fine : {m k : ℕ} → Fine ≡ Refused m k → ⊥
 not-fine e = let z : _≡_ {A = ℕ} 0 1 = cc in omega arith
 

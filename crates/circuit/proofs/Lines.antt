@@ -11,6 +11,7 @@ use Rattle.ground.specs.Choose.{choose}
 use Rattle.ground.proofs.Tests.{both, and-both}
 use Rattle.answers.specs.Rules.{Same}
 use Rattle.gates.specs.Gate.{lastKind, pinsOf}
+use Rattle.gates.proofs.Laws.{two-pins}
 use Rattle.circuit.specs.Record.{kindAt, outAt, pinAt}
 use Rattle.circuit.specs.Layout.{pinOk, lineOk, Pin, Layout}
 
@@ -21,15 +22,6 @@ three P a b c (suc zero) l h = a
 three P a b c (suc (suc zero)) l h = b
 three P a b c (suc (suc (suc zero))) l h = c
 three P a b c (suc (suc (suc (suc s)))) l h = absurd (omega arith)
-
-pub two-pins : (kind : ℕ) → pinsOf kind ≤ 2
-unfolding pinsOf
-two-pins kind = go (eqb kind 0) (leb kind 2)
-  where
-    go : (t u : Bool) → choose t 0 (choose u 1 2) ≤ 2
-    go true u = omega arith
-    go false true = omega arith
-    go false false = omega arith
 
 module _ (c : List ℕ) (k : ℕ) where
   pin : (s : ℕ) → pinOk c k s ≡ true → Pin c k s

@@ -3,12 +3,12 @@
 use mathlib.Core.Path.{_≡_, refl, sym, ap, _∙_}
 use mathlib.Core.Bool.{Bool, true, false, not}
 use mathlib.Core.List.{List}
-use Prim.Native.Nat.{ℕ, zero, suc, _+_, _-_, _*_, _≤_, _<_}
+use Prim.Native.Nat.{ℕ, suc, _+_, _-_, _*_, _≤_, _<_}
 use native.Mathlib.Decide.{decLt}
 use native.Mathlib.Nat.{suc-mul, mul-comm, mul-le-mul-right}
 use native.Mathlib.Omega.{arith}
 use lib.Dec.{ltb}
-use lib.ListN.{length, getD, set, replicate, length-replicate}
+use lib.ListN.{length, set, replicate, length-replicate}
 use borrow.Author.Tests.{lt-ltb, le-ltb}
 use Rattle.needs.specs.Needs.{tableOf, whole, lacks, kept, turns, compacted}
 use Rattle.needs.proofs.Words.{meets-is}
@@ -39,11 +39,6 @@ pub sizes-after : {c s t : List ℕ} {F P : ℕ} (d r : List ℕ) → Sizes c s 
 sizes-after d r z e f = record { few-faults = z .few-faults; few-patterns = z .few-patterns; cells = e ∙ z .cells; faults = f ∙ z .faults; table = z .table }
 
 -- ---- the start
-
-pub zeros : (n k : ℕ) → _≡_ {A = ℕ} (getD (replicate n 0) k 0) 0
-zeros zero k = refl
-zeros (suc n) zero = refl
-zeros (suc n) (suc k) = zeros n k
 
 pub start-sizes : (n k : ℕ) (t : List ℕ) (F P : ℕ) → n ≡ 65792 → k ≡ 256 → Sized F P (length t) → Sizes (replicate n 0) (replicate k 0) t F P
 start-sizes n k t F P e f z = record {

@@ -12,16 +12,12 @@ use Rattle.ground.specs.Choose.{choose}
 use Rattle.ground.proofs.Tests.{both, and-both, T-is, is-T}
 use Rattle.ground.proofs.Below.{at-below, every-all, any-some, some-any}
 use Rattle.answers.specs.Rules.{Same}
-use Rattle.answers.proofs.Same.{lt-same, eq-same, and-same}
+use Rattle.answers.proofs.Same.{lt-same, eq-same, and-same, never-same}
 use Rattle.circuit.specs.Record.{isOutput}
 use Rattle.entry.specs.Entry.{pass, fail, unknown, Test, differ, agree, someOutput, everyOutput, entryBy, entryOf}
 use Rattle.entry.specs.Words.{Differ, Agree, SomeOutput, EveryOutput, Chosen, EntryBy, Entry}
 
 -- ---- the two tests
-
-not-same : (t : Bool) {A : Type 0} → Same t A → Same (not t) (A → ⊥)
-not-same true s = record { holds = λ e. absurd (false≢true e); tests = λ h. absurd (h (s .holds refl)) }
-not-same false s = record { holds = λ _ a. false≢true (s .tests a); tests = λ _. refl }
 
 pub differ-says : (a b : ℕ) → Same (differ a b) (Differ a b)
 unfolding differ
@@ -31,7 +27,7 @@ differ-says a b = record {
 }
   where
     said : Same (differ a b) ((a < 2) × ((b < 2) × (a ≡ b → ⊥)))
-    said = and-same (lt-same a 2) (and-same (lt-same b 2) (not-same (eqb a b) (eq-same a b)))
+    said = and-same (lt-same a 2) (and-same (lt-same b 2) (never-same (eqb a b) (eq-same a b)))
 
 pub agree-says : (a b : ℕ) → Same (agree a b) (Agree a b)
 unfolding agree

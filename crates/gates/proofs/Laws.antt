@@ -5,9 +5,9 @@ use mathlib.Core.Logic.{⊎-elim}
 use mathlib.Core.Bool.{Bool, true, false, not, _&&_, _||_}
 use Prim.Native.Nat.{ℕ, _≤_, _<_}
 use native.Mathlib.Omega.{arith}
-use lib.Dec.{T, ltb, leb, eqb, leb→le, ltb→lt, eqb→eq}
+use lib.Dec.{T, leb, eqb, leb→le, ltb→lt, eqb→eq}
 use borrow.Author.Tests.{eq-eqb, ne-eqb, lt-leb, leb-true, leb-false}
-use Rattle.ground.specs.Choose.{one}
+use Rattle.ground.specs.Choose.{choose, one}
 use Rattle.ground.proofs.Tests.{either, one-same}
 use Rattle.gates.specs.Gate.{lastKind, pinsOf, bufOf, gateOf, Refines}
 use Rattle.gates.specs.Boolean.{boolGate}
@@ -17,6 +17,16 @@ use Rattle.gates.proofs.Computed.{at-gates, smallTest, small-all, seesX
 -- at each pin that the kind has
 abbrev pub AtPins : ℕ → (ℕ → Type 0) → Type 0
 AtPins k P = (s : ℕ) → 1 ≤ s → s ≤ pinsOf k → P s
+
+-- no kind has more than two pins
+pub two-pins : (kind : ℕ) → pinsOf kind ≤ 2
+unfolding pinsOf
+two-pins kind = go (eqb kind 0) (leb kind 2)
+  where
+    go : (t u : Bool) → choose t 0 (choose u 1 2) ≤ 2
+    go true u = omega arith
+    go false true = omega arith
+    go false false = omega arith
 
 -- a gate's value is 0, 1 or 2
 pub gate-small : (k : ℕ) (v : ℕ → ℕ) → gateOf k v ≤ 2

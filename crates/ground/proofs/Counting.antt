@@ -2,7 +2,7 @@
 -- Assumes nothing.
 use mathlib.Core.Path.{_≡_, refl, ap, _∙_}
 use mathlib.Core.Logic.{⊎-elim}
-use mathlib.Core.Bool.{Bool, true, false, not, _||_}
+use mathlib.Core.Bool.{Bool, true, false, not, _&&_, _||_}
 use Prim.Native.Nat.{ℕ, zero, suc, _+_, _≤_, _<_}
 use native.Mathlib.Decide.{ℕ-discrete}
 use native.Mathlib.Nat.{add-zero, not-suc-le-zero, eq-or-lt-of-le}
@@ -12,7 +12,7 @@ use lib.Dec.{eqb}
 use borrow.Author.Tests.{ne-eqb}
 use Rattle.ground.specs.Choose.{one}
 use Rattle.ground.specs.Below.{anyBelow, countBelow}
-use Rattle.ground.proofs.Tests.{one-most}
+use Rattle.ground.proofs.Tests.{one-most, one-either}
 
 pub count-same : (n : ℕ) (t u : ℕ → Bool) → ((k : ℕ) → k < n → t k ≡ u k) → countBelow n t ≡ countBelow n u
 unfolding countBelow
@@ -23,6 +23,11 @@ pub count-none : (n : ℕ) (t : ℕ → Bool) → ((k : ℕ) → k < n → t k �
 unfolding countBelow
 count-none zero t h = refl
 count-none (suc n) t h = rw (count-none n t (λ k l. h k (omega arith)), h n (omega arith))
+
+pub count-all : (n : ℕ) (t : ℕ → Bool) → ((k : ℕ) → k < n → t k ≡ true) → countBelow n t ≡ n
+unfolding countBelow
+count-all zero t h = refl
+count-all (suc n) t h = rw (count-all n t (λ k l. h k (omega arith)), h n (omega arith), add-one)
 
 pub count-most : (n : ℕ) (t : ℕ → Bool) → countBelow n t ≤ n
 unfolding countBelow
@@ -65,6 +70,12 @@ count-more (suc n) t u k l e same = go (ℕ-discrete n k) (λ m. count-more n t 
         let below : countBelow n t ≡ countBelow n u = count-same n t u (λ j l. same j (omega arith) (omega arith)) in
         rw (here, below, q) (omega arith)
     go (no d) ih = rw (same n (omega arith) d) (omega (arith, ih (omega arith)))
+
+-- where never both hold, those at which either does are those of the one and those of the other
+pub count-either : (n : ℕ) (t u : ℕ → Bool) → ((k : ℕ) → (t k && u k) ≡ false) → countBelow n (λ k. t k || u k) ≡ countBelow n t + countBelow n u
+unfolding countBelow
+count-either zero t u h = refl
+count-either (suc n) t u h = omega (arith, count-either n t u h, one-either (t n) (u n) (h n))
 
 -- at some place is: not at none
 pub any-count : (n : ℕ) (t : ℕ → Bool) → anyBelow n t ≡ not (eqb (countBelow n t) 0)

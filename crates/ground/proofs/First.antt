@@ -56,6 +56,19 @@ module _ (n : ℕ) (t : ℕ → Bool) where
   pub first-none : Every t 0 n → firstNot n t ≡ n
   first-none h = ⊎-elim (λ q. absurd (true≢false (sym (h _ (omega arith) (q .inside)) ∙ q .bad))) (λ a. a .0) first-cases
 
+-- two tests that agree below n
+pub first-same : (n : ℕ) (t u : ℕ → Bool) → ((k : ℕ) → k < n → t k ≡ u k) → firstNot n t ≡ firstNot n u
+first-same n t u h =
+    ⊎-elim
+    (λ q. sym (first-is n u (record {
+      above = q .above;
+      inside = q .inside;
+      bad = sym (h _ (q .inside)) ∙ q .bad;
+      below = λ j l b. sym (h j (omega (arith, q .inside))) ∙ q .below j l b;
+    })))
+    (λ a. a .0 ∙ sym (first-none n u (λ j l b. sym (h j b) ∙ a .1 j l b)))
+    (first-cases n t)
+
 -- ---- a loop that counts up to the first place at which the test fails
 
 pub every-none : (t : ℕ → Bool) → Every t 0 0

@@ -3,3 +3,9 @@ pub mod Below
 pub mod Counting
 pub mod First
 pub mod Put
+pub mod Filled
+pub mod Map
+pub mod Lists
+pub mod Collect
+pub mod Elem
+pub mod Related

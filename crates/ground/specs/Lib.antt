@@ -1,3 +1,4 @@
 pub mod Choose
 pub mod Below
 pub mod Put
+pub mod Lists

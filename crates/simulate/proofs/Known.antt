@@ -11,10 +11,9 @@ use lib.Dec.{eqb}
 use lib.ListN.{length, getD}
 use borrow.Author.Tests.{eqb-true, eqb-false}
 use Rattle.ground.specs.Choose.{choose}
-use Rattle.gates.proofs.Laws.{gate-known}
+use Rattle.gates.proofs.Laws.{gate-known, two-pins}
 use Rattle.circuit.specs.Record.{kindAt, pinAt, isInput, inputsBefore}
 use Rattle.circuit.specs.Formed.{WellFormed}
-use Rattle.circuit.proofs.Lines.{two-pins}
 use Rattle.lists.specs.declared.Fault.{Fault}
 use Rattle.simulate.specs.Simulate.{Forcing, unforced, stuckAt, gateValue, lineValue, valuesTo}
 use Rattle.simulate.specs.Vectors.{NoX}

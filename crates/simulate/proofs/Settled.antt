@@ -10,10 +10,9 @@ use lib.ListN.{length, getD, take, set, length-set}
 use lib.Seq.{getD-take, take-suc-set, take-all, getD-set-other}
 use borrow.Author.Tests.{eqb-false}
 use Rattle.ground.specs.Choose.{choose}
-use Rattle.gates.proofs.Laws.{gate-same}
+use Rattle.gates.proofs.Laws.{gate-same, two-pins}
 use Rattle.circuit.specs.Record.{kindAt, pinAt, isInput, inputsBefore}
 use Rattle.circuit.specs.Formed.{Lower, WellFormed}
-use Rattle.circuit.proofs.Lines.{two-pins}
 use Rattle.simulate.specs.Simulate.{Forcing, unforced, gateValue, lineValue, valuesTo}
 use Rattle.simulate.specs.Work.{goodOf}
 use Rattle.simulate.specs.Owed.{Ordered, lineIn, InputsFrom, Settled, Leaves, Simulates}

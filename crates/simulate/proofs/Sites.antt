@@ -7,9 +7,8 @@ use native.Mathlib.Omega.{arith}
 use lib.ListN.{getD}
 use borrow.Author.Tests.{ne-eqb}
 use Rattle.gates.specs.Gate.{pinsOf}
-use Rattle.gates.proofs.Laws.{gate-same}
+use Rattle.gates.proofs.Laws.{gate-same, two-pins}
 use Rattle.circuit.specs.Record.{kindAt, pinAt}
-use Rattle.circuit.proofs.Lines.{two-pins}
 use Rattle.lists.specs.declared.Fault.{Fault}
 use Rattle.simulate.specs.Simulate.{Forcing, unforced, stuckAt, gateValue, lineValue, valuesTo}
 use Rattle.simulate.specs.Sites.{faultyAt, Gives, OnLine, OnPin}

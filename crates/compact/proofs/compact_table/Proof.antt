@@ -1,7 +1,8 @@
 -- `compact::compact_table` meets its contract: the counts start at 0.
 -- Assumes nothing.
 use mathlib.Core.Path.{refl}
-use Rattle.compact.proofs.Loops.{zeros, start-sizes}
+use Rattle.ground.proofs.Filled.{filled-at}
+use Rattle.compact.proofs.Loops.{start-sizes}
 use Rattle.compact.proofs.Promise.{finish-10, finish-fine}
 use borrow.Author.Needs.{needs}
 use Rattle.compact.proofs.compact_table.Statement.{statement}
@@ -17,7 +18,7 @@ slice-aggregate-mark-all-2 : tie.Need-slice-aggregate-mark-all-2
 slice-aggregate-mark-all-2 c = search needs
 
 mark-all-requires : tie.Need-mark-all-requires
-mark-all-requires c κs = (start-sizes 65792 256 _ _ _ refl refl (c .before .before .before .before .before .before .pre), ((zeros 65792, zeros 256), c .before .before .before .if1 .left))
+mark-all-requires c κs = (start-sizes 65792 256 _ _ _ refl refl (c .before .before .before .before .before .before .pre), ((filled-at 65792 0, filled-at 256 0), c .before .before .before .if1 .left))
 
 same-length : tie.Need-same-length
 same-length c = search needs
