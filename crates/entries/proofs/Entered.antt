@@ -8,7 +8,7 @@ use lib.Dec.{eqb}
 use lib.IntN.{ℤ}
 use lib.ListN.{length}
 use Rattle.answers.specs.Area.{Numbers, areaOf, Entered}
-use Rattle.entries.specs.Entries.{Made, Compacted, Found, Laid}
+use Rattle.entries.specs.Entries.{Made, Compacted, Found, Laid, Taken}
 
 -- an area of another size: 10, and it stays
 pub other-size : {a : List ℕ} (answer : Numbers) → eqb (length a) 32 ≡ false → Entered a answer 10 a
@@ -42,3 +42,7 @@ module _ {c f : List ℕ} {b : ℕ} {t w a : List ℕ} {r s : ℕ} {t₁ w₁ a�
 module _ {c f : List ℕ} {w : List ℤ} {a : List ℕ} {r s : ℕ} {w₁ : List ℤ} {a₁ : List ℕ} {w₂ : List ℤ} {a₂ : List ℕ} where
   pub one-laid : Laid c f w a r w₁ a₁ → Laid c f w a s w₂ a₂ → (r ≡ s) × (w₁ ≡ w₂) × (a₁ ≡ a₂)
   one-laid p q = let o = one-return (p .answer) (q .answer) in (o .0, p .words ∙ sym (q .words), o .1)
+
+module _ {t c a : List ℕ} {r s : ℕ} {c₁ a₁ c₂ a₂ : List ℕ} where
+  pub one-taken : Taken t c a r c₁ a₁ → Taken t c a s c₂ a₂ → (r ≡ s) × (c₁ ≡ c₂) × (a₁ ≡ a₂)
+  one-taken p q = let o = one-return (p .answer) (q .answer) in (o .0, p .circuit ∙ sym (q .circuit), o .1)

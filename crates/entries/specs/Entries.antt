@@ -17,6 +17,8 @@ use Rattle.needs.specs.Needs as needs
 use Rattle.compact.specs.Compact.{compactRules}
 use Rattle.search.specs.Search.{searchRules, verdictFor, testFor, workFor, verdictNumbers}
 use Rattle.line_clauses.specs.Clauses.{variablesOf}
+use Rattle.bench.specs.Bench.{benchRules, recordsIn}
+use Rattle.bench.specs.Bench as reading
 use Rattle.clauses.specs.Promise.{clauseRules, clausesFor, wordsFor, laidOn}
 
 -- a reply in the paper's numbers
@@ -51,3 +53,8 @@ pub record Laid (c f : List ℕ) (w : List ℤ) (a : List ℕ) (r : ℕ) (w′ :
       (told (refusal (clauseRules c f (length w))) (success (length (wordsFor c f)) (length (clausesFor c f)) (variablesOf c (linesOf c))))
       r a′
   pub words : w′ ≡ entered a w (unless (refusal (clauseRules c f (length w))) w (laidOn w (wordsFor c f)))
+
+-- the reader of the bench notation: records; the buffer c, lent with the answer area a, becomes c′
+pub record Taken (t c a : List ℕ) (r : ℕ) (c′ a′ : List ℕ) : Type 0 where
+  pub answer : Entered a (told (refusal (benchRules t (length c))) (success (linesOf (recordsIn t)) 0 0)) r a′
+  pub circuit : c′ ≡ entered a c (unless (refusal (benchRules t (length c))) c (reading.laidOn c (recordsIn t)))

@@ -1,6 +1,8 @@
 // What C calls: each entry takes a slice as a pointer and a length, checks the answer area, calls its part and reports the answer.
 use answers::Ruling;
 use answers::put_numbers;
+use bench::Read;
+use bench::bench;
 use circuit::Checked;
 use circuit::check;
 use clauses::Written;
@@ -18,7 +20,8 @@ ghost use Rattle.circuit.specs.Check.{numbersOf};
 ghost use Rattle.search.specs.Search.{verdictNumbers};
 ghost use Rattle.search.specs.Search as searching;
 ghost use Rattle.clauses.specs.Promise as writing;
-ghost use Rattle.entries.specs.Entries.{numbersIn, checkNumbers, Made, Compacted, Found, Laid};
+ghost use Rattle.bench.specs.Bench as reading;
+ghost use Rattle.entries.specs.Entries.{numbersIn, checkNumbers, Made, Compacted, Found, Laid, Taken};
 
 // The size of the answer area, and the refusal of any other.
 const AREA: usize = 32;
@@ -104,6 +107,15 @@ fn of_written(v: Written) -> Reply
             variables as u64,
         ),
         Written::Refused(number, place) => refused(number, place),
+    }
+}
+
+fn of_read(v: Read) -> Reply
+    ensures { λ r. ⌜ numbersIn r ≡ reading.numbersOf v ⌝ }
+{
+    match v {
+        Read::Records(n) => success(n as u64, 0, 0),
+        Read::Refused(number, place) => refused(number, place),
     }
 }
 
@@ -195,4 +207,15 @@ pub extern "C" fn ullimaqsu_clauses(
     }
     let v = clauses(circuit, fault, words);
     report(of_written(v), answer)
+}
+
+#[no_mangle]
+pub extern "C" fn ullimaqsu_bench(text: &[u8], circuit: &mut [u8], answer: &mut [u8]) -> u32
+    ensures { λ r. ⌜ Taken (now (text .entry)) (now (circuit .entry)) (now (answer .entry)) r (now (circuit .exit)) (now (answer .exit)) ⌝ }
+{
+    if answer.len() != AREA {
+        return OTHER_SIZE;
+    }
+    let v = bench(text, circuit);
+    report(of_read(v), answer)
 }

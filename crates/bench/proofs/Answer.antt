@@ -1,0 +1,64 @@
+-- The promise of the reader: reached rule by rule, and met by one result only.
+-- Assumes nothing.
+use mathlib.Core.Path.{_≡_, refl, ap, _∙_}
+use mathlib.Core.Bool.{true, false}
+use mathlib.Core.List.{List, _++_}
+use Prim.Native.Nat.{ℕ}
+use native.Mathlib.Omega.{arith}
+use lib.Dec.{eqb}
+use lib.ListN.{length, drop, take}
+use lib.Seq.{take-length}
+use borrow.Author.Tests.{eq-eqb, ne-eqb}
+use Rattle.answers.specs.declared.Ruling.{Ruling}
+use Rattle.answers.specs.Rules.{Rule, said, refusal}
+use Rattle.answers.specs.Area.{success, told}
+use Rattle.answers.proofs.Rules.{after-refused, after-fine}
+use Rattle.circuit.specs.Formed.{Accepts}
+use Rattle.bench.specs.declared.Read.{Read}
+use Rattle.bench.specs.declared.Read.the-variants.{Records, Refused}
+use Rattle.bench.specs.Bench.{bufferRules, benchRules, recordsIn, answered, readOf, numbersOf, Reads}
+use Rattle.bench.specs.Inside.{Answers, Whole}
+
+module _ {records c : List ℕ} where
+  -- a refusal ends it; where there is none, the rules after it decide
+  pub first-refused : (rules more : List Rule) {number place : ℕ} → refusal rules ≡ Ruling.Refused number place → Answers (rules ++ more) records c c (Refused number place)
+  first-refused rules more e = record { answer = rw (after-refused rules more e); circuit = rw (after-refused rules more e) }
+
+  pub first-fine : (rules more : List Rule) {c′ : List ℕ} {r : Read} → refusal rules ≡ Ruling.Fine → Answers more records c c′ r → Answers (rules ++ more) records c c′ r
+  first-fine rules more e p = record { answer = rw (after-fine rules more e) (p .answer); circuit = rw (after-fine rules more e) (p .circuit) }
+
+  -- refusal 10, or the records in the buffer
+  pub other-size : (length c ≡ 16384 → ⊥) → Answers (bufferRules (length c)) records c c (Refused 10 0)
+  unfolding bufferRules refusal said
+  other-size n = let q : eqb (length c) 16384 ≡ false = ne-eqb (length c) 16384 n in record { answer = rw q; circuit = rw q }
+
+  pub laid : {c′ : List ℕ} {n : ℕ} → length c ≡ 16384 → Whole records n → c′ ≡ take (length records) records ++ drop (length records) c
+      → Answers (bufferRules (length c)) records c c′ (Records n)
+  unfolding bufferRules refusal said
+  laid e w p =
+      let q : eqb (length c) 16384 ≡ true = eq-eqb (length c) 16384 e in
+      record { answer = rw (q, w .lines); circuit = rw q (p ∙ ap (λ (l : List ℕ). l ++ drop (length records) c) (take-length records)) }
+
+-- records that the check accepts
+pub whole : {records : List ℕ} {n m o : ℕ} → Accepts records n m o → Whole records n
+whole {records} a = record { lines = a .lines; fits = omega (arith, a .good .well .size, a .good .most-lines) }
+
+-- ---- the promise
+
+-- the numbers of an answer are those of its ruling
+answered-numbers : (v : Ruling) (n : ℕ) → numbersOf (answered v n) ≡ told v (success n 0 0)
+unfolding numbersOf
+answered-numbers Ruling.Fine n = refl
+answered-numbers (Ruling.Refused x y) n = refl
+
+pub reads : {t c c′ : List ℕ} {r : Read} → Answers (benchRules t (length c)) (recordsIn t) c c′ r → Reads t c c′ r
+unfolding readOf
+reads {t} {c} p = record {
+  answer = p .answer;
+  numbers = ap numbersOf (p .answer) ∙ answered-numbers (refusal (benchRules t (length c))) _;
+  circuit = p .circuit;
+}
+
+-- two allowed results are equal
+pub one-result : {t c c′ c″ : List ℕ} {r s : Read} → Reads t c c′ r → Reads t c c″ s → (r ≡ s) × (c′ ≡ c″)
+one-result p q = (cc, cc)

@@ -1,0 +1,5 @@
+pub mod Answer
+pub mod Steps
+pub mod Numbers
+pub mod Nets
+pub mod Wording

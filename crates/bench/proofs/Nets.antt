@@ -1,0 +1,109 @@
+-- The net of a text, as the reader has it in tables: what its order and its records ask for, and refusal 1 of one with too many lines.
+-- Assumes nothing.
+use mathlib.Core.Path.{_≡_, refl, sym, ap, _∙_, subst}
+use mathlib.Core.Bool.{Bool, true, false, _&&_}
+use mathlib.Core.List.{List}
+use Prim.Native.Nat.{ℕ, _*_, _/_, _%_, _≤_, _<_}
+use native.Mathlib.Omega.{arith}
+use lib.Dec.{eqb, leb}
+use lib.ListN.{length, take, length-map}
+use borrow.Author.Tests.{lt-leb}
+use Rattle.answers.specs.declared.Ruling.{Ruling}
+use Rattle.answers.specs.declared.Ruling.the-variants.{Fine}
+use Rattle.answers.specs.Rules.{refusal, said}
+use Rattle.answers.specs.Records.{recordsOk}
+use Rattle.answers.proofs.Rules.{after-refused}
+use Rattle.circuit.specs.Record.{inputsOf, outputsOf}
+use Rattle.circuit.specs.Check.{layoutRules, countRules, circuitRules}
+use Rattle.words.specs.Words.{wordsOf, endsOf}
+use Rattle.statements.specs.Tables.{gatesIn, kindsOf}
+use Rattle.statements.proofs.Lengths.{defs-split, firsts-length, seconds-length, kinds-length}
+use Rattle.statements.proofs.Sizes.{few-defs}
+use Rattle.statements.proofs.Sizes.{few-gates as few-forms}
+use Rattle.order.specs.Owed.{Gates, Arranged}
+use Rattle.order.proofs.Says.{full-order}
+use Rattle.records.specs.Net.{Net, gatesOf, sizeOf, recordsOf}
+use Rattle.records.specs.Owed.{netOf, Fits}
+use Rattle.bench.specs.Text.{formsIn, firstsIn, secondsIn, numberIn, netIn}
+use Rattle.records.proofs.Size.{records-length}
+use Rattle.bench.specs.declared.Read.{Read}
+use Rattle.bench.specs.declared.Read.the-variants.{Refused}
+use Rattle.bench.specs.Bench.{bufferRules, recordRules}
+use Rattle.bench.specs.Inside.{Answers, AnswersNet, Resolved, Ordered, Named}
+use Rattle.bench.proofs.Answer.{first-refused}
+use Rattle.bench.proofs.Numbers.{outs-below}
+
+-- ---- from a text
+
+module _ {t ws es fs : List ℕ} {inputs : ℕ} {a b o : List ℕ} (p : Named t ws es fs inputs a b o) where
+  gates-are : length a ≡ gatesIn fs
+  unfolding netIn
+  gates-are =
+      ap length (p .firsts-are) ∙ length-map (firstsIn t) (numberIn t) ∙ firsts-length (wordsOf t) (endsOf t) (formsIn t)
+      ∙ ap gatesIn (sym (p .told .forms-are))
+
+  pub few-gates : length a ≤ 8192
+  few-gates = let e = gates-are ∙ ap gatesIn (p .told .forms-are) in omega (arith, e, few-forms t (p .told .lined .short))
+
+  -- the tables are the text's net
+  pub net-is : (kinds : List ℕ) → take (gatesIn fs) kinds ≡ kindsOf t ws es fs → netOf inputs (take (length a) kinds) a b o ≡ netIn t
+  unfolding netIn
+  net-is kinds e =
+      let q : take (length a) kinds ≡ netIn t .kinds =
+      ap (λ (n : ℕ). take n kinds) gates-are ∙ e ∙ rw (p .told .lined .words-are, p .told .lined .ends-are, p .told .forms-are) in
+      rw (q, p .inputs-are, p .firsts-are, p .seconds-are, p .outs-are)
+
+  pub resolved : Resolved (netIn t)
+  unfolding netIn
+  resolved =
+      let s = p .told .lined .short in
+      let f = length-map (firstsIn t) (numberIn t) ∙ firsts-length (wordsOf t) (endsOf t) (formsIn t) in
+      let g = length-map (secondsIn t) (numberIn t) ∙ seconds-length (wordsOf t) (endsOf t) (formsIn t) in
+      record {
+        few = omega (arith, f, few-forms t s);
+        few-inputs = omega (arith, few-defs t s, defs-split (formsIn t));
+        kinds = kinds-length (wordsOf t) (endsOf t) (formsIn t) t ∙ sym f;
+        seconds = g ∙ sym f;
+        output-numbers = λ i l. omega (arith, f, outs-below t (p .fine) i l);
+      }
+
+pub of-net : {net net′ : Net} {c c′ : List ℕ} {r : Read} → net ≡ net′ → AnswersNet net c c′ r → AnswersNet net′ c c′ r
+of-net {c = c} {c′ = c′} {r = r} e p = subst (λ (n : Net). AnswersNet n c c′ r) e p
+
+-- ---- the order, the records
+
+pub gates-room : {net : Net} {order : List ℕ} → Resolved net → length order ≡ gatesOf net → Gates (net .firsts) (net .seconds) order
+gates-room p r = record { few = p .few; second = p .seconds; room = r }
+
+pub ordered : {net : Net} {order : List ℕ} {r : Ruling} → Resolved net → Arranged (net .firsts) (net .seconds) order r → r ≡ Fine → Ordered net order
+ordered {net} p q e =
+    let o = q .order-is e in
+    record { resolved = p; order-is = o; placed = ap length o ∙ full-order (net .firsts) (net .seconds) (sym (q .ruling) ∙ e) }
+
+pub fits : {net : Net} {order records : List ℕ} → Ordered net order → sizeOf net ≤ 2048 → length records ≡ 8 * sizeOf net → Fits net order records
+fits o few room = record {
+  few = few;
+  room = room;
+  order-is = o .order-is;
+  placed = o .placed;
+  kinds = o .resolved .kinds;
+  seconds = o .resolved .seconds;
+  output-numbers = o .resolved .output-numbers;
+}
+
+-- ---- more lines than a circuit may have
+
+last-fails : (s t : Bool) → (s && (t && false)) ≡ false
+last-fails true true = refl
+last-fails true false = refl
+last-fails false t = refl
+
+pub too-many : (net : Net) {c : List ℕ} → 2048 < sizeOf net → Answers (recordRules (recordsOf net) (length c)) (recordsOf net) c c (Refused 1 0)
+unfolding layoutRules refusal said recordsOk
+too-many net {c} l =
+    let n = records-length net (sizeOf net) in
+    let many : leb (length (recordsOf net) / 8) 2048 ≡ false = lt-leb (length (recordsOf net) / 8) 2048 (omega (arith, n)) in
+    let bad : recordsOk 8 2048 (length (recordsOf net)) ≡ false =
+    rw many (last-fails (eqb (length (recordsOf net) % 8) 0) (leb 1 (length (recordsOf net) / 8))) in
+    let first : refusal (layoutRules (recordsOf net)) ≡ Ruling.Refused 1 0 = rw bad in
+    first-refused (circuitRules (recordsOf net)) (bufferRules (length c)) (after-refused (layoutRules (recordsOf net)) (countRules (inputsOf (recordsOf net)) (outputsOf (recordsOf net))) first)

@@ -1,0 +1,45 @@
+-- `bench::bench` meets its contract: refusal 14, or what the words say.
+-- Assumes nothing.
+use Rattle.bench.proofs.Answer.{first-refused, first-fine, reads}
+use Rattle.syntax.proofs.Says.{right-text}
+use mathlib.Core.Path.{sym, _∙_}
+use borrow.Author.Needs.{needs}
+use Rattle.bench.proofs.bench.Statement.{statement}
+use Rattle.bench.proofs.bench.Tie as tie
+
+check-text-requires : tie.Need-check-text-requires
+check-text-requires c κs = search needs
+
+enum-known-v : tie.Need-enum-known-v
+enum-known-v c = search needs
+
+enum-told : tie.Need-enum-told
+enum-told c = search needs
+
+read-words-requires : tie.Need-read-words-requires
+read-words-requires c κs = right-text _ (sym (c .before .before .before .check-text .ensures) ∙ c .before .enum-told .given .1) .room
+
+returns : tie.Need-returns
+returns c = reads (first-refused _ _ (sym (c .before .before .before .check-text .ensures) ∙ c .before .v .given .1))
+
+same-length : tie.Need-same-length
+same-length c = search needs
+
+returns-2 : tie.Need-returns-2
+returns-2 c =
+    let at-enum-told = c .before .before .before .before in
+    reads
+    (first-fine _ _ (sym (at-enum-told .before .before .check-text .ensures) ∙ at-enum-told .enum-told .given .1)
+    (c .before .before .read-words .ensures))
+
+pub bench-spec : {M : Type 1} → statement M
+bench-spec =
+    tie.close
+    (tie.spec
+    check-text-requires
+    enum-known-v
+    enum-told
+    read-words-requires
+    returns
+    same-length
+    returns-2)

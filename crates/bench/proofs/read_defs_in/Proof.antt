@@ -1,0 +1,71 @@
+-- `bench::read_defs_in` meets its contract: the names that are defined and their numbers.
+-- Assumes nothing.
+use Rattle.bench.proofs.Steps.{defs-room, defined}
+use lib.Seq.{length-take-le}
+use mathlib.Core.Path.{sym}
+use native.Mathlib.Omega.{arith}
+use borrow.Author.Needs.{needs}
+use Rattle.bench.proofs.read_defs_in.Statement.{statement}
+use Rattle.bench.proofs.read_defs_in.Tie as tie
+
+put-defs-requires : tie.Need-put-defs-requires
+put-defs-requires c κs = let p = c .before .before .before .before .before .before .before .before .before .pre in defs-room (p .0 .0) (p .0 .1) (p .1 .0) (p .1 .1)
+
+slice-reshare-prefix-read-uses : tie.Need-slice-reshare-prefix-read-uses
+slice-reshare-prefix-read-uses c = search needs
+
+slice-aggregate-read-uses : tie.Need-slice-aggregate-read-uses
+slice-aggregate-read-uses c =
+    sym
+    (length-take-le _ _
+    (omega (
+      arith,
+      c .before .before .before .before .before .put-defs .ensures .few,
+      c .before .before .before .before .before .before .before .before .before .before .before .before .before .before .before .pre .1 .0,
+    )))
+
+slice-reshare-prefix-read-uses-2 : tie.Need-slice-reshare-prefix-read-uses-2
+slice-reshare-prefix-read-uses-2 c = search needs
+
+slice-aggregate-read-uses-2 : tie.Need-slice-aggregate-read-uses-2
+slice-aggregate-read-uses-2 c =
+    sym
+    (length-take-le _ _
+    (omega (
+      arith,
+      c .before .before .before .before .before .before .put-defs .ensures .few,
+      c .before .before .before .before .before .before .before .before .before .before .before .before .before .before .before .before .pre .1 .1,
+    )))
+
+read-uses-requires : tie.Need-read-uses-requires
+read-uses-requires c κs =
+    let at-put-defs = c .before .before .before .before .before .before .before in
+    let p = at-put-defs .before .before .before .before .before .before .before .before .before .before .pre in
+    (defined (p .0 .0) (p .0 .1) (at-put-defs .put-defs .ensures), p .0 .1)
+
+same-length : tie.Need-same-length
+same-length c = search needs
+
+same-length-2 : tie.Need-same-length-2
+same-length-2 c = search needs
+
+same-length-3 : tie.Need-same-length-3
+same-length-3 c = search needs
+
+returns : tie.Need-returns
+returns c = search needs
+
+pub read-defs-in-spec : {M : Type 1} → statement M
+read-defs-in-spec =
+    tie.close
+    (tie.spec
+    put-defs-requires
+    slice-reshare-prefix-read-uses
+    slice-aggregate-read-uses
+    slice-reshare-prefix-read-uses-2
+    slice-aggregate-read-uses-2
+    read-uses-requires
+    same-length
+    same-length-2
+    same-length-3
+    returns)

@@ -1,0 +1,103 @@
+-- `bench::read_uses_in` meets its contract: the names that are used join those that are defined.
+-- Assumes nothing.
+use Rattle.bench.proofs.Steps.{outs-room, gates-room, used, gates-few, some-gates}
+use lib.Seq.{length-take-le}
+use mathlib.Core.Path.{sym}
+use native.Mathlib.Omega.{arith}
+use borrow.Author.Needs.{needs}
+use Rattle.bench.proofs.read_uses_in.Statement.{statement}
+use Rattle.bench.proofs.read_uses_in.Tie as tie
+
+put-sources-requires : tie.Need-put-sources-requires
+put-sources-requires c κs = let p = c .before .before .before .before .before .before .before .before .before .before .before .before .pre in gates-room (p .0 .0 .told) (p .1 .0) (p .1 .1)
+
+put-outs-requires : tie.Need-put-outs-requires
+put-outs-requires c κs =
+    let p = c .before .before .before .before .before .before .before .before .before .before .before .before .before .before .before .before .before .before .pre in
+    outs-room (p .0 .0 .told) (p .1 .2)
+
+sub-inputs : tie.Need-sub-inputs
+sub-inputs c =
+    let sources = c .before .before .before .before .before .before .before .before in
+    let p = sources .before .before .before .before .before .before .before .before .before .before .before .before .before .pre in
+    some-gates (p .0 .0) (p .0 .1)
+
+slice-reshare-prefix-read-names : tie.Need-slice-reshare-prefix-read-names
+slice-reshare-prefix-read-names c =
+    let sources = c .before .before .before .before .before .before .before .before in
+    let p = sources .before .before .before .before .before .before .before .before .before .before .before .before .before .pre in
+    omega (arith, gates-few (p .0 .0 .told) (p .0 .1), p .1 .0)
+
+slice-aggregate-read-names : tie.Need-slice-aggregate-read-names
+slice-aggregate-read-names c =
+    let sources = c .before .before .before .before .before .before .before .before .before in
+    let p = sources .before .before .before .before .before .before .before .before .before .before .before .before .before .pre in
+    sym (length-take-le _ _ (omega (arith, gates-few (p .0 .0 .told) (p .0 .1), p .1 .0)))
+
+slice-reshare-prefix-read-names-2 : tie.Need-slice-reshare-prefix-read-names-2
+slice-reshare-prefix-read-names-2 c =
+    let sources = c .before .before .before .before .before .before .before .before .before in
+    let p = sources .before .before .before .before .before .before .before .before .before .before .before .before .before .pre in
+    omega (arith, gates-few (p .0 .0 .told) (p .0 .1), p .1 .1)
+
+slice-aggregate-read-names-2 : tie.Need-slice-aggregate-read-names-2
+slice-aggregate-read-names-2 c =
+    let sources = c .before .before .before .before .before .before .before .before .before .before in
+    let p = sources .before .before .before .before .before .before .before .before .before .before .before .before .before .pre in
+    sym (length-take-le _ _ (omega (arith, gates-few (p .0 .0 .told) (p .0 .1), p .1 .1)))
+
+slice-reshare-prefix-read-names-3 : tie.Need-slice-reshare-prefix-read-names-3
+slice-reshare-prefix-read-names-3 c = search needs
+
+slice-aggregate-read-names-3 : tie.Need-slice-aggregate-read-names-3
+slice-aggregate-read-names-3 c =
+    let at-put-outs = c .before .before .before .before .before in
+    sym
+    (length-take-le _ _
+    (omega (
+      arith,
+      at-put-outs .put-outs .ensures .few,
+      at-put-outs .before .before .before .before .before .before .before .before .before .before .before .before .before .before .before .before .before .before .before .pre .1 .2,
+    )))
+
+read-names-requires : tie.Need-read-names-requires
+read-names-requires c κs =
+    let at-put-outs = c .before .before .before .before .before .before in
+    let at-put-sources = at-put-outs .before .before .before .before .before .before in
+    let p = at-put-sources .before .before .before .before .before .before .before .before .before .before .before .before .before .pre in
+    (p .0 .0, used (p .0 .0 .told) (p .0 .1) (at-put-outs .put-outs .ensures) (at-put-sources .put-sources .ensures))
+
+same-length : tie.Need-same-length
+same-length c = search needs
+
+same-length-2 : tie.Need-same-length-2
+same-length-2 c = search needs
+
+same-length-3 : tie.Need-same-length-3
+same-length-3 c = search needs
+
+same-length-4 : tie.Need-same-length-4
+same-length-4 c = search needs
+
+returns : tie.Need-returns
+returns c = search needs
+
+pub read-uses-in-spec : {M : Type 1} → statement M
+read-uses-in-spec =
+    tie.close
+    (tie.spec
+    put-sources-requires
+    put-outs-requires
+    sub-inputs
+    slice-reshare-prefix-read-names
+    slice-aggregate-read-names
+    slice-reshare-prefix-read-names-2
+    slice-aggregate-read-names-2
+    slice-reshare-prefix-read-names-3
+    slice-aggregate-read-names-3
+    read-names-requires
+    same-length
+    same-length-2
+    same-length-3
+    same-length-4
+    returns)

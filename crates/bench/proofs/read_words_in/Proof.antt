@@ -1,0 +1,73 @@
+-- `bench::read_words_in` meets its contract: the words and the ends of lines.
+-- Assumes nothing.
+use Rattle.bench.proofs.Steps.{lined, few-lines}
+use lib.Seq.{length-take-le}
+use mathlib.Core.Path.{sym}
+use native.Mathlib.Omega.{arith}
+use borrow.Author.Needs.{needs}
+use Rattle.bench.proofs.read_words_in.Statement.{statement}
+use Rattle.bench.proofs.read_words_in.Tie as tie
+
+cut-requires : tie.Need-cut-requires
+cut-requires c κs = search needs
+
+slice-reshare-prefix-read-lines : tie.Need-slice-reshare-prefix-read-lines
+slice-reshare-prefix-read-lines c = search needs
+
+slice-aggregate-read-lines : tie.Need-slice-aggregate-read-lines
+slice-aggregate-read-lines c =
+    sym
+    (length-take-le _ _
+    (omega (
+      arith,
+      c .before .before .before .before .before .cut .ensures .most-words,
+      c .before .before .before .before .before .before .before .before .before .before .before .before .pre .for-words,
+    )))
+
+slice-reshare-prefix-read-lines-2 : tie.Need-slice-reshare-prefix-read-lines-2
+slice-reshare-prefix-read-lines-2 c = search needs
+
+slice-aggregate-read-lines-2 : tie.Need-slice-aggregate-read-lines-2
+slice-aggregate-read-lines-2 c =
+    sym
+    (length-take-le _ _
+    (omega (
+      arith,
+      c .before .before .before .before .before .before .cut .ensures .most-lines,
+      c .before .before .before .before .before .before .before .before .before .before .before .before .before .pre .for-ends,
+    )))
+
+read-lines-requires : tie.Need-read-lines-requires
+read-lines-requires c κs = (
+  lined (c .before .before .before .before .before .before .before .before .before .before .before .before .before .before .pre .short)
+      (c .before .before .before .before .before .before .before .cut .ensures),
+  few-lines _ _
+      (c .before .before .before .before .before .before .before .cut .ensures .most-lines),
+)
+
+same-length : tie.Need-same-length
+same-length c = search needs
+
+same-length-2 : tie.Need-same-length-2
+same-length-2 c = search needs
+
+same-length-3 : tie.Need-same-length-3
+same-length-3 c = search needs
+
+returns : tie.Need-returns
+returns c = search needs
+
+pub read-words-in-spec : {M : Type 1} → statement M
+read-words-in-spec =
+    tie.close
+    (tie.spec
+    cut-requires
+    slice-reshare-prefix-read-lines
+    slice-aggregate-read-lines
+    slice-reshare-prefix-read-lines-2
+    slice-aggregate-read-lines-2
+    read-lines-requires
+    same-length
+    same-length-2
+    same-length-3
+    returns)

@@ -1,0 +1,43 @@
+-- What a text of the bench notation says: its names, and its net.
+-- Assumes nothing.
+use mathlib.Core.List.{List, _++_, map}
+use Prim.Native.Nat.{ℕ}
+use Rattle.words.specs.Words.{wordsOf, endsOf}
+use Rattle.statements.specs.Lines.{formsOf}
+use Rattle.statements.specs.Tables as tables
+use Rattle.names.specs.Names.{numberOf}
+use Rattle.records.specs.Net.{Net}
+
+-- each line's form
+abbrev pub formsIn : List ℕ → List ℕ
+formsIn t = formsOf t (wordsOf t) (endsOf t)
+
+-- the names that are defined, and those that are used
+abbrev pub defsIn : List ℕ → List ℕ
+defsIn t = tables.defsOf (wordsOf t) (endsOf t) (formsIn t)
+
+abbrev pub outsIn : List ℕ → List ℕ
+outsIn t = tables.outsOf (wordsOf t) (endsOf t) (formsIn t)
+
+abbrev pub firstsIn : List ℕ → List ℕ
+firstsIn t = tables.firstsOf (wordsOf t) (endsOf t) (formsIn t)
+
+abbrev pub secondsIn : List ℕ → List ℕ
+secondsIn t = tables.secondsOf (wordsOf t) (endsOf t) (formsIn t)
+
+abbrev pub usesIn : List ℕ → List ℕ
+usesIn t = outsIn t ++ (firstsIn t ++ secondsIn t)
+
+-- the number of the name at a byte
+abbrev pub numberIn : List ℕ → ℕ → ℕ
+numberIn t i = numberOf t (defsIn t) (tables.numbersOf (formsIn t)) i
+
+-- the text with numbers for names
+unfoldable pub netIn : List ℕ → Net
+netIn t = record {
+  inputs = tables.inputsIn (formsIn t);
+  kinds = tables.kindsOf t (wordsOf t) (endsOf t) (formsIn t);
+  firsts = map (numberIn t) (firstsIn t);
+  seconds = map (numberIn t) (secondsIn t);
+  outputs = map (numberIn t) (outsIn t);
+}

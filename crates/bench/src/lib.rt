@@ -1,0 +1,445 @@
+// The reader of the bench notation: circuit records of a text. Each step makes one table and lends it to the next.
+use answers::Ruling;
+use bytes::copy;
+use circuit::Checked;
+use circuit::check;
+use names::resolve;
+use order::arrange;
+use records::put_records;
+use statements::put_defs;
+use statements::put_forms;
+use statements::put_kinds;
+use statements::put_outs;
+use statements::put_sources;
+use syntax::check_text;
+use words::cut;
+ghost use mathlib.Core.Path.{_≡_};
+ghost use Prim.Native.Nat.{_-_, _≤_};
+ghost use lib.ListN.{length};
+ghost use Rattle.words.specs.Owed.{Room};
+ghost use Rattle.statements.specs.Tables.{gatesIn};
+ghost use Rattle.records.specs.Net.{recordsOf};
+ghost use Rattle.records.specs.Owed.{netOf, Fits};
+ghost use Rattle.bench.specs.Text.{netIn};
+ghost use Rattle.bench.specs.Bench.{bufferRules, Reads};
+ghost use Rattle.bench.specs.Inside.{Answers, AnswersRecords, AnswersNet, AnswersText, Whole, Ordered, Resolved, Named, Defined, Used, Told, Lined};
+
+// What the reader answers.
+pub enum Read {
+    // how many
+    Records(usize),
+    // number, place
+    Refused(u32, usize),
+}
+
+// ---- from the records to the lent buffer
+
+// Refusal 10, or the records in the buffer.
+fn lay(records: &[u8], n: usize, circuit: &mut [u8]) -> Read
+    requires { ⌜ Whole (now records) n ⌝ }
+    ensures { λ r. ⌜ Answers (bufferRules (length (now (circuit .entry)))) (now (records .entry)) (now (circuit .entry)) (now (circuit .exit)) r ⌝ }
+{
+    if circuit.len() != 16384 {
+        return Read::Refused(10, 0);
+    }
+    copy(records, circuit);
+    Read::Records(n)
+}
+
+// The circuit check on the records.
+fn hand_over(records: &[u8], circuit: &mut [u8]) -> Read
+    ensures { λ r. ⌜ AnswersRecords (now (records .entry)) (now (circuit .entry)) (now (circuit .exit)) r ⌝ }
+{
+    let v = check(records);
+    match v {
+        Checked::Refused(number, place) => Read::Refused(number, place),
+        Checked::Accepted(n, inputs, outputs) => lay(records, n, circuit),
+    }
+}
+
+// ---- from the net to its records. A step that needs memory makes it, and lends it to the function of the same name with `_in`
+
+// The records of all lines, in lent memory.
+fn read_order_in(
+    inputs: usize,
+    kinds: &[u8],
+    firsts: &[u16],
+    seconds: &[u16],
+    outs: &[u16],
+    order: &[u16],
+    records: &mut [u8],
+    circuit: &mut [u8],
+) -> Read
+    requires { ⌜ Fits (netOf inputs (now kinds) (now firsts) (now seconds) (now outs)) (now order) (now records) ⌝ }
+    ensures { λ r. ⌜ AnswersRecords (recordsOf (netOf inputs (now (kinds .entry)) (now (firsts .entry)) (now (seconds .entry)) (now (outs .entry)))) (now (circuit .entry)) (now (circuit .exit)) r ⌝ }
+{
+    put_records(inputs, kinds, firsts, seconds, outs, order, records);
+    hand_over(records, circuit)
+}
+
+// The records of gates that are all placed. More lines than a circuit may have are refused before any is written.
+fn read_order(
+    inputs: usize,
+    kinds: &[u8],
+    firsts: &[u16],
+    seconds: &[u16],
+    outs: &[u16],
+    order: &[u16],
+    circuit: &mut [u8],
+) -> Read
+    requires { ⌜ Ordered (netOf inputs (now kinds) (now firsts) (now seconds) (now outs)) (now order) ⌝ }
+    ensures { λ r. ⌜ AnswersRecords (recordsOf (netOf inputs (now (kinds .entry)) (now (firsts .entry)) (now (seconds .entry)) (now (outs .entry)))) (now (circuit .entry)) (now (circuit .exit)) r ⌝ }
+{
+    let n = inputs + firsts.len();
+    if 2048 < n {
+        return Read::Refused(1, 0);
+    }
+    let mut records = [0u8; 16384];
+    read_order_in(
+        inputs,
+        kinds,
+        firsts,
+        seconds,
+        outs,
+        order,
+        &mut records[..8 * n],
+        circuit,
+    )
+}
+
+// The order of the gates, in lent memory.
+fn read_net_in(
+    inputs: usize,
+    kinds: &[u8],
+    firsts: &[u16],
+    seconds: &[u16],
+    outs: &[u16],
+    order: &mut [u16],
+    circuit: &mut [u8],
+) -> Read
+    requires { ⌜ Resolved (netOf inputs (now kinds) (now firsts) (now seconds) (now outs)) × (length (now order) ≡ length (now firsts)) ⌝ }
+    ensures { λ r. ⌜ AnswersNet (netOf inputs (now (kinds .entry)) (now (firsts .entry)) (now (seconds .entry)) (now (outs .entry))) (now (circuit .entry)) (now (circuit .exit)) r ⌝ }
+{
+    let v = arrange(firsts, seconds, order);
+    match v {
+        Ruling::Refused(number, place) => Read::Refused(number, place),
+        Ruling::Fine => read_order(inputs, kinds, firsts, seconds, outs, order, circuit),
+    }
+}
+
+// A net whose numbers are those of gates and inputs.
+fn read_net(
+    inputs: usize,
+    kinds: &[u8],
+    firsts: &[u16],
+    seconds: &[u16],
+    outs: &[u16],
+    circuit: &mut [u8],
+) -> Read
+    requires { ⌜ Resolved (netOf inputs (now kinds) (now firsts) (now seconds) (now outs)) ⌝ }
+    ensures { λ r. ⌜ AnswersNet (netOf inputs (now (kinds .entry)) (now (firsts .entry)) (now (seconds .entry)) (now (outs .entry))) (now (circuit .entry)) (now (circuit .exit)) r ⌝ }
+{
+    let mut order = [0u16; 8192];
+    let gates = firsts.len();
+    read_net_in(
+        inputs,
+        kinds,
+        firsts,
+        seconds,
+        outs,
+        &mut order[..gates],
+        circuit,
+    )
+}
+
+// ---- from the text to its net
+
+// The kinds of the gates.
+fn read_kinds_in(
+    text: &[u8],
+    words: &[u16],
+    ends: &[u16],
+    forms: &[u8],
+    inputs: usize,
+    firsts: &[u16],
+    seconds: &[u16],
+    outs: &[u16],
+    kinds: &mut [u8],
+    circuit: &mut [u8],
+) -> Read
+    requires { ⌜ Named (now text) (now words) (now ends) (now forms) inputs (now firsts) (now seconds) (now outs) × (length (now kinds) ≡ 8193) ⌝ }
+    ensures { λ r. ⌜ AnswersNet (netIn (now (text .entry))) (now (circuit .entry)) (now (circuit .exit)) r ⌝ }
+{
+    put_kinds(text, words, ends, forms, kinds);
+    let gates = firsts.len();
+    read_net(inputs, &kinds[..gates], firsts, seconds, outs, circuit)
+}
+
+fn read_kinds(
+    text: &[u8],
+    words: &[u16],
+    ends: &[u16],
+    forms: &[u8],
+    inputs: usize,
+    firsts: &[u16],
+    seconds: &[u16],
+    outs: &[u16],
+    circuit: &mut [u8],
+) -> Read
+    requires { ⌜ Named (now text) (now words) (now ends) (now forms) inputs (now firsts) (now seconds) (now outs) ⌝ }
+    ensures { λ r. ⌜ AnswersNet (netIn (now (text .entry))) (now (circuit .entry)) (now (circuit .exit)) r ⌝ }
+{
+    let mut kinds = [0u8; 8193];
+    read_kinds_in(
+        text,
+        words,
+        ends,
+        forms,
+        inputs,
+        firsts,
+        seconds,
+        outs,
+        &mut kinds,
+        circuit,
+    )
+}
+
+// The numbers of the names that are used.
+fn read_names_in(
+    text: &[u8],
+    words: &[u16],
+    ends: &[u16],
+    forms: &[u8],
+    inputs: usize,
+    defs: &[u16],
+    numbers: &[u16],
+    firsts: &[u16],
+    seconds: &[u16],
+    outs: &[u16],
+    a: &mut [u16],
+    b: &mut [u16],
+    o: &mut [u16],
+    circuit: &mut [u8],
+) -> Read
+    requires { ⌜ Defined (now text) (now words) (now ends) (now forms) inputs (now defs) (now numbers) × Used (now text) (now firsts) (now seconds) (now outs) ⌝ }
+    requires { ⌜ (length (now a) ≡ length (now firsts)) × (length (now b) ≡ length (now seconds)) × (length (now o) ≡ length (now outs)) ⌝ }
+    ensures { λ r. ⌜ AnswersText (now (text .entry)) (now (circuit .entry)) (now (circuit .exit)) r ⌝ }
+{
+    let v = resolve(text, defs, numbers, outs, firsts, seconds, o, a, b);
+    match v {
+        Ruling::Refused(number, place) => Read::Refused(number, place),
+        Ruling::Fine => read_kinds(text, words, ends, forms, inputs, a, b, o, circuit),
+    }
+}
+
+fn read_names(
+    text: &[u8],
+    words: &[u16],
+    ends: &[u16],
+    forms: &[u8],
+    inputs: usize,
+    defs: &[u16],
+    numbers: &[u16],
+    firsts: &[u16],
+    seconds: &[u16],
+    outs: &[u16],
+    circuit: &mut [u8],
+) -> Read
+    requires { ⌜ Defined (now text) (now words) (now ends) (now forms) inputs (now defs) (now numbers) × Used (now text) (now firsts) (now seconds) (now outs) ⌝ }
+    ensures { λ r. ⌜ AnswersText (now (text .entry)) (now (circuit .entry)) (now (circuit .exit)) r ⌝ }
+{
+    let mut a = [0u16; 8192];
+    let mut b = [0u16; 8192];
+    let mut o = [0u16; 8192];
+    let g = firsts.len();
+    let u = outs.len();
+    read_names_in(
+        text,
+        words,
+        ends,
+        forms,
+        inputs,
+        defs,
+        numbers,
+        firsts,
+        seconds,
+        outs,
+        &mut a[..g],
+        &mut b[..g],
+        &mut o[..u],
+        circuit,
+    )
+}
+
+// The names that are used.
+fn read_uses_in(
+    text: &[u8],
+    words: &[u16],
+    ends: &[u16],
+    forms: &[u8],
+    gates: usize,
+    defs: &[u16],
+    numbers: &[u16],
+    firsts: &mut [u16],
+    seconds: &mut [u16],
+    outs: &mut [u16],
+    circuit: &mut [u8],
+) -> Read
+    requires { ⌜ Defined (now text) (now words) (now ends) (now forms) (length (now defs) - gates) (now defs) (now numbers) × (gates ≡ gatesIn (now forms)) ⌝ }
+    requires { ⌜ (length (now firsts) ≡ 8193) × (length (now seconds) ≡ 8193) × (length (now outs) ≡ 8193) ⌝ }
+    ensures { λ r. ⌜ AnswersText (now (text .entry)) (now (circuit .entry)) (now (circuit .exit)) r ⌝ }
+{
+    put_sources(words, ends, forms, firsts, seconds);
+    let u = put_outs(words, ends, forms, outs);
+    let inputs = defs.len() - gates;
+    read_names(
+        text,
+        words,
+        ends,
+        forms,
+        inputs,
+        defs,
+        numbers,
+        &firsts[..gates],
+        &seconds[..gates],
+        &outs[..u],
+        circuit,
+    )
+}
+
+fn read_uses(
+    text: &[u8],
+    words: &[u16],
+    ends: &[u16],
+    forms: &[u8],
+    gates: usize,
+    defs: &[u16],
+    numbers: &[u16],
+    circuit: &mut [u8],
+) -> Read
+    requires { ⌜ Defined (now text) (now words) (now ends) (now forms) (length (now defs) - gates) (now defs) (now numbers) × (gates ≡ gatesIn (now forms)) ⌝ }
+    ensures { λ r. ⌜ AnswersText (now (text .entry)) (now (circuit .entry)) (now (circuit .exit)) r ⌝ }
+{
+    let mut firsts = [0u16; 8193];
+    let mut seconds = [0u16; 8193];
+    let mut outs = [0u16; 8193];
+    read_uses_in(
+        text,
+        words,
+        ends,
+        forms,
+        gates,
+        defs,
+        numbers,
+        &mut firsts,
+        &mut seconds,
+        &mut outs,
+        circuit,
+    )
+}
+
+// The names that are defined.
+fn read_defs_in(
+    text: &[u8],
+    words: &[u16],
+    ends: &[u16],
+    forms: &[u8],
+    gates: usize,
+    defs: &mut [u16],
+    numbers: &mut [u16],
+    circuit: &mut [u8],
+) -> Read
+    requires { ⌜ Told (now text) (now words) (now ends) (now forms) × (gates ≡ gatesIn (now forms)) ⌝ }
+    requires { ⌜ (length (now defs) ≡ 8193) × (length (now numbers) ≡ 8193) ⌝ }
+    ensures { λ r. ⌜ AnswersText (now (text .entry)) (now (circuit .entry)) (now (circuit .exit)) r ⌝ }
+{
+    let d = put_defs(words, ends, forms, gates, defs, numbers);
+    read_uses(
+        text,
+        words,
+        ends,
+        forms,
+        gates,
+        &defs[..d],
+        &numbers[..d],
+        circuit,
+    )
+}
+
+fn read_defs(
+    text: &[u8],
+    words: &[u16],
+    ends: &[u16],
+    forms: &[u8],
+    gates: usize,
+    circuit: &mut [u8],
+) -> Read
+    requires { ⌜ Told (now text) (now words) (now ends) (now forms) × (gates ≡ gatesIn (now forms)) ⌝ }
+    ensures { λ r. ⌜ AnswersText (now (text .entry)) (now (circuit .entry)) (now (circuit .exit)) r ⌝ }
+{
+    let mut defs = [0u16; 8193];
+    let mut numbers = [0u16; 8193];
+    read_defs_in(
+        text,
+        words,
+        ends,
+        forms,
+        gates,
+        &mut defs,
+        &mut numbers,
+        circuit,
+    )
+}
+
+// The forms of the lines.
+fn read_lines_in(
+    text: &[u8],
+    words: &[u16],
+    ends: &[u16],
+    forms: &mut [u8],
+    circuit: &mut [u8],
+) -> Read
+    requires { ⌜ Lined (now text) (now words) (now ends) × (length (now forms) ≡ length (now ends)) × (length (now ends) ≤ 32769) ⌝ }
+    ensures { λ r. ⌜ AnswersText (now (text .entry)) (now (circuit .entry)) (now (circuit .exit)) r ⌝ }
+{
+    let gates = put_forms(text, words, ends, forms);
+    read_defs(text, words, ends, forms, gates, circuit)
+}
+
+fn read_lines(text: &[u8], words: &[u16], ends: &[u16], circuit: &mut [u8]) -> Read
+    requires { ⌜ Lined (now text) (now words) (now ends) × (length (now ends) ≤ 32769) ⌝ }
+    ensures { λ r. ⌜ AnswersText (now (text .entry)) (now (circuit .entry)) (now (circuit .exit)) r ⌝ }
+{
+    let mut forms = [0u8; 32769];
+    let lines = ends.len();
+    read_lines_in(text, words, ends, &mut forms[..lines], circuit)
+}
+
+// The words.
+fn read_words_in(text: &[u8], words: &mut [u16], ends: &mut [u16], circuit: &mut [u8]) -> Read
+    requires { ⌜ Room (now text) (now words) (now ends) ⌝ }
+    ensures { λ r. ⌜ AnswersText (now (text .entry)) (now (circuit .entry)) (now (circuit .exit)) r ⌝ }
+{
+    let found = cut(text, words, ends);
+    read_lines(text, &words[..found.words], &ends[..found.lines], circuit)
+}
+
+fn read_words(text: &[u8], circuit: &mut [u8]) -> Read
+    requires { ⌜ length (now text) ≤ 32768 ⌝ }
+    ensures { λ r. ⌜ AnswersText (now (text .entry)) (now (circuit .entry)) (now (circuit .exit)) r ⌝ }
+{
+    let mut words = [0u16; 16385];
+    let mut ends = [0u16; 32769];
+    read_words_in(text, &mut words, &mut ends, circuit)
+}
+
+// The reader: how many records it wrote, or the first refusal.
+pub fn bench(text: &[u8], circuit: &mut [u8]) -> Read
+    ensures { λ r. ⌜ Reads (now (text .entry)) (now (circuit .entry)) (now (circuit .exit)) r ⌝ }
+{
+    let v = check_text(text);
+    match v {
+        Ruling::Refused(number, place) => Read::Refused(number, place),
+        Ruling::Fine => read_words(text, circuit),
+    }
+}

@@ -1,0 +1,44 @@
+-- `entries::ullimaqsu_bench` meets its contract: an area of another size first, else the answer and the buffer of the part.
+-- Assumes nothing.
+use borrow.Author.Tests.{eq-eqb, ne-eqb}
+use mathlib.Core.Path.{_∙_}
+use borrow.Author.Needs.{needs}
+use Rattle.entries.proofs.Entered.{other-size, entered-as}
+use Rattle.entries.proofs.ullimaqsu_bench.Statement.{statement}
+use Rattle.entries.proofs.ullimaqsu_bench.Tie as tie
+
+returns : tie.Need-returns
+returns c = let e = ne-eqb _ _ (c .if1 .taken) in record { answer = other-size _ e; circuit = rw e }
+
+bench-requires : tie.Need-bench-requires
+bench-requires c κs = search needs
+
+of-read-requires : tie.Need-of-read-requires
+of-read-requires c κs = search needs
+
+report-requires : tie.Need-report-requires
+report-requires c κs = search needs
+
+same-length : tie.Need-same-length
+same-length c = search needs
+
+same-length-2 : tie.Need-same-length-2
+same-length-2 c = search needs
+
+returns-2 : tie.Need-returns-2
+returns-2 c =
+    let e = eq-eqb _ _ (c .before .before .before .before .before .before .before .before .before .if1 .left) in
+    let k = c .before .before .before .before .before .before .before .bench .ensures in
+    record { answer = entered-as (c .before .before .before .before .of-read .ensures ∙ k .numbers) (c .before .before .report .ensures); circuit = rw e (k .circuit) }
+
+pub ullimaqsu-bench-spec : {M : Type 1} → statement M
+ullimaqsu-bench-spec =
+    tie.close
+    (tie.spec
+    returns
+    bench-requires
+    of-read-requires
+    report-requires
+    same-length
+    same-length-2
+    returns-2)

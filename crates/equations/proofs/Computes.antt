@@ -1,0 +1,100 @@
+-- The records of a text that is accepted are a circuit that computes what the text says.
+-- Assumes nothing.
+use mathlib.Core.Path.{_≡_, sym, ap, _∙_, subst}
+use mathlib.Core.List.{List}
+use Prim.Native.Nat.{ℕ, _≤_, _<_}
+use native.Mathlib.Omega.{arith}
+use lib.ListN.{length, getD}
+use Rattle.answers.specs.declared.Ruling.the-variants.{Fine}
+use Rattle.answers.specs.Rules.{refusal, AllHold}
+use Rattle.answers.proofs.Rules.{all-hold}
+use Rattle.gates.specs.Gate.{gateOf}
+use Rattle.gates.specs.Boolean.{boolGate}
+use Rattle.circuit.specs.declared.Checked.the-variants.{Accepted}
+use Rattle.circuit.specs.Check.{circuitRules, checkOf}
+use Rattle.simulate.specs.Work.{goodOf}
+use Rattle.simulate.specs.Boolean.{Vector, good, truthAt}
+use Rattle.syntax.proofs.Says.{right-text}
+use Rattle.statements.specs.Tables.{inputsIn}
+use Rattle.names.specs.Names.{nameRules}
+use Rattle.records.specs.Net.{sizeOf, lineOf}
+use Rattle.netlist.specs.Solved.{Solved, Right}
+use Rattle.netlist.specs.Sizes.{sizeRules}
+use Rattle.netlist.proofs.Sizes.{sizes-say, net-refusal, net-accepted}
+use Rattle.netlist.proofs.Values.{solution3, unique3, solution2, unique2}
+use Rattle.bench.specs.Text.{formsIn, defsIn, usesIn, netIn}
+use Rattle.bench.specs.Bench.{benchRules, recordsIn}
+use Rattle.equations.specs.Numbers.{nameOf, numberOf, lineFor}
+use Rattle.equations.specs.Computes.{sizeIn, outputsIn, OneSolution, Computes}
+use Rattle.equations.proofs.Tables.{inputs-are}
+use Rattle.equations.proofs.RightNet.{size-is, number-below, right-net}
+use Rattle.equations.proofs.SameMeaning.{name-of, net-solved, text-solves}
+use Rattle.equations.proofs.Lines.{own-lines}
+use Rattle.equations.proofs.Outputs.{outputs-exactly, outputs-count}
+use Rattle.equations.proofs.Parts.{Parts, parts}
+
+module _ (t : List ℕ) (none : refusal (nameRules t (defsIn t) (usesIn t)) ≡ Fine) where
+  -- what solves the net, and is the only one, solves the text, and is the only one
+  one-solution : {A : Type 0} {gate : ℕ → (ℕ → A) → A} {inputs : ℕ → A} (value : ℕ → A)
+      → Solved gate (netIn t) inputs (λ x. value (lineOf (netIn t) x))
+      → ((v : ℕ → A) → Solved gate (netIn t) inputs v → (x : ℕ) → x < sizeOf (netIn t) → v x ≡ value (lineOf (netIn t) x))
+      → OneSolution gate t inputs (λ w. value (lineFor t w))
+  unfolding lineFor
+  one-solution value s u = record {
+    solves = text-solves t none s;
+    only = λ other o w d.
+        ap other (sym (name-of t none w d)) ∙ u (λ x. other (nameOf t x)) (net-solved t none o) (numberOf t w) (number-below t none w d);
+  }
+
+-- sizes within the limits
+pub record Sized (t : List ℕ) : Type 0 where
+  pub some : 1 ≤ sizeOf (netIn t)
+  pub few : sizeOf (netIn t) ≤ 2048
+  pub inputs : netIn t .inputs ≤ 64
+  pub outputs : 1 ≤ length (netIn t .outputs)
+
+pub sized : (t : List ℕ) → Right (netIn t) → refusal (circuitRules (recordsIn t)) ≡ Fine → Sized t
+unfolding sizeRules AllHold
+sized t r e =
+    let a = all-hold (sizeRules (netIn t)) (sizes-say (netIn t)) (sym (net-refusal (netIn t) r) ∙ e) in
+    record { some = a .0 .0; few = a .0 .1; inputs = a .1 .0; outputs = a .1 .1 .0 }
+
+pub parts-right : {t : List ℕ} {room : ℕ} → Parts t room → Right (netIn t)
+parts-right {t} p = right-net t (p .names) (right-text t (p .syntax) .is-formed) (p .cycles)
+
+module _ (t : List ℕ) (room : ℕ) (p : Parts t room) where
+  r : Right (netIn t)
+  r = parts-right p
+
+  s : Sized t
+  s = sized t r (p .circuit)
+
+  few : sizeOf (netIn t) ≤ 65536
+  few = omega (arith, s .few)
+
+  accepted : checkOf (recordsIn t) ≡ Accepted (sizeIn t) (inputsIn (formsIn t)) (outputsIn t)
+  accepted =
+      net-accepted (netIn t) r (s .some) (s .few) (s .inputs) (s .outputs) ∙ cc (size-is t, inputs-are t, outputs-count t (p .names) r)
+
+  -- with three values
+  values : (q : List ℕ) → OneSolution gateOf t (λ j. getD q j 0) (λ w. getD (goodOf (recordsIn t) q (sizeOf (netIn t))) (lineFor t w) 0)
+  values q =
+      one-solution t (p .names) (λ k. getD (goodOf (recordsIn t) q (sizeOf (netIn t))) k 0) (solution3 (netIn t) r few q) (λ v. unique3 (netIn t) r few q)
+
+  -- over Bool
+  truths : (x : Vector) → OneSolution boolGate t x (λ w. truthAt good (recordsIn t) x (sizeOf (netIn t)) (lineFor t w))
+  truths x = one-solution t (p .names) (truthAt good (recordsIn t) x (sizeOf (netIn t))) (solution2 (netIn t) r few x) (λ v. unique2 (netIn t) r few x)
+
+  computes-parts : Computes t (recordsIn t)
+  computes-parts = record {
+    check = accepted;
+    lines = own-lines t (p .names) r;
+    outputs = outputs-exactly t (p .names) r;
+    values = λ q.
+        subst (λ (n : ℕ). OneSolution gateOf t (λ j. getD q j 0) (λ w. getD (goodOf (recordsIn t) q n) (lineFor t w) 0)) (size-is t) (values q);
+    truths = λ x.
+        subst (λ (n : ℕ). OneSolution boolGate t x (λ w. truthAt good (recordsIn t) x n (lineFor t w))) (size-is t) (truths x);
+  }
+
+pub computes : (t : List ℕ) (room : ℕ) → refusal (benchRules t room) ≡ Fine → Computes t (recordsIn t)
+computes t room e = computes-parts t room (parts t room e)

@@ -1,0 +1,13 @@
+pub mod Tables
+pub mod Uses
+pub mod Names
+pub mod RightNet
+pub mod SameMeaning
+pub mod Cycles
+pub mod Lines
+pub mod Outputs
+pub mod Parts
+pub mod Computes
+pub mod Accepted
+pub mod Sixteen
+pub mod Read

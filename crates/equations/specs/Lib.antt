@@ -1,0 +1,4 @@
+pub mod Meaning
+pub mod Right
+pub mod Numbers
+pub mod Computes

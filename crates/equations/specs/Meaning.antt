@@ -1,0 +1,37 @@
+-- What a text means, straight from its equations and with no reference to records: a value for each name, such that each input has the value
+-- that is given to it, and each gate's name the value of its kind on the values of its sources' names.
+-- Assumes nothing.
+use mathlib.Core.Path.{_≡_}
+use mathlib.Core.Bool.{true}
+use mathlib.Core.List.{List}
+use Prim.Native.Nat.{ℕ, _-_, _<_}
+use lib.Dec.{eqb}
+use lib.ListN.{length, getD}
+use Rattle.ground.specs.Choose.{choose}
+use Rattle.words.specs.Words.{wordAt, wordsOf, endsOf}
+use Rattle.statements.specs.Lines.{kindOf, wordIn}
+use Rattle.statements.specs.Tables.{isInput, isGate, inputsTo, definedAt}
+use Rattle.bench.specs.Text.{formsIn}
+
+-- word j of line k
+abbrev pub wordOn : List ℕ → ℕ → ℕ → List ℕ
+wordOn t k j = wordAt t (wordIn (wordsOf t) (endsOf t) k j)
+
+-- the name that line k defines
+abbrev pub nameOn : List ℕ → ℕ → List ℕ
+nameOn t k = wordAt t (definedAt (wordsOf t) (endsOf t) (formsIn t) k)
+
+-- the kind of the gate on line k, and the name of its source at pin s: the third word, or the last
+abbrev pub kindOn : List ℕ → ℕ → ℕ
+kindOn t k = kindOf (wordOn t k 1)
+
+abbrev pub sourceOn : List ℕ → ℕ → ℕ → List ℕ
+sourceOn t k s = wordOn t k (choose (eqb s 1) 2 (getD (formsIn t) k 0 - 1))
+
+abbrev pub linesIn : List ℕ → ℕ
+linesIn t = length (formsIn t)
+
+-- over any values, three or two, with the gates' own rule
+pub record Solves {A : Type 0} (gate : ℕ → (ℕ → A) → A) (t : List ℕ) (inputs : ℕ → A) (value : List ℕ → A) : Type 0 where
+  pub given : (k : ℕ) → k < linesIn t → isInput (formsIn t) k ≡ true → value (nameOn t k) ≡ inputs (inputsTo (formsIn t) k)
+  pub equation : (k : ℕ) → k < linesIn t → isGate (formsIn t) k ≡ true → value (nameOn t k) ≡ gate (kindOn t k) (λ s. value (sourceOn t k s))

@@ -1,0 +1,30 @@
+-- The numbers that stand for the names of a text: the gates' in the text's order from 0 on, then the inputs'; and the lines of the records.
+-- Assumes nothing.
+use mathlib.Core.List.{List, _++_}
+use Prim.Native.Nat.{ℕ, _-_}
+use lib.ListN.{length, getD}
+use Rattle.ground.specs.Lists.{collect}
+use Rattle.words.specs.Words.{wordAt, wordsOf, endsOf}
+use Rattle.statements.specs.Tables.{isInput, isGate, definedAt, numbersOf}
+use Rattle.names.specs.Names.{definition}
+use Rattle.records.specs.Net.{lineOf}
+use Rattle.bench.specs.Text.{formsIn, defsIn, netIn}
+use Rattle.equations.specs.Meaning.{linesIn}
+
+-- the name of a number
+unfoldable pub gateNames : List ℕ → List ℕ
+gateNames t = collect (isGate (formsIn t)) (definedAt (wordsOf t) (endsOf t) (formsIn t)) (linesIn t)
+
+unfoldable pub inputNames : List ℕ → List ℕ
+inputNames t = collect (isInput (formsIn t)) (definedAt (wordsOf t) (endsOf t) (formsIn t)) (linesIn t)
+
+unfoldable pub nameOf : List ℕ → ℕ → List ℕ
+nameOf t x = wordAt t (getD (gateNames t ++ inputNames t) x 0)
+
+-- the number of a name
+unfoldable pub numberOf : List ℕ → List ℕ → ℕ
+numberOf t w = getD (numbersOf (formsIn t)) (definition t (defsIn t) (length (defsIn t)) w - 1) 0
+
+-- the line of a name
+unfoldable pub lineFor : List ℕ → List ℕ → ℕ
+lineFor t w = lineOf (netIn t) (numberOf t w)

@@ -1,0 +1,1 @@
+// What a text of the bench notation means, and that the records compute it: theorems alone.

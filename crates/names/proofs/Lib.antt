@@ -1,0 +1,12 @@
+pub mod Mixed
+pub mod Last
+pub mod Chain
+pub mod Entry
+pub mod Lowest
+pub mod Mapped
+pub mod Loops
+pub mod LowestNot
+pub mod Wrong
+pub mod Ruled
+pub mod Says
+pub mod OneDefinition

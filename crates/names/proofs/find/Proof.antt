@@ -1,0 +1,96 @@
+-- `names::find` meets its contract: the definitions with the same hash are followed, the last first.
+-- Assumes nothing.
+use mathlib.Core.Path.{sym, ap, _∙_}
+use Prim.Native.Nat.{ℕ}
+use native.Mathlib.Omega.{arith}
+use borrow.Author.Needs.{needs}
+use Rattle.words.specs.Words.{wordAt, same}
+use Rattle.names.proofs.Chain.{Walk, start, ended, inside, hit, more, falls}
+use Rattle.names.proofs.find.Statement.{statement}
+use Rattle.names.proofs.find.Tie as tie
+
+abbrev Inv-loop : tie.InvT-loop
+Inv-loop text defs head next n h at p₀ p = Walk text defs (wordAt text at) n h p
+
+abbrev μ-loop : tie.MeasureT-loop
+μ-loop text defs head next n h at p₀ p = p
+
+mul-wide16 : tie.Need-mul-wide16 Inv-loop μ-loop
+mul-wide16 c = omega arith
+
+shared-slice-read-wide16 : tie.Need-shared-slice-read-wide16 Inv-loop μ-loop
+shared-slice-read-wide16 c = omega arith
+
+wide16-requires : tie.Need-wide16-requires Inv-loop μ-loop
+wide16-requires c κs = search needs
+
+loop-holds : tie.Need-loop-holds Inv-loop μ-loop
+loop-holds c = let first = c .before .before .before .before .before .before in start (first .pre .0) (first .pre .1 .0) (first .pre .1 .1) (c .wide16 .ensures .0)
+
+sub-d : tie.Need-sub-d Inv-loop μ-loop
+sub-d c = omega arith
+
+mul-wide16-2 : tie.Need-mul-wide16-2 Inv-loop μ-loop
+mul-wide16-2 c = omega (arith, inside (c .before .loop .inv) (omega arith))
+
+shared-slice-read-wide16-2 : tie.Need-shared-slice-read-wide16-2 Inv-loop μ-loop
+shared-slice-read-wide16-2 c = omega (arith, inside (c .before .before .loop .inv) (omega arith))
+
+wide16-requires-2 : tie.Need-wide16-requires-2 Inv-loop μ-loop
+wide16-requires-2 c κs = search needs
+
+same-word-requires : tie.Need-same-word-requires Inv-loop μ-loop
+same-word-requires c κs = search needs
+
+returns : tie.Need-returns Inv-loop μ-loop
+returns c =
+    let first = c .before .before .before .before .before .before .before .before .before .before .before .before .args in
+    let same-place = ap (λ (i : ℕ). same (wordAt (first .text .now) i) (wordAt (first .text .now) (first .at))) (c .before .before .wide162 .ensures .0) in
+    hit (c .before .before .before .before .before .loop .inv) (omega arith) (sym same-place ∙ sym (c .before .same-word .ensures) ∙ c .if1 .taken)
+
+mul-wide16-3 : tie.Need-mul-wide16-3 Inv-loop μ-loop
+mul-wide16-3 c = omega (arith, inside (c .before .before .before .before .before .loop .inv) (omega arith))
+
+shared-slice-read-wide16-3 : tie.Need-shared-slice-read-wide16-3 Inv-loop μ-loop
+shared-slice-read-wide16-3 c = omega (arith, inside (c .before .before .before .before .before .before .loop .inv) (omega arith))
+
+wide16-requires-3 : tie.Need-wide16-requires-3 Inv-loop μ-loop
+wide16-requires-3 c κs = search needs
+
+loop-less : tie.Need-loop-less Inv-loop μ-loop
+loop-less c = rw (c .wide163 .ensures .0) (falls (c .before .before .before .before .before .before .before .loop .inv) (omega arith) (c .before .before .before .before .before .before .before .before .before .before .before .before .before .before .pre .0))
+
+loop-again : tie.Need-loop-again Inv-loop μ-loop
+loop-again c =
+    let first = c .before .before .before .before .before .before .before .before .before .before .before .before .before .before in
+    let text = first .args .text .now in
+    let at = c .before .before .before .before in
+    let same-place = ap (λ (i : ℕ). same (wordAt text i) (wordAt text (first .args .at))) (at .wide162 .ensures .0) in
+    let other = sym same-place ∙ sym (c .before .before .before .same-word .ensures) ∙ c .before .before .if1 .left in
+    more (c .before .before .before .before .before .before .before .loop .inv) (omega arith) (first .pre .0) (c .wide163 .result) other (c .wide163 .ensures .0)
+
+returns-2 : tie.Need-returns-2 Inv-loop μ-loop
+returns-2 c = ended (c .before .loop .inv) (omega arith)
+
+pub find-spec : {M : Type 1} → statement M
+find-spec =
+    tie.close
+    (tie.spec
+    Inv-loop
+    μ-loop
+    mul-wide16
+    shared-slice-read-wide16
+    wide16-requires
+    loop-holds
+    sub-d
+    mul-wide16-2
+    shared-slice-read-wide16-2
+    wide16-requires-2
+    same-word-requires
+    returns
+    mul-wide16-3
+    shared-slice-read-wide16-3
+    wide16-requires-3
+    loop-less
+    loop-again
+    returns-2)

@@ -1,0 +1,69 @@
+-- The fields of a net's records: kind, output byte and sources of each line are those of the number that stands there.
+-- Assumes nothing.
+use mathlib.Core.Path.{_≡_, _∙_}
+use mathlib.Core.Logic.{⊎-elim}
+use Prim.Native.Nat.{ℕ, zero, suc, _+_, _*_, _≤_, _<_, _/_, _%_}
+use native.Mathlib.Nat.{eq-or-lt-of-le, le-of-suc-le-suc, not-suc-le-zero, add-zero, div-add-mod, mod-eq-of-lt, mul-div-right}
+use native.Mathlib.Omega.{arith}
+use lib.ListN.{length, getD, List·getD-append}
+use lib.Seq.{getD-append-add}
+use Rattle.ground.specs.Choose.{one}
+use Rattle.ground.specs.Lists.{elem}
+use Rattle.answers.specs.Area.{le}
+use Rattle.circuit.specs.Record.{wordAt, linesOf, kindAt, outAt, pinAt}
+use Rattle.circuit.proofs.Lines.{three}
+use Rattle.records.specs.Net.{Net, sizeOf, numberOn, kindOn, sourceOn, recordOn, recordsTo, recordsOf}
+use Rattle.records.proofs.Size.{records-length}
+use Rattle.netlist.specs.Solved.{Right}
+use Rattle.netlist.proofs.Sources.{source-inside}
+
+-- a number in two bytes
+word : (w : ℕ) → w < 65536 → w % 256 + 256 * (w / 256 % 256) ≡ w
+word w l =
+    let high : w / 256 % 256 ≡ w / 256 = mod-eq-of-lt (omega (arith, div-add-mod w 256)) in
+    omega (arith, div-add-mod w 256)
+
+module _ (net : Net) where
+  -- byte i of the record on line k
+  byte : (m k i : ℕ) → k < m → i < 8 → getD (recordsTo net m) (8 * k + i) 0 ≡ getD (recordOn net k) i 0
+  unfolding recordsTo
+  byte zero k i l h = absurd (not-suc-le-zero l)
+  byte (suc m) k i l h =
+      ⊎-elim
+      (λ (e : k ≡ m).
+      let at : 8 * k + i ≡ length (recordsTo net m) + i = omega (arith, records-length net m) in
+      rw (at, e) (getD-append-add (recordsTo net m) (recordOn net m) i 0))
+      (λ b. List·getD-append (recordsTo net m) (recordOn net m) 0 (8 * k + i) (omega (arith, records-length net m)) ∙ byte m k i b h)
+      (eq-or-lt-of-le (le-of-suc-le-suc l))
+
+  pub net-long : length (recordsOf net) ≡ 8 * sizeOf net
+  net-long = records-length net (sizeOf net)
+
+  pub net-lines : linesOf (recordsOf net) ≡ sizeOf net
+  net-lines = rw net-long (mul-div-right (sizeOf net) (omega arith))
+
+  module _ (k : ℕ) (l : k < sizeOf net) where
+    pub net-kind : kindAt (recordsOf net) k ≡ kindOn net k
+    unfolding recordOn
+    net-kind = rw add-zero at (byte (sizeOf net) k 0 l (omega arith))
+
+    pub net-out : outAt (recordsOf net) k ≡ one (elem (net .outputs) (numberOn net k))
+    unfolding recordOn
+    net-out = byte (sizeOf net) k 1 l (omega arith)
+
+    module _ (r : Right net) (few : sizeOf net ≤ 65536) where
+      -- bytes 2 and 3 have the source at pin 1, the next two that at pin 2, and the last that at pin 3
+      words : (s : ℕ) → 1 ≤ s → s ≤ 3 → getD (recordOn net k) (2 * s) 0 + 256 * getD (recordOn net k) (2 * s + 1) 0 ≡ sourceOn net k s
+      unfolding recordOn le
+      words =
+          three (λ s. getD (recordOn net k) (2 * s) 0 + 256 * getD (recordOn net k) (2 * s + 1) 0 ≡ sourceOn net k s)
+          (source 1 (omega arith)) (source 2 (omega arith)) (source 3 (omega arith))
+        where
+          source : (s : ℕ) → 1 ≤ s → sourceOn net k s % 256 + 256 * (sourceOn net k s / 256 % 256) ≡ sourceOn net k s
+          source s h = word (sourceOn net k s) (omega (arith, source-inside net r k s l h))
+
+      pub net-pin : (s : ℕ) → 1 ≤ s → s ≤ 3 → pinAt (recordsOf net) k s ≡ sourceOn net k s
+      unfolding wordAt
+      net-pin s a b =
+          let next : (8 * k + 2 * s) + 1 ≡ 8 * k + (2 * s + 1) = omega arith in
+          rw (next, byte (sizeOf net) k (2 * s) l (omega arith), byte (sizeOf net) k (2 * s + 1) l (omega arith)) (words s a b)

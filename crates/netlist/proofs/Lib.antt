@@ -1,0 +1,9 @@
+pub mod Numbers
+pub mod Sources
+pub mod Fields
+pub mod KeepsLayout
+pub mod Counts
+pub mod Sizes
+pub mod Follows
+pub mod Solution
+pub mod Values

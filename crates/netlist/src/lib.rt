@@ -1,0 +1,1 @@
+// What the circuit records of a net are and compute: theorems alone.

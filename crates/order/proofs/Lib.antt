@@ -1,0 +1,9 @@
+pub mod Ready
+pub mod Gates
+pub mod Unique
+pub mod Says
+pub mod Cycle
+pub mod Marks
+pub mod Placing
+pub mod FirstReaders
+pub mod Arranged

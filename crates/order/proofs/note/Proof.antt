@@ -1,0 +1,31 @@
+-- `order::note` meets its contract: an input has no place in the list, and nothing is written.
+-- Assumes nothing.
+use mathlib.Core.Path.{sym}
+use native.Mathlib.Omega.{arith}
+use lib.Seq.{set-out}
+use borrow.Author.Needs.{needs}
+use Rattle.order.proofs.note.Statement.{statement}
+use Rattle.order.proofs.note.Tie as tie
+
+narrow-requires : tie.Need-narrow-requires
+narrow-requires c κs = search needs
+
+mul-reader : tie.Need-mul-reader
+mul-reader c = search needs
+
+slice-write-reader : tie.Need-slice-write-reader
+slice-write-reader c = search needs
+
+same-length : tie.Need-same-length
+same-length c = search needs
+
+returns : tie.Need-returns
+returns c = rw (c .narrow .ensures)
+
+returns-2 : tie.Need-returns-2
+returns-2 c = sym (set-out _ _ _ (omega arith))
+
+pub note-spec : {M : Type 1} → statement M
+note-spec =
+    tie.close
+    (tie.spec narrow-requires mul-reader slice-write-reader same-length returns returns-2)

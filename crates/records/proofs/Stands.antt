@@ -1,0 +1,49 @@
+-- What stands on a line: an input, or a gate in its place of the order; and the line's record in four numbers.
+-- Assumes nothing.
+use mathlib.Core.Path.{_≡_}
+use Prim.Native.Nat.{ℕ, suc, _+_, _-_, _≤_, _<_}
+use native.Mathlib.Omega.{arith}
+use lib.ListN.{getD}
+use borrow.Author.Tests.{lt-ltb, le-ltb, lt-leb}
+use Rattle.ground.specs.Choose.{one}
+use Rattle.ground.specs.Lists.{elem}
+use Rattle.gates.specs.Gate.{pinsOf}
+use Rattle.gates.proofs.Laws.{two-pins}
+use Rattle.records.specs.Net.{Net, gatesOf, placedOf, numberOn, kindOn, sourceOn, recordOn}
+use Rattle.records.specs.Owed.{recordOf}
+
+module _ (net : Net) (k : ℕ) where
+  -- a pin that the kind lacks has no source
+  pub source-lacks : (s : ℕ) → pinsOf (kindOn net k) < s → sourceOn net k s ≡ 0
+  unfolding sourceOn
+  source-lacks s l = rw (lt-leb s (pinsOf (kindOn net k)) l)
+
+  pub record-is : recordOn net k ≡ recordOf (kindOn net k) (one (elem (net .outputs) (numberOn net k))) (sourceOn net k 1) (sourceOn net k 2)
+  unfolding recordOn recordOf
+  record-is = rw (source-lacks 3 (omega (arith, two-pins (kindOn net k))))
+
+  -- an input
+
+  module _ (l : k < net .inputs) where
+    pub input-number : numberOn net k ≡ gatesOf net + k
+    unfolding numberOn
+    input-number = rw (lt-ltb k (net .inputs) l)
+
+    pub input-kind : kindOn net k ≡ 0
+    unfolding kindOn
+    input-kind = rw (lt-ltb k (net .inputs) l)
+
+    pub input-source : (s : ℕ) → sourceOn net k (suc s) ≡ 0
+    unfolding pinsOf
+    input-source s = source-lacks (suc s) (rw input-kind (omega arith))
+
+  -- a gate
+
+  module _ (l : net .inputs ≤ k) where
+    pub gate-number : numberOn net k ≡ getD (placedOf net) (k - net .inputs) 0
+    unfolding numberOn
+    gate-number = rw (le-ltb k (net .inputs) l)
+
+    pub gate-kind : kindOn net k ≡ getD (net .kinds) (numberOn net k) 0
+    unfolding kindOn
+    gate-kind = rw (le-ltb k (net .inputs) l)

@@ -1,0 +1,57 @@
+-- `records::put_records` meets its contract: as much memory as there are gates, and as there are lines, is lent, with no flag set.
+-- Assumes nothing.
+use mathlib.Core.Path.{sym}
+use Prim.Native.Nat.{_+_}
+use native.Mathlib.Omega.{arith}
+use lib.ListN.{length, replicate}
+use lib.Seq.{length-take-le}
+use borrow.Author.Needs.{needs}
+use Rattle.ground.proofs.Filled.{take-replicate, filled-at}
+use Rattle.records.proofs.put_records.Statement.{statement}
+use Rattle.records.proofs.put_records.Tie as tie
+
+add-size : tie.Need-add-size
+add-size c = omega arith
+
+array-borrow-prefix-line : tie.Need-array-borrow-prefix-line
+array-borrow-prefix-line c = omega arith
+
+slice-aggregate-put-records-in : tie.Need-slice-aggregate-put-records-in
+slice-aggregate-put-records-in c = sym (length-take-le _ _ (omega arith))
+
+array-borrow-prefix-flag : tie.Need-array-borrow-prefix-flag
+array-borrow-prefix-flag c = omega arith
+
+slice-aggregate-put-records-in-2 : tie.Need-slice-aggregate-put-records-in-2
+slice-aggregate-put-records-in-2 c = sym (length-take-le _ _ (omega arith))
+
+put-records-in-requires : tie.Need-put-records-in-requires
+put-records-in-requires c κs =
+    let s = c .before .before .before .before .before .before .before .before .before in
+    record {
+      fits = s .pre;
+      lines = length-take-le (length (s .args .firsts .now)) (replicate 2048 0) (omega arith);
+      flags = length-take-le (s .args .inputs + length (s .args .firsts .now)) (replicate 2048 0) (omega arith);
+      unset = λ x.
+          rw (take-replicate 2048 (s .args .inputs + length (s .args .firsts .now)) 0 (omega arith))
+          (filled-at (s .args .inputs + length (s .args .firsts .now)) 0 x);
+    }
+
+same-length : tie.Need-same-length
+same-length c = search needs
+
+returns : tie.Need-returns
+returns c = c .before .before .before .before .put-records-in .ensures
+
+pub put-records-spec : {M : Type 1} → statement M
+put-records-spec =
+    tie.close
+    (tie.spec
+    add-size
+    array-borrow-prefix-line
+    slice-aggregate-put-records-in
+    array-borrow-prefix-flag
+    slice-aggregate-put-records-in-2
+    put-records-in-requires
+    same-length
+    returns)

@@ -1,0 +1,2 @@
+pub mod Net
+pub mod Owed

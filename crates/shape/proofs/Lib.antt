@@ -1,0 +1,10 @@
+pub mod Symbols
+pub mod Pieces
+pub mod Parse
+pub mod Spelling
+pub mod Lines
+pub mod Scan
+pub mod Rows
+pub mod Texts
+pub mod Statements
+pub mod Forms

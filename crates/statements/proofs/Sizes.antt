@@ -1,0 +1,95 @@
+-- The tables of a text of at most 32,768 bytes: no more than 8,192 entries each, and the names in them begin inside the text.
+-- Assumes nothing.
+use mathlib.Core.Path.{_≡_}
+use mathlib.Core.Bool.{Bool, true, false, _||_, false≢true}
+use mathlib.Core.List.{List}
+use Prim.Native.Nat.{ℕ, zero, suc, _-_, _≤_, _<_}
+use native.Mathlib.Omega.{arith}
+use lib.Dec.{eqb, leb}
+use lib.ListN.{length, getD}
+use borrow.Author.Tests.{eqb-true, leb-true}
+use Rattle.ground.specs.Choose.{choose}
+use Rattle.ground.specs.Below.{countBelow}
+use Rattle.ground.proofs.Collect.{collect-below}
+use Rattle.words.specs.Words.{wordsOf, endsOf}
+use Rattle.words.proofs.Halves.{half}
+use Rattle.statements.specs.Lines.{wordIn, sizeAt, formsOf}
+use Rattle.statements.specs.Tables.{isOutput, isGate, defines, definedAt, gatesIn, defsOf, outsOf, firstsOf, secondsOf}
+use Rattle.statements.proofs.Lengths.{defs-split}
+use Rattle.statements.proofs.Forms.{Form, form-of, forms-get, forms-length}
+use Rattle.statements.proofs.Ends.{line-inside, lines-twice}
+
+-- ---- what passes has a form
+
+def-some : (x : ℕ) → (eqb x 1 || leb 3 x) ≡ true → 0 < x
+def-some zero e = absurd (false≢true e)
+def-some (suc x) e = omega arith
+
+output-some : (x : ℕ) → eqb x 2 ≡ true → 0 < x
+output-some x e = let q = eqb-true x 2 e in omega arith
+
+module _ (t : List ℕ) where
+  abbrev pub formsIn : List ℕ
+  formsIn = formsOf t (wordsOf t) (endsOf t)
+
+  abbrev pub Inside : List ℕ → Type 0
+  Inside l = (k : ℕ) → k < length l → getD l k 0 < length t
+
+  lines : length formsIn ≡ length (endsOf t)
+  lines = forms-length t (wordsOf t) (endsOf t)
+
+  form-at : (k : ℕ) → k < length (endsOf t) → Form (getD formsIn k 0) (sizeAt (endsOf t) k)
+  form-at k l = rw (forms-get t (wordsOf t) (endsOf t) k l) (form-of t (wordsOf t) (endsOf t) k)
+
+  -- ---- how many
+
+  module _ (short : length t ≤ 32768) where
+    few : (test : ℕ → Bool) → ((k : ℕ) → test k ≡ true → 0 < getD formsIn k 0) → countBelow (length formsIn) test ≤ 8192
+    few test some =
+        let words = lines-twice t test (λ k l e. form-at k l .two (some k e)) in
+        rw lines (omega (arith, half t (length t)))
+
+    pub few-defs : countBelow (length formsIn) (defines formsIn) ≤ 8192
+    few-defs = few (defines formsIn) (λ k e. def-some (getD formsIn k 0) e)
+
+    pub few-outs : countBelow (length formsIn) (isOutput formsIn) ≤ 8192
+    few-outs = few (isOutput formsIn) (λ k e. output-some (getD formsIn k 0) e)
+
+    pub few-gates : gatesIn formsIn ≤ 8192
+    few-gates = omega (arith, few-defs, defs-split formsIn)
+
+  -- ---- where
+
+  -- a table of a word of each line that passes
+  within : (test : ℕ → Bool) (word : ℕ → ℕ)
+      → ((k : ℕ) → k < length (endsOf t) → test k ≡ true → word k < sizeAt (endsOf t) k)
+      → (k : ℕ) → k < length formsIn → test k ≡ true → wordIn (wordsOf t) (endsOf t) k (word k) < length t
+  within test word h k l e = let m : k < length (endsOf t) = omega (arith, lines) in line-inside t k (word k) m (h k m e)
+
+  pub defs-within : Inside (defsOf (wordsOf t) (endsOf t) formsIn)
+  unfolding defsOf definedAt
+  defs-within = collect-below _ _ _ _ (within (defines formsIn) (λ k. choose (isGate formsIn k) 0 1) inside)
+    where
+      at-most : (b : Bool) → choose b 0 1 ≤ 1
+      at-most true = omega arith
+      at-most false = omega arith
+
+      inside : (k : ℕ) → k < length (endsOf t) → defines formsIn k ≡ true → choose (isGate formsIn k) 0 1 < sizeAt (endsOf t) k
+      inside k l e = omega (arith, form-at k l .two (def-some (getD formsIn k 0) e), at-most (isGate formsIn k))
+
+  pub outs-within : Inside (outsOf (wordsOf t) (endsOf t) formsIn)
+  unfolding outsOf
+  outs-within = collect-below _ _ _ _ (within (isOutput formsIn) (λ k. 1) (λ k l e. form-at k l .two (output-some (getD formsIn k 0) e)))
+
+  gate-size : (k : ℕ) → k < length (endsOf t) → isGate formsIn k ≡ true → (3 ≤ getD formsIn k 0) × (getD formsIn k 0 ≤ sizeAt (endsOf t) k)
+  gate-size k l e = (leb-true 3 (getD formsIn k 0) e, form-at k l .at-most)
+
+  pub firsts-within : Inside (firstsOf (wordsOf t) (endsOf t) formsIn)
+  unfolding firstsOf
+  firsts-within = collect-below _ _ _ _ (within (isGate formsIn) (λ k. 2) (λ k l e. let s = gate-size k l e in omega (arith, s .0, s .1)))
+
+  pub seconds-within : Inside (secondsOf (wordsOf t) (endsOf t) formsIn)
+  unfolding secondsOf
+  seconds-within =
+      collect-below _ _ _ _
+      (within (isGate formsIn) (λ k. getD formsIn k 0 - 1) (λ k l e. let s = gate-size k l e in omega (arith, s .0, s .1)))

@@ -1,0 +1,34 @@
+-- `statements::start_of` meets its contract.
+-- Assumes nothing.
+use Rattle.statements.proofs.Lines.{first-line, later-line}
+use mathlib.Core.Path.{_∙_}
+use native.Mathlib.Omega.{arith}
+use borrow.Author.Needs.{needs}
+use Rattle.statements.proofs.start_of.Statement.{statement}
+use Rattle.statements.proofs.start_of.Tie as tie
+
+returns : tie.Need-returns
+returns c = (first-line _ _ (c .if1 .taken), omega arith)
+
+sub-wide16 : tie.Need-sub-wide16
+sub-wide16 c = search needs
+
+mul-wide16 : tie.Need-mul-wide16
+mul-wide16 c = search needs
+
+shared-slice-read-wide16 : tie.Need-shared-slice-read-wide16
+shared-slice-read-wide16 c = search needs
+
+wide16-requires : tie.Need-wide16-requires
+wide16-requires c κs = search needs
+
+returns-2 : tie.Need-returns-2
+returns-2 c = (
+  c .wide16 .ensures .0 ∙ later-line (c .before .before .before .before .args .ends .now) (c .before .before .before .before .args .k) (c .before .before .if1 .left),
+  omega arith,
+)
+
+pub start-of-spec : {M : Type 1} → statement M
+start-of-spec =
+    tie.close
+    (tie.spec returns sub-wide16 mul-wide16 shared-slice-read-wide16 wide16-requires returns-2)

@@ -1,0 +1,3 @@
+pub mod Lines
+pub mod Tables
+pub mod Owed

@@ -1,0 +1,7 @@
+pub mod Shortened
+pub mod Derivative
+pub mod Table
+pub mod Reader
+pub mod Spelt
+pub mod Says
+pub mod Rows

@@ -1,0 +1,69 @@
+-- `syntax::walk` meets its contract: the rows are walked, byte by byte.
+-- Assumes nothing.
+use Rattle.syntax.proofs.Rows.{first-row}
+use Rattle.syntax.proofs.Reader.{SoFar, start, full, stops, more, ended, early}
+use Rattle.syntax.specs.Owed.{Row}
+use Rattle.syntax.specs.Derivative.{next}
+use lib.ListN.{length}
+use Prim.Native.Nat.{_-_, _/_}
+use mathlib.Core.Path.{_∙_, ap}
+use native.Mathlib.Omega.{arith}
+use Rattle.syntax.proofs.walk.Statement.{statement}
+use Rattle.syntax.proofs.walk.Tie as tie
+
+abbrev Inv-loop : tie.InvT-loop
+Inv-loop text symbols rows q₀ i₀ q i = SoFar text i (q / 23) × Row q
+
+abbrev μ-loop : tie.MeasureT-loop
+μ-loop text symbols rows q₀ i₀ q i = length text - i
+
+loop-holds : tie.Need-loop-holds Inv-loop μ-loop
+loop-holds c = (start _, first-row)
+
+returns : tie.Need-returns Inv-loop μ-loop
+returns c = full (c .before .before .loop .inv .0) (omega arith) (c .if1 .taken)
+
+shared-slice-read-symbol-of : tie.Need-shared-slice-read-symbol-of Inv-loop μ-loop
+shared-slice-read-symbol-of c = omega arith
+
+symbol-of-requires : tie.Need-symbol-of-requires Inv-loop μ-loop
+symbol-of-requires c κs = c .before .before .before .before .before .before .pre .0
+
+step-requires : tie.Need-step-requires Inv-loop μ-loop
+step-requires c κs = (c .before .before .before .before .before .before .before .pre .1, c .before .before .before .before .loop .inv .1, omega arith)
+
+returns-2 : tie.Need-returns-2 Inv-loop μ-loop
+returns-2 c = stops (c .before .before .before .before .before .before .loop .inv .0) (omega arith) (c .before .step .ensures .0 ∙ ap (next _) (c .before .before .symbol-of .ensures .0)) (c .before .step .ensures .1 .inside) (omega arith) (omega (arith, c .if2 .taken))
+
+add-i : tie.Need-add-i Inv-loop μ-loop
+add-i c = omega arith
+
+loop-less : tie.Need-loop-less Inv-loop μ-loop
+loop-less c = omega arith
+
+loop-again : tie.Need-loop-again Inv-loop μ-loop
+loop-again c = (more (c .before .before .before .before .before .before .loop .inv .0) (omega arith) (c .before .step .ensures .0 ∙ ap (next _) (c .before .before .symbol-of .ensures .0)) (c .before .step .ensures .1 .inside) (omega arith) (omega (arith, c .if2 .left, c .before .step .ensures .1 .begins)), c .before .step .ensures .1)
+
+returns-3 : tie.Need-returns-3 Inv-loop μ-loop
+returns-3 c = ended (c .before .before .loop .inv .0) (omega arith) (omega (arith, c .if3 .taken))
+
+returns-4 : tie.Need-returns-4 Inv-loop μ-loop
+returns-4 c = early (c .before .before .loop .inv .0) (omega arith) (omega (arith, c .if3 .left))
+
+pub walk-spec : {M : Type 1} → statement M
+walk-spec =
+    tie.close
+    (tie.spec
+    Inv-loop
+    μ-loop
+    loop-holds
+    returns
+    shared-slice-read-symbol-of
+    symbol-of-requires
+    step-requires
+    returns-2
+    add-i
+    loop-less
+    loop-again
+    returns-3
+    returns-4)

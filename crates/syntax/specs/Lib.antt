@@ -1,0 +1,5 @@
+pub mod Regular
+pub mod Grammar
+pub mod Derivative
+pub mod Syntax
+pub mod Owed

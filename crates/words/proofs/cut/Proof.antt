@@ -1,0 +1,116 @@
+-- `words::cut` meets its contract: each byte may begin a word or end a line.
+-- Assumes nothing.
+use Rattle.words.proofs.Loop.{SoFar, start, more, finished}
+use Rattle.ground.specs.Choose.{one}
+use lib.ListN.{length, length-set}
+use lib.Dec.{eqb}
+use Prim.Native.Nat.{_-_}
+use mathlib.Core.Bool.{Bool, _&&_}
+use mathlib.Core.Path.{ap, _∙_}
+use native.Mathlib.Omega.{arith}
+use borrow.Author.Needs.{needs}
+use Rattle.words.proofs.cut.Statement.{statement}
+use Rattle.words.proofs.cut.Tie as tie
+
+abbrev Inv-loop : tie.InvT-loop
+Inv-loop text words₀ ends₀ table m₀ w₀ k₀ i₀ words ends m w k i = SoFar text words ends m w k i
+
+abbrev μ-loop : tie.MeasureT-loop
+μ-loop text words₀ ends₀ table m₀ w₀ k₀ i₀ words ends m w k i = length text - i
+
+word-table-requires : tie.Need-word-table-requires Inv-loop μ-loop
+word-table-requires c κs = tt
+
+loop-holds : tie.Need-loop-holds Inv-loop μ-loop
+loop-holds c = start (c .before .before .before .before .pre)
+
+shared-slice-read-b : tie.Need-shared-slice-read-b Inv-loop μ-loop
+shared-slice-read-b c = omega arith
+
+in-word-requires : tie.Need-in-word-requires Inv-loop μ-loop
+in-word-requires c κs = c .before .before .before .before .word-table .ensures
+
+end-line-requires : tie.Need-end-line-requires Inv-loop μ-loop
+end-line-requires c κs = omega arith
+
+narrow-requires : tie.Need-narrow-requires Inv-loop μ-loop
+narrow-requires c κs = omega arith
+
+mul-words : tie.Need-mul-words Inv-loop μ-loop
+mul-words c = omega arith
+
+slice-write-words : tie.Need-slice-write-words Inv-loop μ-loop
+slice-write-words c = omega arith
+
+begun-requires : tie.Need-begun-requires Inv-loop μ-loop
+begun-requires c κs = search needs
+
+bit-requires : tie.Need-bit-requires Inv-loop μ-loop
+bit-requires c κs = search needs
+
+add-w : tie.Need-add-w Inv-loop μ-loop
+add-w c = omega arith
+
+lead-requires : tie.Need-lead-requires Inv-loop μ-loop
+lead-requires c κs = c .before .before .before .before .before .before .before .in-word .ensures
+
+add-i : tie.Need-add-i Inv-loop μ-loop
+add-i c = omega arith
+
+loop-less : tie.Need-loop-less Inv-loop μ-loop
+loop-less c = omega arith
+
+loop-again : tie.Need-loop-again Inv-loop μ-loop
+loop-again c = let turn = c .before .before .before .before .before .before .before .before .before .before .before .before .loop in
+    let begins = c .before .bit .ensures .0 ∙ ap one (c .before .before .begun .ensures ∙ ap (λ (x : Bool). eqb (turn .m) 0 && x) (c .before .before .before .before .before .before .before .before .in-word .ensures)) in
+    rw (c .before .before .before .narrow .ensures) (more (turn .inv) (omega arith) (c .before .bit .result) (c .lead .result) (c .before .before .before .before .before .before .end-line .ensures) begins (c .lead .ensures))
+
+narrow-requires-2 : tie.Need-narrow-requires-2 Inv-loop μ-loop
+narrow-requires-2 c κs = omega arith
+
+mul-ends : tie.Need-mul-ends Inv-loop μ-loop
+mul-ends c = omega arith
+
+slice-write-ends : tie.Need-slice-write-ends Inv-loop μ-loop
+slice-write-ends c = omega arith
+
+add-t22 : tie.Need-add-t22 Inv-loop μ-loop
+add-t22 c = omega arith
+
+same-length : tie.Need-same-length Inv-loop μ-loop
+same-length c = omega arith
+
+same-length-2 : tie.Need-same-length-2 Inv-loop μ-loop
+same-length-2 c = simp length-set (omega arith)
+
+returns : tie.Need-returns Inv-loop μ-loop
+returns c = rw (c .narrow2 .ensures) (finished (c .before .before .loop .inv) (omega arith))
+
+pub cut-spec : {M : Type 1} → statement M
+cut-spec =
+    tie.close
+    (tie.spec
+    Inv-loop
+    μ-loop
+    word-table-requires
+    loop-holds
+    shared-slice-read-b
+    in-word-requires
+    end-line-requires
+    narrow-requires
+    mul-words
+    slice-write-words
+    begun-requires
+    bit-requires
+    add-w
+    lead-requires
+    add-i
+    loop-less
+    loop-again
+    narrow-requires-2
+    mul-ends
+    slice-write-ends
+    add-t22
+    same-length
+    same-length-2
+    returns)
