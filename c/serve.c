@@ -79,7 +79,12 @@ static uint32_t clauses(void) {
     return ullimaqsu_clauses(circuit.at, circuit.len, fault.at, fault.len, list.at, list.len, answer.at, answer.len);
 }
 
-static uint32_t (*const entries[])(void) = {check, dictionary, compact, search, clauses};
+static uint32_t bench(void) {
+    struct bytes text = bytes(), circuit = bytes(), answer = bytes();
+    return ullimaqsu_bench(text.at, text.len, circuit.at, circuit.len, answer.at, answer.len);
+}
+
+static uint32_t (*const entries[])(void) = {check, dictionary, compact, search, clauses, bench};
 
 static int all(ssize (*move)(int, void *, size_t), int file, void *at, size_t len) {
     for (ssize moved; len; at = (uint8_t *)at + moved, len -= (size_t)moved)

@@ -239,6 +239,50 @@ static void test_clauses(void) {
     }
 }
 
+/* Texts in the bench notation. c17 has its gates before their sources and its inputs last, a comment, CR LF and tabs. */
+#define INPUTS_8(x) "INPUT(" x "0)\nINPUT(" x "1)\nINPUT(" x "2)\nINPUT(" x "3)\nINPUT(" x "4)\nINPUT(" x "5)\nINPUT(" x "6)\nINPUT(" x "7)\n"
+#define INPUTS_64 INPUTS_8("a") INPUTS_8("b") INPUTS_8("c") INPUTS_8("d") INPUTS_8("e") INPUTS_8("f") INPUTS_8("g") INPUTS_8("h")
+#define NAND_OF(output, a, b) 4, output, a, 0, b, 0, 0, 0
+static const char c17[] =
+    "# c17, six NANDs\r\nOUTPUT(22)\r\nOUTPUT(23)\r\n23 = NAND(16, 19)\r\n22\t=\tNAND(10,16)\n19=NAND(11,7)\n16=NAND(2,11)\n"
+    "11=NAND(3,6)\n10=NAND(1,3)\n\nINPUT(1)\nINPUT(2)\n INPUT ( 3 ) # the third\nINPUT(6)\nOUTPUT(22)\nINPUT(7)";
+static const uint8_t records_of_c17[] = {
+    INPUT, INPUT, INPUT, INPUT, INPUT, NAND_OF(0, 2, 3), NAND_OF(0, 5, 4), NAND_OF(0, 1, 5), NAND_OF(1, 7, 6), NAND_OF(0, 0, 2), NAND_OF(1, 9, 7)};
+static const struct {
+    const char *name, *text;
+    size_t len, circuit;
+    uint32_t returned;
+    uint64_t number;
+} benches[] = {
+    {"c17", c17, sizeof c17 - 1, 16384, 0, 11},
+    {"input in small letters", "input(a)", 8, 16384, 14, 5},
+    {"a text that ends early, and a buffer too small", c17, sizeof c17 - 2, 16383, 14, sizeof c17 - 2},
+    {"a name defined nowhere", "INPUT(a)\nOUTPUT(b)", 18, 16384, 15, 16},
+    {"a name defined twice", "INPUT(a)\nINPUT(a)", 17, 0, 15, 15},
+    {"a gate behind a cycle", "INPUT(a)\nx=NOT(a)\ny=BUFF(z)\nz=OR(a,z)\nOUTPUT(y)", 47, 16384, 16, 1},
+    {"no text at all", 0, 0, 16384, 1, 0},
+    {"65 inputs, and no output", INPUTS_64 "INPUT(i)", 64 * 10 + 8, 16384, 4, 0},
+    {"no output, and no buffer", INPUTS_64, 64 * 10, 0, 5, 0},
+    {"a buffer too small", c17, sizeof c17 - 1, 16383, 10, 0},
+    {"a buffer too large", c17, sizeof c17 - 1, 16385, 10, 0},
+};
+
+static void test_bench(void) {
+    static uint8_t circuit[16385];
+    for (size_t i = 0; i < sizeof benches / sizeof *benches; i++)
+        for (size_t len = 31; len <= 33; len++) {
+            uint8_t area[35];
+            const uint64_t numbers[4] = {benches[i].number};
+            fill(circuit, sizeof circuit), fill(area, sizeof area);
+            uint32_t returned = ullimaqsu_bench((const uint8_t *)benches[i].text, benches[i].len, circuit, benches[i].circuit, area + 1, len);
+            size_t read = returned ? 0 : sizeof records_of_c17;
+            expect(returned == (len == 32 ? benches[i].returned : 10), benches[i].name);
+            expect(len == 32 ? answers(area + 1, numbers) : stays(area + 1, 32), benches[i].name);
+            expect(stays(area, 1) && stays(area + 33, 2), "the bytes around the answer area stay");
+            expect(same(circuit, records_of_c17, read) && stays(circuit + read, sizeof circuit - read), "the records are written, and nothing else");
+        }
+}
+
 int main(void) {
     test_check();
     test_areas();
@@ -246,6 +290,7 @@ int main(void) {
     test_compact();
     test_search();
     test_clauses();
+    test_bench();
     printf("C test: %s\n", failures ? "FAILED" : "ok");
     return failures != 0;
 }

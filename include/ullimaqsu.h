@@ -39,6 +39,16 @@
  *       0 pass       at every output both are known and equal: no filling does
  *       2 unknown    otherwise
  *
+ * Text in the bench notation
+ *
+ *   Up to 32,768 bytes. A line, ended by LF or by the text's end, has one statement or none, and after it may have a comment, from # to its
+ *   end, of any bytes but LF.
+ *       INPUT(a)          a is an input
+ *       OUTPUT(y)         y is an output; written again it counts once
+ *       y = NAND(a, b)    y is a gate: BUFF or NOT with one source, AND, NAND, OR, NOR, XOR or XNOR with two
+ *   A name is any 1 to 16 letters, digits or underscores, the words above among them. It is defined once, as an input or a gate, anywhere in
+ *   the text. Spaces, tabs and CR may stand anywhere but inside a word.
+ *
  * Refusals, in the order in which they are checked; the first that applies is given, with the lowest place
  *
  *   no.   when                                                               place
@@ -57,8 +67,15 @@
  *   12    a count of faults or patterns outside 1 to 256, or a table that    0
  *         is not of their product
  *   13    a table byte above 2                                               the byte
+ *   14    a text not in the bench notation: no right text begins with the    the byte
+ *         bytes up to this one, or it is byte 32,768, or the text ends early
+ *         (the length)
+ *   15    a name used and defined nowhere, or defined a second time          its first byte
+ *   16    a gate that can't be placed: it depends on itself, or on one       the gate, from 0,
+ *         that does                                                          in the text's order
  *
- *   The compactor checks 12 and 13 before the size of the marks.
+ *   The compactor checks 12 and 13 before the size of the marks. The bench reader checks 14 to 16 first, then 1, 4 and 5 on the records that
+ *   it would write, then the size of its buffer.
  */
 #ifndef ULLIMAQSU_H
 #define ULLIMAQSU_H
@@ -129,6 +146,15 @@ uint32_t ullimaqsu_clauses(const uint8_t *circuit, size_t circuit_len,
                            const uint8_t *fault, size_t fault_len,
                            int32_t *words, size_t words_len,
                            uint8_t *answer, size_t answer_len);
+
+/* The bench reader. Refusals 14, 15, 16, then 1, 4, 5 on the records, then 10.
+   Writes the circuit of a text: the inputs in the order in which they appear, then always the earliest gate in the text whose sources are
+   placed. Under every pattern each line has the value that the text's equation for its name gives. The buffer has exactly 16,384 bytes, room
+   for the largest circuit; what follows the records stays.
+   Answer: the number of records. */
+uint32_t ullimaqsu_bench(const uint8_t *text, size_t text_len,
+                         uint8_t *circuit, size_t circuit_len,
+                         uint8_t *answer, size_t answer_len);
 
 #ifdef __cplusplus
 }

@@ -51,6 +51,14 @@ mod c {
             answer: *mut u8,
             answer_len: usize,
         ) -> u32;
+        pub fn ullimaqsu_bench(
+            text: *const u8,
+            text_len: usize,
+            circuit: *mut u8,
+            circuit_len: usize,
+            answer: *mut u8,
+            answer_len: usize,
+        ) -> u32;
     }
 }
 
@@ -115,6 +123,9 @@ pub fn enter(call: &mut Call) -> u32 {
                 answer.as_mut_ptr(),
                 answer.len(),
             )
+        },
+        Call::Bench { text, circuit, answer } => unsafe {
+            c::ullimaqsu_bench(text.as_ptr(), text.len(), circuit.as_mut_ptr(), circuit.len(), answer.as_mut_ptr(), answer.len())
         },
     }
 }

@@ -1,6 +1,6 @@
 //! Safe calls of Ullimaqsu, the proved test tools for combinational circuits and single stuck-at faults.
 //!
-//! Circuits are the bytes of their records, as `include/ullimaqsu.h` describes them. Every call takes any bytes; what is wrong with them
+//! Circuits are the bytes of their records, as `include/ullimaqsu.h` describes them; [`bench`] makes them of a text in the bench notation. Every call takes any bytes; what is wrong with them
 //! comes back as a [`Refusal`]. [`raw`] has the same entries with nothing interpreted.
 //!
 //! On x86-64 the archive is linked. Elsewhere each thread that calls starts the bridge, an x86-64 program under the kit's emulator:
@@ -147,4 +147,24 @@ pub fn clauses(circuit: &[u8], fault: &[u8], words: &mut [i32]) -> Result<Clause
     let returned = enter(Call::Clauses { circuit, fault, words, answer: &mut area });
     let [words, clauses, variables, _] = answered(returned, area)?;
     Ok(Clauses { words, clauses, variables })
+}
+
+/// The size of the buffer that [`bench`] is lent: room for the largest circuit.
+pub const LARGEST_CIRCUIT: usize = 16_384;
+
+/// The bench reader: writes the circuit of a text in the bench notation, the inputs as they appear and then always the earliest gate in the
+/// text whose sources are placed, and gives the number of its records. What follows them in the buffer stays. A refusal writes nothing.
+///
+/// ```
+/// use ullimaqsu::{bench, LARGEST_CIRCUIT};
+/// let mut circuit = [9; LARGEST_CIRCUIT];
+/// assert_eq!(bench(b"OUTPUT(y)\ny = NOT(a)\nINPUT(a)", &mut circuit), Ok(2));
+/// assert_eq!(circuit[..18], [0, 0, 0, 0, 0, 0, 0, 0, 2, 1, 0, 0, 0, 0, 0, 0, 9, 9]);
+/// let refusal = bench(b"OUTPUT(y)\ny = NOT(b)\nINPUT(a)", &mut circuit).unwrap_err();
+/// assert_eq!(refusal.to_string(), "refusal 15: a name is defined nowhere, or a second time (byte 18)");
+/// ```
+pub fn bench(text: &[u8], circuit: &mut [u8]) -> Result<u64, Refusal> {
+    let mut area = [0; 32];
+    let returned = enter(Call::Bench { text, circuit, answer: &mut area });
+    answered(returned, area).map(|[records, ..]| records)
 }

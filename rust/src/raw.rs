@@ -13,6 +13,7 @@ pub enum Call<'a> {
     Compact { fault_count: u64, pattern_count: u64, table: &'a [u8], marks: &'a mut [u8], answer: &'a mut [u8] },
     Search { circuit: &'a [u8], fault: &'a [u8], budget: u64, test: &'a mut [u8], work: &'a mut [u8], answer: &'a mut [u8] },
     Clauses { circuit: &'a [u8], fault: &'a [u8], words: &'a mut [i32], answer: &'a mut [u8] },
+    Bench { text: &'a [u8], circuit: &'a mut [u8], answer: &'a mut [u8] },
 }
 
 /// Calls the entry, and gives what it returns: 0, or the number of the refusal.

@@ -25,6 +25,9 @@ impl Refusal {
             11 => ("the clauses do not fit the lent words", Some("words needed:")),
             12 => ("a count of faults or patterns is outside 1 to 256, or the table is not of their product", None),
             13 => ("a table byte is above 2", Some("byte")),
+            14 => ("the text goes on or ends as no text in the bench notation does", Some("byte")),
+            15 => ("a name is defined nowhere, or a second time", Some("byte")),
+            16 => ("a gate depends on itself, or on one that does", Some("gate")),
             _ => ("unknown", Some("place")),
         }
     }

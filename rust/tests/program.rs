@@ -1,50 +1,35 @@
 //! The built dictionary program against the second program, in directories of every kind, and on the examples.
+#[path = "harness/directory.rs"]
+mod directory;
+#[path = "harness/x86.rs"]
+mod x86;
+
 use cases::circuits::{circuit, record, small, BUFFER};
 use cases::faults::{patterns, some};
 use cases::{damage, drawn, Random, Tally};
+use directory::{root, Directory};
 use second::Files;
-use std::path::{Path, PathBuf};
-use std::process::Command;
+use std::path::Path;
 use std::time::Instant;
-use std::{env, fs, process, thread};
-
-fn root() -> PathBuf {
-    Path::new(env!("CARGO_MANIFEST_DIR")).join("..").canonicalize().expect("the repository")
-}
+use std::{fs, thread};
+use x86::program;
 
 /// What the program prints in a directory.
 fn printed(directory: &Path) -> String {
-    let root = root();
-    let command = Command::new("sh")
-        .arg(root.join(".ci/x86"))
-        .arg(root.join("target/bin/dictionary_program"))
-        .current_dir(directory)
-        .output()
-        .expect("sh runs");
+    let command = program("target/bin/dictionary_program").current_dir(directory).output().expect("sh runs");
     assert!(command.status.success() && command.stderr.is_empty(), "{command:?}");
     String::from_utf8(command.stdout).expect("text")
 }
 
-/// A directory of its own, which is removed at the end.
-struct Directory(PathBuf);
-
-impl Directory {
-    fn new(name: &str, files: &Files) -> Directory {
-        let path = env::temp_dir().join(format!("ullimaqsu-{}-{name}", process::id()));
-        fs::create_dir_all(&path).expect("a directory");
-        for (name, file) in [("circuit.rec", &files.circuit), ("faults.rec", &files.faults), ("patterns.rec", &files.patterns)] {
-            if let Some(bytes) = file {
-                fs::write(path.join(name), bytes).expect("a file");
-            }
+/// A directory of these files.
+fn directory_of(name: &str, files: &Files) -> Directory {
+    let directory = Directory::new(name);
+    for (name, file) in [("circuit.rec", &files.circuit), ("faults.rec", &files.faults), ("patterns.rec", &files.patterns)] {
+        if let Some(bytes) = file {
+            directory.write(name, bytes);
         }
-        Directory(path)
     }
-}
-
-impl Drop for Directory {
-    fn drop(&mut self) {
-        let _ = fs::remove_dir_all(&self.0);
-    }
+    directory
 }
 
 fn files(random: &mut Random, circuit: Vec<u8>, fault_count: usize, pattern_count: usize) -> Files {
@@ -109,7 +94,7 @@ fn compare(name: &str, cases: Vec<Files>) -> Tally {
     let began = Instant::now();
     let share = cases.len().div_ceil(thread::available_parallelism().map_or(1, |count| count.get()));
     let one = |(number, files): (usize, &Files)| {
-        let directory = Directory::new(&format!("{name}-{number}"), files);
+        let directory = directory_of(&format!("{name}-{number}"), files);
         let (said, right) = (printed(&directory.0), second::program(files));
         assert_eq!(said, right, "{name}, {files:?}");
         match right.strip_prefix("refused ") {

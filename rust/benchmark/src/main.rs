@@ -7,7 +7,7 @@ mod baseline;
 mod timing;
 
 use cases::circuits::{circuit, record, AND, INPUT, NOT, XOR};
-use cases::Random;
+use cases::{texts, Random};
 use timing::{race, Row};
 use ullimaqsu::raw::{enter, Call};
 
@@ -128,9 +128,41 @@ fn clauses() -> Row {
     row
 }
 
+/// The bench reader on a text.
+fn bench(name: &'static str, text: &[u8]) -> Row {
+    let mut proved = (vec![0; 16_384], [0; 32]);
+    let mut plain = proved.clone();
+    let row = race(
+        name,
+        || enter(Call::Bench { text, circuit: &mut proved.0, answer: &mut proved.1 }),
+        || baseline::bench::enter(text, &mut plain.0, &mut plain.1),
+    );
+    assert_eq!(proved, plain);
+    row
+}
+
+/// As many bytes, lines and statements as a text may have and be read, in any order.
+fn bench_largest() -> Row {
+    bench("bench: 32,768 bytes, 2,048 lines", &texts::largest(&mut Random::new(6), 2048, 64))
+}
+
+/// Every gate stands before its source, so that the last one is placed first.
+fn bench_backwards() -> Row {
+    bench("bench: a chain of 2,048 lines, backwards", &texts::chain(2048, true))
+}
+
+/// Every gate in the first half reads one in the second, so that the cursor goes back and forth.
+fn bench_crossed() -> Row {
+    bench("bench: 1,023 pairs of gates, half a text apart", &texts::crossed(1023))
+}
+
+fn bench_c17() -> Row {
+    bench("bench: c17", include_bytes!("../../../examples/bench/c17.bench"))
+}
+
 fn main() {
     timing::machine();
-    for part in [check, dictionary, compact, compact_naively, search, clauses] {
+    for part in [check, dictionary, compact, compact_naively, search, clauses, bench_largest, bench_backwards, bench_crossed, bench_c17] {
         part().print();
     }
 }

@@ -1,5 +1,6 @@
 //! Ways to spoil what is accepted. One damage may hide another, or do nothing: the second program says what is then right.
 use crate::circuits::{record, sources, BUFFER, INPUT};
+use crate::texts::BYTES;
 use crate::Random;
 
 /// Cuts, lengthens or empties a file.
@@ -87,6 +88,25 @@ pub fn patterns(random: &mut Random, bytes: &mut Vec<u8>) {
             let at = random.below(bytes.len());
             bytes[at] = random.pick(&[3, 4, 128, 255]);
         }
+    }
+}
+
+/// Does one damage to a text: a byte is changed, taken out, put in or exchanged with the next; a piece is doubled; the end is cut off.
+pub fn text(random: &mut Random, bytes: &mut Vec<u8>) {
+    let Some(last) = bytes.len().checked_sub(1) else { return };
+    let at = random.below(last + 1);
+    let byte = if random.once_in(8) { random.byte() } else { random.pick(BYTES) };
+    match random.below(8) {
+        0 => drop(bytes.remove(at)),
+        1 => bytes.insert(at, byte),
+        2 => bytes.swap(at, last.min(at + 1)),
+        3 => bytes.truncate(at),
+        4 => {
+            let to = at + random.below(20.min(last + 1 - at));
+            let piece = bytes[at..=to].to_vec();
+            bytes.splice(at..at, piece);
+        }
+        _ => bytes[at] = byte,
     }
 }
 

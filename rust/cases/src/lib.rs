@@ -1,5 +1,5 @@
-//! What the tests draw their cases from: random numbers, circuits of every kind, damage, lent memory between guards, and counts of what
-//! was seen. Everything is bytes: nothing here knows the library or the second program.
+//! What the tests draw their cases from: random numbers, circuits and texts of every kind, damage, lent memory between guards, and counts
+//! of what was seen. Everything is bytes: nothing here knows the library or the second program.
 
 pub mod circuits;
 pub mod damage;
@@ -8,6 +8,7 @@ mod lent;
 mod random;
 pub mod tables;
 mod tally;
+pub mod texts;
 
 pub use lent::Lent;
 pub use random::{drawn, Random};

@@ -1,18 +1,18 @@
 //! Circuits, and the check.
 use crate::refusal::{ensure, records, refusal, Refusal};
 
-/// What makes a line's value, with the lines that it reads.
+/// What makes a line's value, with what its pins read: lines, where nothing else is said.
 #[derive(Clone, Copy, Debug, PartialEq, Eq)]
-pub enum Gate {
+pub enum Gate<S = usize> {
     Input,
-    Buffer(usize),
-    Not(usize),
-    And(usize, usize),
-    Nand(usize, usize),
-    Or(usize, usize),
-    Nor(usize, usize),
-    Xor(usize, usize),
-    Xnor(usize, usize),
+    Buffer(S),
+    Not(S),
+    And(S, S),
+    Nand(S, S),
+    Or(S, S),
+    Nor(S, S),
+    Xor(S, S),
+    Xnor(S, S),
 }
 
 #[derive(Clone, Copy, Debug, PartialEq, Eq)]
@@ -58,13 +58,45 @@ impl Gate {
             _ => None,
         }
     }
+}
 
-    /// The lines that its pins read, in order.
-    pub fn sources(self) -> Vec<usize> {
+impl<S> Gate<S> {
+    /// What its pins read, in order.
+    pub fn sources(self) -> Vec<S> {
         match self {
             Gate::Input => vec![],
             Gate::Buffer(a) | Gate::Not(a) => vec![a],
             Gate::And(a, b) | Gate::Nand(a, b) | Gate::Or(a, b) | Gate::Nor(a, b) | Gate::Xor(a, b) | Gate::Xnor(a, b) => vec![a, b],
+        }
+    }
+
+    /// The same gate over something else at each pin, made of the pin's number, 1 or 2, and what it read.
+    pub fn over<T>(self, mut pin: impl FnMut(usize, S) -> T) -> Gate<T> {
+        match self {
+            Gate::Input => Gate::Input,
+            Gate::Buffer(a) => Gate::Buffer(pin(1, a)),
+            Gate::Not(a) => Gate::Not(pin(1, a)),
+            Gate::And(a, b) => Gate::And(pin(1, a), pin(2, b)),
+            Gate::Nand(a, b) => Gate::Nand(pin(1, a), pin(2, b)),
+            Gate::Or(a, b) => Gate::Or(pin(1, a), pin(2, b)),
+            Gate::Nor(a, b) => Gate::Nor(pin(1, a), pin(2, b)),
+            Gate::Xor(a, b) => Gate::Xor(pin(1, a), pin(2, b)),
+            Gate::Xnor(a, b) => Gate::Xnor(pin(1, a), pin(2, b)),
+        }
+    }
+
+    /// The number of its kind.
+    fn kind(&self) -> u8 {
+        match self {
+            Gate::Input => 0,
+            Gate::Buffer(_) => 1,
+            Gate::Not(_) => 2,
+            Gate::And(..) => 3,
+            Gate::Nand(..) => 4,
+            Gate::Or(..) => 5,
+            Gate::Nor(..) => 6,
+            Gate::Xor(..) => 7,
+            Gate::Xnor(..) => 8,
         }
     }
 }
@@ -76,6 +108,15 @@ impl Line {
         let source = |bytes| usize::from(u16::from_le_bytes(bytes));
         let gate = Gate::read(number, kind, (source([a0, a1]), source([b0, b1])))?;
         Some(Line { gate, output: output == 1 })
+    }
+
+    /// Its record.
+    fn write(&self) -> [u8; 8] {
+        let mut record = [self.gate.kind(), u8::from(self.output), 0, 0, 0, 0, 0, 0];
+        for (pin, source) in self.gate.sources().into_iter().enumerate() {
+            record[2 * pin + 2..2 * pin + 4].copy_from_slice(&(source as u16).to_le_bytes());
+        }
+        record
     }
 }
 
@@ -93,6 +134,11 @@ impl Circuit {
         ensure(inputs <= 64, 4)?;
         ensure(outputs > 0, 5)?;
         Ok(circuit)
+    }
+
+    /// Its records.
+    pub fn write(&self) -> Vec<u8> {
+        self.lines.iter().flat_map(Line::write).collect()
     }
 
     pub fn counts(&self) -> Counts {

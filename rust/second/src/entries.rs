@@ -56,3 +56,11 @@ pub fn clauses(circuit: &[u8], fault: &[u8], words: &[i32], answer: &[u8]) -> Se
     });
     seen(answer, &[words], written)
 }
+
+pub fn bench(text: &[u8], circuit: &[u8], answer: &[u8]) -> Seen {
+    let read = crate::bench(text, circuit.len()).map(|records| {
+        let rest = &circuit[records.len()..];
+        (vec![records.len() as u64 / 8], vec![[&records[..], rest].concat()])
+    });
+    seen(answer, &[circuit], read)
+}

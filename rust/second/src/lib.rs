@@ -1,8 +1,10 @@
-//! The second program: document 01 done once more, from its words alone, to be compared with the library byte by byte.
+//! The second program: document 01 and the requests of document 02 done once more, from their words alone, to be compared with the library
+//! byte by byte.
 //!
 //! It goes its own way. Records are read into values that cannot be wrong, so that what is refused is what cannot be read; nothing is
 //! lent and nothing is written over; definitions are run as they stand. It depends on nothing and is in no hurry.
 
+pub mod bench;
 pub mod circuit;
 pub mod clauses;
 pub mod compact;
@@ -15,6 +17,7 @@ pub mod refusal;
 pub mod search;
 pub mod values;
 
+pub use bench::bench;
 pub use circuit::{check, Circuit, Counts};
 pub use clauses::{clauses, Written};
 pub use compact::compact;

@@ -44,6 +44,23 @@ pub fn byte(value: &Value) -> u8 {
     value.map_or(2, u8::from)
 }
 
+impl Gate<Value> {
+    /// The value that a gate makes of those at its pins. An input makes none.
+    pub fn value(self) -> Value {
+        match self {
+            Gate::Input => None,
+            Gate::Buffer(a) => a,
+            Gate::Not(a) => not(a),
+            Gate::And(a, b) => and(a, b),
+            Gate::Nand(a, b) => not(and(a, b)),
+            Gate::Or(a, b) => or(a, b),
+            Gate::Nor(a, b) => not(or(a, b)),
+            Gate::Xor(a, b) => xor(a, b),
+            Gate::Xnor(a, b) => not(xor(a, b)),
+        }
+    }
+}
+
 impl Circuit {
     /// The values of all lines under a pattern, with or without a fault.
     pub fn values(&self, pattern: &[Value], fault: Option<Fault>) -> Vec<Value> {
@@ -54,14 +71,7 @@ impl Circuit {
             let seen = |pin, source: usize| stuck(Site::Pin(pin)).unwrap_or(values[source]);
             let value = match line.gate {
                 Gate::Input => pattern.next().expect("a value for each input"),
-                Gate::Buffer(a) => seen(1, a),
-                Gate::Not(a) => not(seen(1, a)),
-                Gate::And(a, b) => and(seen(1, a), seen(2, b)),
-                Gate::Nand(a, b) => not(and(seen(1, a), seen(2, b))),
-                Gate::Or(a, b) => or(seen(1, a), seen(2, b)),
-                Gate::Nor(a, b) => not(or(seen(1, a), seen(2, b))),
-                Gate::Xor(a, b) => xor(seen(1, a), seen(2, b)),
-                Gate::Xnor(a, b) => not(xor(seen(1, a), seen(2, b))),
+                gate => gate.over(seen).value(),
             };
             values.push(stuck(Site::Line).unwrap_or(value));
         }

@@ -26,6 +26,7 @@ fn parameters<'a>(call: &'a mut Call) -> (u64, Vec<Parameter<'a>>) {
             (3, vec![Read(circuit), Read(fault), Number(*budget), Lent(test), Lent(work), Lent(answer)])
         }
         Call::Clauses { circuit, fault, words, answer } => (4, vec![Read(circuit), Read(fault), Words(words), Lent(answer)]),
+        Call::Bench { text, circuit, answer } => (5, vec![Read(text), Lent(circuit), Lent(answer)]),
     }
 }
 

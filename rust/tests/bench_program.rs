@@ -1,0 +1,260 @@
+//! `./ullimaqsu bench` on files: what it writes and says is the second program's, and its words about a refusal agree with the place, with
+//! the grammar and with the text.
+#[path = "harness/directory.rs"]
+mod directory;
+#[path = "harness/x86.rs"]
+mod x86;
+
+use cases::{drawn, texts, Random, Tally};
+use directory::{root, Directory};
+use second::bench::{parse, Text};
+use second::Refusal;
+use std::path::Path;
+use std::process::Command;
+use std::{fs, thread};
+use x86::program;
+
+/// The names of the files in a directory, in order.
+fn names(directory: &Directory) -> Vec<String> {
+    let entries = fs::read_dir(&directory.0).expect("a directory");
+    let mut names: Vec<_> = entries.map(|entry| entry.expect("an entry").file_name().into_string().expect("text")).collect();
+    names.sort();
+    names
+}
+
+fn text(bytes: &[u8]) -> String {
+    String::from_utf8(bytes.to_vec()).expect("text")
+}
+
+/// Line and column of a byte, from 1, and the byte, as they are printed.
+fn place(text: &[u8], byte: usize) -> String {
+    let before = &text[..byte];
+    let line = 1 + before.iter().filter(|&&byte| byte == b'\n').count();
+    let column = 1 + before.iter().rev().take_while(|&&byte| byte != b'\n').count();
+    format!("line {line}, column {column} (byte {byte}): ")
+}
+
+/// The bytes with which each thing begins that the words say must follow.
+fn beginnings(text: &[u8], said: &str) -> Vec<u8> {
+    let word = text.iter().rev().take_while(|byte| byte.is_ascii_alphanumeric() || **byte == b'_').count();
+    let rest = said.strip_prefix("the rest of ");
+    let listed = rest.unwrap_or(said).trim_end_matches(", in capitals").replace(" or ", ", ");
+    let of = |item: &str| match item {
+        "a name" => (0..=255u8).filter(|byte| byte.is_ascii_alphanumeric() || *byte == b'_').collect(),
+        "the end of the line" => vec![b'\n'],
+        sign if sign.starts_with('`') => vec![sign.as_bytes()[1]],
+        keyword => vec![keyword.as_bytes()[if rest.is_some() { word } else { 0 }]],
+    };
+    listed.split(", ").flat_map(of).collect()
+}
+
+/// Refusal 14: at the place nothing goes on but what the words list, a blank, or more of a word of fewer than 16 letters.
+fn check_syntax(text: &[u8], place: usize, words: &str) {
+    if place == texts::MOST && text.len() > texts::MOST {
+        return assert_eq!(words, "a text has at most 32,768 bytes, and this one goes on");
+    }
+    let before = &text[..place];
+    let goes_on = |byte: u8| parse(&[before, &[byte]].concat()).map_or_else(|stuck| stuck > place, |_| true);
+    let bytes: Vec<u8> = (0..=255).filter(|&byte| goes_on(byte)).collect();
+    let (listed, found) = match words.split_once(" there must be ") {
+        None => {
+            let name = words
+                .strip_prefix('`')
+                .and_then(|words| words.strip_suffix("` has 16 letters, digits or underscores, and a name has no more"));
+            assert!(name.is_some_and(|name| name.len() == 16 && before.ends_with(name.as_bytes())), "{words}");
+            assert!(text[place].is_ascii_alphanumeric() || text[place] == b'_');
+            return;
+        }
+        Some((_, rest)) => rest.split_once(", and here ").expect("what is there"),
+    };
+    let listed = beginnings(before, listed);
+    let in_a_word = before.last().is_some_and(|byte| byte.is_ascii_alphanumeric() || *byte == b'_');
+    let blank_or_more = |byte: u8| b" \t\r".contains(&byte) || in_a_word && (byte.is_ascii_alphanumeric() || byte == b'_');
+    assert!(listed.iter().all(|byte| bytes.contains(byte)), "{words}: {text:?}");
+    assert!(bytes.iter().all(|&byte| listed.contains(&byte) || blank_or_more(byte)), "{words}: {text:?}");
+    let found = found.split("; only ").next().expect("a beginning");
+    match text.get(place) {
+        None => assert_eq!(found, "the text ends"),
+        Some(b'\n') => assert_eq!(found, "the line ends"),
+        Some(b' ' | b'\t' | b'\r') => assert_eq!(found, "is a blank"),
+        Some(byte) if byte.is_ascii_graphic() => assert!(found.starts_with(&format!("is `{}`", char::from(*byte))), "{words}"),
+        Some(byte) => assert_eq!(found, format!("is byte {byte}")),
+    }
+}
+
+/// Refusal 15: the name, and whether it is used or defined there.
+fn check_name(text: &[u8], place: usize, words: &str) {
+    let name: String =
+        text[place..].iter().map(|&byte| char::from(byte)).take_while(|letter| letter.is_ascii_alphanumeric() || *letter == '_').collect();
+    let read = Text::read(text).expect("right in syntax");
+    let gates = read.equations.iter().map(|(word, _)| word);
+    let first = read.inputs.iter().chain(gates).filter(|word| word.name == name.as_bytes()).map(|word| word.at).min();
+    let expected = match first {
+        None => format!("`{name}` is used here and defined nowhere"),
+        Some(first) => {
+            let line = 1 + text[..first].iter().filter(|&&byte| byte == b'\n').count();
+            format!("`{name}` is defined here a second time, after line {line}")
+        }
+    };
+    assert_eq!(words, expected);
+}
+
+/// Refusal 16: the gate, and a loop that is one, through it if there is one.
+fn check_cycle(text: &[u8], gate: usize, words: &str) {
+    let read = Text::read(text).expect("right in syntax");
+    let sources = |name: &[u8]| {
+        let equation = read.equations.iter().find(|(word, _)| word.name == name);
+        equation.map_or(vec![], |(_, gate)| gate.sources().iter().map(|word| word.name).collect())
+    };
+    let name = read.equations[gate].0.name;
+    let (mut depends_on, mut waiting) = (vec![], vec![name]);
+    while let Some(next) = waiting.pop() {
+        let new: Vec<&[u8]> = sources(next).into_iter().filter(|source| !depends_on.contains(source)).collect();
+        waiting.extend(&new);
+        depends_on.extend(new);
+    }
+    let rest = words.strip_prefix(&format!("gate {gate}, `{}`, can't be placed: it ", String::from_utf8_lossy(name))).expect("the gate");
+    let (before, round) = rest.split_once("depends on itself: ").expect("a loop");
+    let names: Vec<&[u8]> = round.split('`').skip(1).step_by(2).map(str::as_bytes).collect();
+    let told = if round.contains(", and so on, ") { names.len() - 1 } else { names.len() };
+    assert!(names[..told].windows(2).all(|pair| sources(pair[0]).contains(&pair[1])), "{words}");
+    assert_eq!(names[0], names[names.len() - 1], "{words}");
+    let itself = depends_on.contains(&name);
+    assert_eq!((before.is_empty(), names[0] == name), (itself, itself), "{words}");
+    assert!(itself || depends_on.contains(&names[0]), "{words}");
+}
+
+/// Runs the reader on a text where records stand already, and holds all that it does to the second program. The number of the refusal.
+fn check(directory: &Directory, bytes: &[u8]) -> u32 {
+    let (file, records) = (directory.write("text.bench", bytes), directory.write("old.rec", b"records of old"));
+    let output = program("build/bench").args([&file, &records]).output().expect("sh runs");
+    assert!(output.stderr.is_empty(), "{output:?}");
+    let said = text(&output.stdout);
+    let written = fs::read(&records).expect("records");
+    assert_eq!(names(directory), ["old.rec", "text.bench"]);
+    match second::bench(bytes, 16_384) {
+        Ok(right) => {
+            let counts = second::check(&right).expect("sound");
+            assert_eq!(said, format!("lines {}, inputs {}, outputs {}\n", counts.lines, counts.inputs, counts.outputs));
+            assert_eq!((output.status.code(), written), (Some(0), right));
+            0
+        }
+        Err(Refusal { number, place: at }) => {
+            let (first, words) = said.strip_suffix('\n').and_then(|said| said.split_once('\n')).expect("two lines");
+            assert_eq!(first, format!("refused {number} {at}"));
+            assert_eq!((output.status.code(), &written[..]), (Some(1), &b"records of old"[..]));
+            let byte = match number {
+                14 | 15 => Some(at),
+                16 => Some(Text::read(bytes).expect("right in syntax").equations[at].0.at),
+                _ => None,
+            };
+            let words = match byte {
+                Some(byte) => words.strip_prefix(&place(bytes, byte)).unwrap_or_else(|| panic!("{words}: {bytes:?}")),
+                None => words,
+            };
+            match number {
+                14 => check_syntax(bytes, at, words),
+                15 => check_name(bytes, at, words),
+                16 => check_cycle(bytes, at, words),
+                _ => assert!(words.starts_with("the text has "), "{words}"),
+            }
+            number
+        }
+    }
+}
+
+fn check_all(name: &str, texts: Vec<Vec<u8>>) -> Vec<u32> {
+    let share = texts.len().div_ceil(thread::available_parallelism().map_or(1, |count| count.get()));
+    let mut tally = Tally::default();
+    let numbers: Vec<u32> = thread::scope(|scope| {
+        let part = |(number, part): (usize, &'_ [Vec<u8>])| {
+            let directory = Directory::new(&format!("{name}-{number}"));
+            part.iter().map(|text| check(&directory, text)).collect::<Vec<u32>>()
+        };
+        let threads: Vec<_> = texts.chunks(share).enumerate().map(|some| scope.spawn(move || part(some))).collect();
+        threads.into_iter().flat_map(|thread| thread.join().expect("no difference")).collect()
+    });
+    numbers.into_iter().for_each(|number| tally.count(number));
+    println!("bench program, {name}: {tally}");
+    tally.seen()
+}
+
+#[test]
+fn drawn_files() {
+    assert_eq!(check_all("sound", drawn(1, 30, texts::small).collect()), [0]);
+    assert_eq!(check_all("damaged", drawn(2, 200, texts::damaged).chain(drawn(3, 60, texts::soup)).collect()), [0, 1, 5, 14, 15]);
+    assert_eq!(check_all("other-names", drawn(4, 100, texts::misnamed).chain(drawn(5, 50, texts::cyclic)).collect()), [0, 5, 15, 16]);
+}
+
+/// A statement of each form cut off at every byte, and with a byte of every sort there.
+#[test]
+fn every_beginning() {
+    let statements =
+        ["INPUT ( a ) ", "OUTPUT(abcdefghijklmnop)#", " y = NAND ( a , b )", "x=NOT(a)", "BUFF\t=\tBUFF(OUTPUT)", "z=XNOR(a,b)\n"];
+    let cut = statements.iter().flat_map(|statement| (0..=statement.len()).map(|len| &statement.as_bytes()[..len]));
+    let sorts: [&[u8]; 10] = [b"", b"(", b")", b",", b"=", b"#", b"\n", b"Q", b" Q", b"\x80"];
+    let random = &mut Random::new(8);
+    let some = |cut: &[u8]| [sorts[0], random.pick(&sorts), random.pick(&sorts)].map(|sort| [cut, sort].concat());
+    check_all("beginnings", cut.flat_map(some).collect());
+}
+
+#[test]
+fn sizes() {
+    let random = &mut Random::new(6);
+    let chains = [texts::chain(2048, true), texts::chain(2049, false)];
+    let full = texts::largest(random, 2048, 64);
+    let sizes =
+        [full[..full.len() - 1].to_vec(), [&full[..], b"#"].concat(), texts::largest(random, 2048, 65), texts::ring(random, 400), full];
+    let near = drawn(7, 20, texts::near_the_end);
+    let others = [vec![], b"#".repeat(100_000)];
+    assert_eq!(check_all("sizes", chains.into_iter().chain(sizes).chain(near).chain(others).collect()), [0, 1, 4, 14, 16]);
+}
+
+#[test]
+fn examples() {
+    let files = fs::read_dir(root().join("examples/bench")).expect("examples").map(|entry| entry.expect("an entry").path());
+    let texts: Vec<_> =
+        files.filter(|path| path.extension().is_some_and(|end| end == "bench")).map(|path| fs::read(path).expect("a text")).collect();
+    assert_eq!(texts.len(), 5);
+    assert_eq!(check_all("examples", texts), [0]);
+}
+
+/// The command itself.
+fn command(arguments: &[&Path]) -> (Option<i32>, String, String) {
+    let output = Command::new(root().join("ullimaqsu")).arg("bench").args(arguments).output().expect("sh runs");
+    (output.status.code(), text(&output.stdout), text(&output.stderr))
+}
+
+#[test]
+fn commands() {
+    let directory = Directory::new("a command");
+    let c17 = fs::read(root().join("examples/bench/c17.bench")).expect("c17");
+    let records = fs::read(root().join("examples/c17/circuit.rec")).expect("c17");
+    let file = directory.write("c 17.bench", &c17);
+    let counts = "lines 11, inputs 5, outputs 2\n".to_string();
+
+    // beside the file, over what stands there
+    directory.write("circuit.rec", b"records of old");
+    assert_eq!(command(&[&file]), (Some(0), counts.clone(), String::new()));
+    assert_eq!(fs::read(directory.0.join("circuit.rec")).expect("records"), records);
+    // or elsewhere
+    assert_eq!(command(&[&file, &directory.0.join("other")]), (Some(0), counts, String::new()));
+    assert_eq!(fs::read(directory.0.join("other")).expect("records"), records);
+
+    // a refusal loses nothing
+    let wrong = directory.write("wrong.bench", b"INPUT(a)\noutput(a)\n");
+    let words = "line 2, column 7 (byte 15): after `output` there must be `=`, and here is `(`; only INPUT and OUTPUT, in capitals, are followed by `(`";
+    assert_eq!(command(&[&wrong]), (Some(1), "refused 14 15\n".to_string(), format!("ullimaqsu: {}: {words}\n", wrong.display())));
+    assert_eq!(fs::read(directory.0.join("circuit.rec")).expect("records"), records);
+    assert_eq!(command(&[&wrong, &directory.0.join("none")]).0, Some(1));
+
+    // nothing is run: no file, a directory, no directory to write to, the text itself as the place for the records, too many words
+    let (absent, nowhere) = (directory.0.join("absent"), directory.0.join("absent/circuit.rec"));
+    let several: [&[&Path]; 6] = [&[], &[&absent], &[&directory.0], &[&file, &nowhere], &[&file, &file], &[&file, &absent, &absent]];
+    for arguments in several {
+        let (status, printed, said) = command(arguments);
+        assert_eq!((status, printed.as_str(), said.lines().count()), (Some(2), "", 1), "{arguments:?}: {said}");
+    }
+    assert_eq!(fs::read(&file).expect("the text"), c17);
+    assert_eq!(names(&directory), ["c 17.bench", "circuit.rec", "other", "wrong.bench"]);
+}
