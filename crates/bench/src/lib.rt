@@ -1,11 +1,9 @@
 // The reader of the bench notation: circuit records of a text. Each step makes one table and lends it to the next.
+mod net;
+
 use answers::Ruling;
-use bytes::copy;
-use circuit::Checked;
-use circuit::check;
 use names::resolve;
-use order::arrange;
-use records::put_records;
+use net::read_net;
 use statements::put_defs;
 use statements::put_forms;
 use statements::put_kinds;
@@ -18,11 +16,9 @@ ghost use Prim.Native.Nat.{_-_, _≤_};
 ghost use lib.ListN.{length};
 ghost use Rattle.words.specs.Owed.{Room};
 ghost use Rattle.statements.specs.Tables.{gatesIn};
-ghost use Rattle.records.specs.Net.{recordsOf};
-ghost use Rattle.records.specs.Owed.{netOf, Fits};
 ghost use Rattle.bench.specs.Text.{netIn};
-ghost use Rattle.bench.specs.Bench.{bufferRules, Reads};
-ghost use Rattle.bench.specs.Inside.{Answers, AnswersRecords, AnswersNet, AnswersText, Whole, Ordered, Resolved, Named, Defined, Used, Told, Lined};
+ghost use Rattle.bench.specs.Bench.{Reads};
+ghost use Rattle.bench.specs.Inside.{AnswersNet, AnswersText, Named, Defined, Used, Told, Lined};
 
 // What the reader answers.
 pub enum Read {
@@ -32,127 +28,7 @@ pub enum Read {
     Refused(u32, usize),
 }
 
-// ---- from the records to the lent buffer
-
-// Refusal 10, or the records in the buffer.
-fn lay(records: &[u8], n: usize, circuit: &mut [u8]) -> Read
-    requires { ⌜ Whole (now records) n ⌝ }
-    ensures { λ r. ⌜ Answers (bufferRules (length (now (circuit .entry)))) (now (records .entry)) (now (circuit .entry)) (now (circuit .exit)) r ⌝ }
-{
-    if circuit.len() != 16384 {
-        return Read::Refused(10, 0);
-    }
-    copy(records, circuit);
-    Read::Records(n)
-}
-
-// The circuit check on the records.
-fn hand_over(records: &[u8], circuit: &mut [u8]) -> Read
-    ensures { λ r. ⌜ AnswersRecords (now (records .entry)) (now (circuit .entry)) (now (circuit .exit)) r ⌝ }
-{
-    let v = check(records);
-    match v {
-        Checked::Refused(number, place) => Read::Refused(number, place),
-        Checked::Accepted(n, inputs, outputs) => lay(records, n, circuit),
-    }
-}
-
-// ---- from the net to its records. A step that needs memory makes it, and lends it to the function of the same name with `_in`
-
-// The records of all lines, in lent memory.
-fn read_order_in(
-    inputs: usize,
-    kinds: &[u8],
-    firsts: &[u16],
-    seconds: &[u16],
-    outs: &[u16],
-    order: &[u16],
-    records: &mut [u8],
-    circuit: &mut [u8],
-) -> Read
-    requires { ⌜ Fits (netOf inputs (now kinds) (now firsts) (now seconds) (now outs)) (now order) (now records) ⌝ }
-    ensures { λ r. ⌜ AnswersRecords (recordsOf (netOf inputs (now (kinds .entry)) (now (firsts .entry)) (now (seconds .entry)) (now (outs .entry)))) (now (circuit .entry)) (now (circuit .exit)) r ⌝ }
-{
-    put_records(inputs, kinds, firsts, seconds, outs, order, records);
-    hand_over(records, circuit)
-}
-
-// The records of gates that are all placed. More lines than a circuit may have are refused before any is written.
-fn read_order(
-    inputs: usize,
-    kinds: &[u8],
-    firsts: &[u16],
-    seconds: &[u16],
-    outs: &[u16],
-    order: &[u16],
-    circuit: &mut [u8],
-) -> Read
-    requires { ⌜ Ordered (netOf inputs (now kinds) (now firsts) (now seconds) (now outs)) (now order) ⌝ }
-    ensures { λ r. ⌜ AnswersRecords (recordsOf (netOf inputs (now (kinds .entry)) (now (firsts .entry)) (now (seconds .entry)) (now (outs .entry)))) (now (circuit .entry)) (now (circuit .exit)) r ⌝ }
-{
-    let n = inputs + firsts.len();
-    if 2048 < n {
-        return Read::Refused(1, 0);
-    }
-    let mut records = [0u8; 16384];
-    read_order_in(
-        inputs,
-        kinds,
-        firsts,
-        seconds,
-        outs,
-        order,
-        &mut records[..8 * n],
-        circuit,
-    )
-}
-
-// The order of the gates, in lent memory.
-fn read_net_in(
-    inputs: usize,
-    kinds: &[u8],
-    firsts: &[u16],
-    seconds: &[u16],
-    outs: &[u16],
-    order: &mut [u16],
-    circuit: &mut [u8],
-) -> Read
-    requires { ⌜ Resolved (netOf inputs (now kinds) (now firsts) (now seconds) (now outs)) × (length (now order) ≡ length (now firsts)) ⌝ }
-    ensures { λ r. ⌜ AnswersNet (netOf inputs (now (kinds .entry)) (now (firsts .entry)) (now (seconds .entry)) (now (outs .entry))) (now (circuit .entry)) (now (circuit .exit)) r ⌝ }
-{
-    let v = arrange(firsts, seconds, order);
-    match v {
-        Ruling::Refused(number, place) => Read::Refused(number, place),
-        Ruling::Fine => read_order(inputs, kinds, firsts, seconds, outs, order, circuit),
-    }
-}
-
-// A net whose numbers are those of gates and inputs.
-fn read_net(
-    inputs: usize,
-    kinds: &[u8],
-    firsts: &[u16],
-    seconds: &[u16],
-    outs: &[u16],
-    circuit: &mut [u8],
-) -> Read
-    requires { ⌜ Resolved (netOf inputs (now kinds) (now firsts) (now seconds) (now outs)) ⌝ }
-    ensures { λ r. ⌜ AnswersNet (netOf inputs (now (kinds .entry)) (now (firsts .entry)) (now (seconds .entry)) (now (outs .entry))) (now (circuit .entry)) (now (circuit .exit)) r ⌝ }
-{
-    let mut order = [0u16; 8192];
-    let gates = firsts.len();
-    read_net_in(
-        inputs,
-        kinds,
-        firsts,
-        seconds,
-        outs,
-        &mut order[..gates],
-        circuit,
-    )
-}
-
-// ---- from the text to its net
+// ---- from the text to its net. A step that needs memory makes it, and lends it to the function of the same name with `_in`
 
 // The kinds of the gates.
 fn read_kinds_in(

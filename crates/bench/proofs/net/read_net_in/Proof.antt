@@ -1,11 +1,11 @@
--- `bench::read_net_in` meets its contract: refusal 16, or the records in the order of the gates.
+-- `bench::net::read_net_in` meets its contract: refusal 16, or the records in the order of the gates.
 -- Assumes nothing.
 use Rattle.bench.proofs.Nets.{ordered}
 use Rattle.bench.proofs.Answer.{first-refused, first-fine}
 use mathlib.Core.Path.{sym, _∙_}
 use borrow.Author.Needs.{needs}
-use Rattle.bench.proofs.read_net_in.Statement.{statement}
-use Rattle.bench.proofs.read_net_in.Tie as tie
+use Rattle.bench.proofs.net.read_net_in.Statement.{statement}
+use Rattle.bench.proofs.net.read_net_in.Tie as tie
 
 arrange-requires : tie.Need-arrange-requires
 arrange-requires c κs = search needs

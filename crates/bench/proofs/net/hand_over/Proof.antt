@@ -1,11 +1,11 @@
--- `bench::hand_over` meets its contract: a refusal of the check is handed on, else the buffer decides.
+-- `bench::net::hand_over` meets its contract: a refusal of the check is handed on, else the buffer decides.
 -- Assumes nothing.
 use Rattle.bench.proofs.Answer.{first-refused, first-fine, whole}
 use Rattle.circuit.proofs.Accepted.{accepts, refuses}
 use mathlib.Core.Path.{sym, _∙_}
 use borrow.Author.Needs.{needs}
-use Rattle.bench.proofs.hand_over.Statement.{statement}
-use Rattle.bench.proofs.hand_over.Tie as tie
+use Rattle.bench.proofs.net.hand_over.Statement.{statement}
+use Rattle.bench.proofs.net.hand_over.Tie as tie
 
 check-requires : tie.Need-check-requires
 check-requires c κs = search needs

@@ -1,12 +1,12 @@
--- `bench::read_net` meets its contract: room for the order of the gates is lent.
+-- `bench::net::read_net` meets its contract: room for the order of the gates is lent.
 -- Assumes nothing.
 use lib.Seq.{length-take-le}
 use lib.ListN.{length, replicate}
 use mathlib.Core.Path.{sym}
 use native.Mathlib.Omega.{arith}
 use borrow.Author.Needs.{needs}
-use Rattle.bench.proofs.read_net.Statement.{statement}
-use Rattle.bench.proofs.read_net.Tie as tie
+use Rattle.bench.proofs.net.read_net.Statement.{statement}
+use Rattle.bench.proofs.net.read_net.Tie as tie
 
 array-borrow-prefix-order : tie.Need-array-borrow-prefix-order
 array-borrow-prefix-order c = search needs

@@ -1,4 +1,4 @@
--- `bench::read_order` meets its contract: refusal 1 where there are too many lines, else room for just the records is lent.
+-- `bench::net::read_order` meets its contract: refusal 1 where there are too many lines, else room for just the records is lent.
 -- Assumes nothing.
 use Rattle.bench.proofs.Nets.{too-many, fits}
 use lib.Seq.{length-take-le}
@@ -7,8 +7,8 @@ use Prim.Native.Nat.{_+_, _*_}
 use mathlib.Core.Path.{sym}
 use native.Mathlib.Omega.{arith}
 use borrow.Author.Needs.{needs}
-use Rattle.bench.proofs.read_order.Statement.{statement}
-use Rattle.bench.proofs.read_order.Tie as tie
+use Rattle.bench.proofs.net.read_order.Statement.{statement}
+use Rattle.bench.proofs.net.read_order.Tie as tie
 
 add-n : tie.Need-add-n
 add-n c = search needs

@@ -1,8 +1,8 @@
--- `bench::read_order_in` meets its contract: the records that were written are handed over.
+-- `bench::net::read_order_in` meets its contract: the records that were written are handed over.
 -- Assumes nothing.
 use borrow.Author.Needs.{needs}
-use Rattle.bench.proofs.read_order_in.Statement.{statement}
-use Rattle.bench.proofs.read_order_in.Tie as tie
+use Rattle.bench.proofs.net.read_order_in.Statement.{statement}
+use Rattle.bench.proofs.net.read_order_in.Tie as tie
 
 put-records-requires : tie.Need-put-records-requires
 put-records-requires c κs = search needs
