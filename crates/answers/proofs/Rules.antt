@@ -91,6 +91,14 @@ refused (r ∷ rules) (s, ss) m k g = go (rule-cases r s) (refused rules ss m k)
     go (inr a) ih (inl (e, h, low)) = absurd (a .never k h)
     go (inr a) ih (inr (never, h)) = rw (a .silent) (ih h)
 
+-- so whatever gives the ruling of its rules refuses exactly when one applies, with the first that does and its lowest place
+module _ (rules : List Rule) (says : AllSay rules) {r : Ruling} (is : r ≡ refusal rules) (number place : ℕ) where
+  pub refused-applies : r ≡ Refused number place → Applies rules number place
+  refused-applies e = applies rules says number place (sym is ∙ e)
+
+  pub applies-refused : Applies rules number place → r ≡ Refused number place
+  applies-refused a = is ∙ refused rules says number place a
+
 -- nothing is refused exactly if all that is asked holds
 pub all-hold : (rules : List Rule) → AllSay rules → refusal rules ≡ Fine → AllHold rules
 unfolding refusal AllHold AllSay

@@ -51,7 +51,7 @@ module _ {F P : ℕ} {t m : List ℕ} where
   finish-fine e s = record { answer = rw (eq-eqb (length m) P e); marks = rw (eq-eqb (length m) P e) s }
 
   pub table-refused : {n k : ℕ} → refusal (tableRules F P t) ≡ Refused n k → Compacts F P t m (Refused n k) m
-  table-refused e = let q = after-refused (tableRules F P t) (marksRules P m) e in record { answer = sym q; marks = rw q }
+  table-refused e = let q = after-refused (tableRules F P t) (marksRules P m) e in record { answer = sym q; numbers = rw q; marks = rw q }
 
   pub table-kept : {r : Ruling} {m′ : List ℕ} → refusal (tableRules F P t) ≡ Fine → Finishes F P t m r m′ → Compacts F P t m r m′
-  table-kept e w = let q = after-fine (tableRules F P t) (marksRules P m) e in record { answer = rw q (w .answer); marks = rw q (w .marks) }
+  table-kept e w = let q = after-fine (tableRules F P t) (marksRules P m) e in record { answer = w .answer ∙ sym q; numbers = rw (w .answer ∙ sym q); marks = rw q (w .marks) }

@@ -1,6 +1,6 @@
 -- The compactor's refusals: tests and words agree, and what is not refused has its sizes.
 -- Assumes nothing.
-use mathlib.Core.Path.{_≡_, sym, _∙_}
+use mathlib.Core.Path.{_≡_}
 use mathlib.Core.Bool.{true}
 use mathlib.Core.List.{List}
 use Prim.Native.Nat.{ℕ, _*_, _≤_}
@@ -11,7 +11,8 @@ use Rattle.ground.proofs.Tests.{both, and-both}
 use Rattle.answers.specs.Rules.{refusal, Same, Applies, AllSay, AllHold}
 use Rattle.answers.specs.declared.Ruling.{Ruling}
 use Rattle.answers.specs.declared.Ruling.the-variants.{Fine, Refused}
-use Rattle.answers.proofs.Rules.{applies, refused, all-hold, both-say}
+use Rattle.answers.proofs.Rules as rules
+use Rattle.answers.proofs.Rules.{all-hold, both-say}
 use Rattle.answers.proofs.Same.{eq-same, small-same}
 use Rattle.compact.specs.Compact.{inRange, sizesOk, Sized, tableRules, marksRules, compactRules, Compacts}
 
@@ -54,8 +55,9 @@ module _ (F P : ℕ) (t m : List ℕ) where
   compact-says = both-say (tableRules F P t) (marksRules P m) (table-says F P t) (marks-say P m)
 
   -- a refusal is the first that applies, with the lowest place; and where one applies, it is given
-  pub refused-applies : {m′ : List ℕ} (n k : ℕ) → Compacts F P t m (Refused n k) m′ → Applies (compactRules F P t m) n k
-  refused-applies n k so = applies (compactRules F P t m) compact-says n k (sym (so .answer))
+  module _ {r : Ruling} {m′ : List ℕ} (so : Compacts F P t m r m′) (number place : ℕ) where
+    pub refused-applies : r ≡ Refused number place → Applies (compactRules F P t m) number place
+    refused-applies = rules.refused-applies (compactRules F P t m) compact-says (so .answer) number place
 
-  pub applies-refused : {r : Ruling} {m′ : List ℕ} (n k : ℕ) → Compacts F P t m r m′ → Applies (compactRules F P t m) n k → r ≡ Refused n k
-  applies-refused n k so a = so .answer ∙ refused (compactRules F P t m) compact-says n k a
+    pub applies-refused : Applies (compactRules F P t m) number place → r ≡ Refused number place
+    applies-refused = rules.applies-refused (compactRules F P t m) compact-says (so .answer) number place

@@ -9,6 +9,7 @@ use lib.ListN.{length}
 use Rattle.answers.specs.Rules.{Rule, refusal, unless}
 use Rattle.answers.specs.Rules.Rule.{whole, each}
 use Rattle.answers.specs.Small.{smallOk, Small}
+use Rattle.answers.specs.Area.{told, done}
 use Rattle.answers.specs.declared.Ruling.{Ruling}
 use Rattle.needs.specs.Needs.{tableOf, compacted}
 
@@ -37,7 +38,8 @@ marksRules P m = whole 10 (eqb (length m) P) (length m ≡ P) 0 ∷ []
 abbrev pub compactRules : ℕ → ℕ → List ℕ → List ℕ → List Rule
 compactRules F P t m = tableRules F P t ++ marksRules P m
 
--- the promise: answer r, and marks m′ where m stood before
+-- the promise, whatever the bytes, where m was lent and r and m′ come back: the answer, its number and values, and every mark
 pub record Compacts (F P : ℕ) (t m : List ℕ) (r : Ruling) (m′ : List ℕ) : Type 0 where
   pub answer : r ≡ refusal (compactRules F P t m)
+  pub numbers : told r done ≡ told (refusal (compactRules F P t m)) done
   pub marks : m′ ≡ unless (refusal (compactRules F P t m)) m (compacted (tableOf F t) F P)

@@ -6,8 +6,9 @@ use Prim.Native.Nat.{ℕ}
 use lib.ListN.{length}
 use Rattle.answers.specs.declared.Ruling.{Ruling}
 use Rattle.answers.specs.declared.Ruling.the-variants.{Fine, Refused}
-use Rattle.answers.specs.Rules.{refusal, AllSay, unless}
+use Rattle.answers.specs.Rules.{refusal, Applies, AllSay, unless}
 use Rattle.answers.specs.Area.{told, done}
+use Rattle.answers.proofs.Rules as rules
 use Rattle.answers.proofs.Rules.{applies, refused, not-fine, both-say}
 use Rattle.circuit.specs.Record.{linesOf, inputsOf}
 use Rattle.circuit.specs.Check.{circuitRules}
@@ -24,11 +25,19 @@ module _ (c fs ps t w : List ℕ) where
   dictionary-says =
       both-say (circuitRules c) _ (circuit-says c) (rest-say c (linesOf c) (inputsOf c) fs ps (length t) (length w))
 
+-- a refusal is the first that applies, with the lowest place; and where one applies, it is given
+module _ (c fs ps t w : List ℕ) {r : Ruling} {t′ w′ : List ℕ} (d : Dictionary c fs ps t w r t′ w′) (number place : ℕ) where
+  pub refused-applies : r ≡ Refused number place → Applies (dictionaryRules c fs ps t w) number place
+  refused-applies = rules.refused-applies (dictionaryRules c fs ps t w) (dictionary-says c fs ps t w) (d .answer) number place
+
+  pub applies-refused : Applies (dictionaryRules c fs ps t w) number place → r ≡ Refused number place
+  applies-refused = rules.applies-refused (dictionaryRules c fs ps t w) (dictionary-says c fs ps t w) (d .answer) number place
+
 -- the promise meets the words
 pub in-words : (c fs ps t w : List ℕ) {r : Ruling} {t′ w′ : List ℕ} → Dictionary c fs ps t w r t′ w′ → InWords c fs ps t w r t′ w′
 in-words c fs ps t w {r} {t′} {w′} d = record {
-  refused = λ m k e. applies (dictionaryRules c fs ps t w) (dictionary-says c fs ps t w) m k (sym (d .answer) ∙ e);
-  refuses = λ m k a. d .answer ∙ refused (dictionaryRules c fs ps t w) (dictionary-says c fs ps t w) m k a;
+  refused = refused-applies c fs ps t w d;
+  refuses = applies-refused c fs ps t w d;
   nothing = λ m k e. (d .table ∙ rw (sym (d .answer) ∙ e), d .work ∙ rw (sym (d .answer) ∙ e));
   made = fine;
 }

@@ -10,7 +10,8 @@ use lib.ListN.{length}
 use borrow.Author.Tests.{eqb-true, leb-true, ltb-true, eq-eqb, le-leb, lt-ltb}
 use Rattle.ground.proofs.Tests.{both, and-both}
 use Rattle.answers.specs.declared.Ruling.{Ruling}
-use Rattle.answers.specs.Rules.{refusal, Same, AllSay, AllHold}
+use Rattle.answers.specs.Rules.{refusal, Applies, Same, AllSay, AllHold}
+use Rattle.answers.proofs.Rules as rules
 use Rattle.answers.proofs.Rules.{all-hold}
 use Rattle.answers.proofs.Records.{records-same}
 use Rattle.gates.specs.Gate.{pinsOf}
@@ -50,3 +51,11 @@ module _ (most : ℕ) (c fs : List ℕ) where
   pub good-faults : refusal (faultRules most c fs) ≡ Ruling.Fine → GoodFaults most c fs
   unfolding faultRules AllHold
   good-faults e = let a = all-hold (faultRules most c fs) faults-say e in record { records = a .0; faults = a .1 .0 }
+
+-- a refusal of the check is the first that applies, with the lowest place; and where one applies, it is given
+module _ (most : ℕ) (c fs : List ℕ) {r : Ruling} (is : r ≡ refusal (faultRules most c fs)) (number place : ℕ) where
+  pub refused-applies : r ≡ Ruling.Refused number place → Applies (faultRules most c fs) number place
+  refused-applies = rules.refused-applies (faultRules most c fs) (faults-say most c fs) is number place
+
+  pub applies-refused : Applies (faultRules most c fs) number place → r ≡ Ruling.Refused number place
+  applies-refused = rules.applies-refused (faultRules most c fs) (faults-say most c fs) is number place

@@ -8,7 +8,8 @@ use native.Mathlib.Omega.{arith}
 use lib.ListN.{length, length-take, length-drop}
 use Rattle.answers.specs.Records.{Records}
 use Rattle.answers.specs.declared.Ruling.{Ruling}
-use Rattle.answers.specs.Rules.{refusal, AllSay, AllHold}
+use Rattle.answers.specs.Rules.{refusal, Applies, AllSay, AllHold}
+use Rattle.answers.proofs.Rules as rules
 use Rattle.answers.proofs.Rules.{all-hold}
 use Rattle.answers.proofs.Same.{small-same}
 use Rattle.answers.proofs.Records.{any-width}
@@ -22,6 +23,14 @@ module _ (n : ℕ) (ps : List ℕ) where
   pub good-patterns : refusal (patternRules n ps) ≡ Ruling.Fine → GoodPatterns n ps
   unfolding patternRules AllHold
   good-patterns e = let a = all-hold (patternRules n ps) patterns-say e in record { records = a .0; bytes = a .1 .0 }
+
+-- a refusal of the check is the first that applies, with the lowest place; and where one applies, it is given
+module _ (n : ℕ) (ps : List ℕ) {r : Ruling} (is : r ≡ refusal (patternRules n ps)) (number place : ℕ) where
+  pub refused-applies : r ≡ Ruling.Refused number place → Applies (patternRules n ps) number place
+  refused-applies = rules.refused-applies (patternRules n ps) (patterns-say n ps) is number place
+
+  pub applies-refused : Applies (patternRules n ps) number place → r ≡ Ruling.Refused number place
+  applies-refused = rules.applies-refused (patternRules n ps) (patterns-say n ps) is number place
 
 -- part i of count parts of a width
 pub part-fits : (i count width : ℕ) → i < count → i * width + width ≤ width * count

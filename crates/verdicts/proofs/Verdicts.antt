@@ -121,11 +121,14 @@ module _ {c f : List ℕ} {b : ℕ} {t w : List ℕ} {v : Verdict} {t′ w′ : 
   unfolding workFor
   work-of-last some h = p .work ∙ rw (fine .0) (budget.of-last (look c f) (works c f) w (start (inputsOf c)) b some h)
 
--- a larger budget never changes a verdict
-pub larger : {c f : List ℕ} {b b2 : ℕ} {t w t2 w2 : List ℕ} {v v2 : Verdict} {t′ w′ t2′ w2′ : List ℕ}
-    → b ≤ b2
-    → Searches c f b t w (searched.Verdict v) t′ w′
-    → Searches c f b2 t2 w2 (searched.Verdict v2) t2′ w2′
-    → Decided v
-    → v2 ≡ v
-larger {c} {f} {b} {b2} h p q d = is q ∙ budget.larger (look c f) (start (inputsOf c)) b b2 h (subst Decided (is p) d) ∙ sym (is p)
+-- a larger budget never changes a verdict, nor the test
+module _ {c f : List ℕ} {b b2 : ℕ} {t w t2 w2 : List ℕ} {v v2 : Verdict} {t′ w′ t2′ w2′ : List ℕ} (more : b ≤ b2)
+    (p : Searches c f b t w (searched.Verdict v) t′ w′) (q : Searches c f b2 t2 w2 (searched.Verdict v2) t2′ w2′) (d : Decided v) where
+  pub larger : v2 ≡ v
+  larger = is q ∙ budget.larger (look c f) (start (inputsOf c)) b b2 more (subst Decided (is p) d) ∙ sym (is p)
+
+  pub larger-test : (k : ℕ) → v ≡ Test k → t2′ ≡ t′
+  larger-test k e =
+      let small : t′ ≡ testOf (look c f) (start (inputsOf c)) = test-buffer p ∙ rw e in
+      let large : t2′ ≡ testOf (look c f) (start (inputsOf c)) = test-buffer q ∙ rw (larger ∙ e) in
+      large ∙ sym small
