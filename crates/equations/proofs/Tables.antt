@@ -17,13 +17,15 @@ use Rattle.ground.proofs.Counting.{count-below}
 use Rattle.ground.proofs.Lists.{collect-length}
 use Rattle.ground.proofs.Collect.{collect-get, collect-from}
 use Rattle.words.specs.Words.{wordAt, wordsOf, endsOf}
-use Rattle.statements.specs.Lines.{kindOf, wordIn}
+use Rattle.syntax.specs.Kinds.{kindOf}
+use Rattle.statements.specs.Lines.{wordIn}
 use Rattle.statements.specs.Tables.{isInput, isOutput, isGate, defines, inputsTo, gatesTo, inputsIn, gatesIn, definedAt, numberAt, defsOf, numbersOf, outsOf, firstsOf, secondsOf, kindsOf}
 use Rattle.statements.proofs.Lengths.{outs-length, firsts-length}
 use Rattle.records.specs.Net.{gatesOf, pinOf}
 use Rattle.names.specs.Names as names
 use Rattle.bench.specs.Text.{formsIn, defsIn, outsIn, firstsIn, numberIn, netIn}
-use Rattle.equations.specs.Meaning.{linesIn, wordOn, nameOn, kindOn, sourceOn}
+use Rattle.shape.specs.Shape.{wordOn}
+use Rattle.equations.specs.Meaning.{linesIn, nameOn, kindOn, sourceOn}
 use Rattle.equations.specs.Right.{Line}
 use Rattle.equations.specs.Numbers.{gateNames, inputNames, nameOf, numberOf}
 

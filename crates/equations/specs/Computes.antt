@@ -19,7 +19,8 @@ use Rattle.words.specs.Words.{same}
 use Rattle.syntax.specs.Syntax.{RightText}
 use Rattle.statements.specs.Tables.{isInput, isOutput, defines, inputsTo, inputsIn, gatesIn}
 use Rattle.bench.specs.Text.{formsIn}
-use Rattle.equations.specs.Meaning.{linesIn, wordOn, nameOn, Solves}
+use Rattle.shape.specs.Shape.{wordOn}
+use Rattle.equations.specs.Meaning.{linesIn, nameOn, Solves}
 use Rattle.equations.specs.Right.{Line, Defined, NamesRight, TextCycle}
 use Rattle.equations.specs.Numbers.{lineFor}
 
