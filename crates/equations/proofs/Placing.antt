@@ -124,6 +124,14 @@ module _ (t : List ℕ) where
   module _ (f : Formed t) (none : refusal (nameRules t (defsIn t) (usesIn t)) ≡ Fine) where
     -- ---- ready in the text is ready in the net
 
+    module _ {k : ℕ} (l : Line isGate t k) where
+      -- a gate's form is two more than its kind's pins
+      form : getD (formsIn t) k 0 ≡ 2 + pinsOf (kindOn t k)
+      form = let w = gate-sources t f k (l .passes) in w .1 ∙ w .0 .words
+
+      some-pin : 1 ≤ pinsOf (kindOn t k)
+      some-pin = omega (arith, form, leb-true 3 (getD (formsIn t) k 0) (l .passes))
+
     module _ {p : List ℕ} (g : Gates p) where
       there-to : {w : List ℕ} → There t p w → there (gatesOf (netIn t)) (numbers p) (numberOf t w) ≡ true
       unfolding there
@@ -139,31 +147,25 @@ module _ (t : List ℕ) where
               sym (elem-same p g l) ∙ simp (lt-leb (gatesOf (netIn t)) (number k) (number-inside l)) at (rw n at e)
 
       module _ {k : ℕ} where
-        -- a gate's form is two more than its kind's pins, so that with one pin the last word is the third
+        -- with one pin the last word is the third
         two-sources : Ready t p k → There t p (sourceOn t k 2)
         two-sources r = go (decLe 2 (pinsOf (kindOn t k)))
           where
-            form : getD (formsIn t) k 0 ≡ 2 + pinsOf (kindOn t k)
-            form = let w = gate-sources t f k (r .gate .passes) in w .1 ∙ w .0 .words
-
             go : Dec (2 ≤ pinsOf (kindOn t k)) → There t p (sourceOn t k 2)
             go (yes y) = r .sources 2 (omega arith) y
             go (no n) =
-                let some = leb-true 3 (getD (formsIn t) k 0) (r .gate .passes) in
-                let last : getD (formsIn t) k 0 - 1 ≡ 2 = omega (arith, form) in
-                rw last (r .sources 1 (omega arith) (omega (arith, form)))
+                let last : getD (formsIn t) k 0 - 1 ≡ 2 = omega (arith, form (r .gate), some-pin (r .gate)) in
+                rw last (r .sources 1 (omega arith) (some-pin (r .gate)))
 
         ready-to : Ready t p k → NetReady (numbers p) (number k) ≡ true
         unfolding ready pinOf
         ready-to r =
-            let form : getD (formsIn t) k 0 ≡ 2 + pinsOf (kindOn t k) = let w = gate-sources t f k (r .gate .passes) in w .1 ∙ w .0 .words in
-            let some = leb-true 3 (getD (formsIn t) k 0) (r .gate .passes) in
             rw (
               elem-same p g (r .gate),
               r .waits,
               pin-get (r .gate) 1,
               pin-get (r .gate) 2,
-              there-to (r .sources 1 (omega arith) (omega arith)),
+              there-to (r .sources 1 (omega arith) (some-pin (r .gate))),
               there-to (two-sources r),
             )
 

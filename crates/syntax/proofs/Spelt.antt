@@ -70,7 +70,8 @@ has-back (alt r s) a w h =
 has-back (star r) a w h = many-back r (has-back r a) h
 
 bench-spelt : spelt bench ≡ true
-unfolding spelt allSpelt back byteOf has signs within wordByte placeIn symbol letters keys inputWord outputWord kinds kindWords wordSymbol upTo blanks name mark close oneArgument twoArguments gate statement comment line bench
+unfolding spelt allSpelt back byteOf has
+    signs within wordByte placeIn symbol letters keys inputWord outputWord kinds kindWords wordSymbol upTo blanks name mark close oneArgument twoArguments gate statement comment line bench
 bench-spelt = refl
 
 later : (a w : List ℕ) → map back (a ++ w) ≡ a ++ w → map back w ≡ w

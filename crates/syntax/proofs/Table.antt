@@ -89,7 +89,8 @@ agree n s t h k l = one-same (s k) (t k) (eqb→eq (one (s k)) (one (t k)) (at-b
 
 -- a state goes on unless it is 0, and a text may end in 1, 2 and 3
 tests : (q : ℕ) → q < 79 → (live (stateOf q) ≡ ltb 0 q) × (empty (stateOf q) ≡ (ltb 0 q && ltb q 4))
-unfolding live stateOf states then inName after inKeyword inKind has cat orElse either empty next signs within wordByte placeIn symbol letters keys inputWord outputWord kinds kindWords wordSymbol upTo blanks name mark close oneArgument twoArguments gate statement comment line bench
+unfolding live stateOf states then inName after inKeyword inKind has cat orElse either empty next
+    signs within wordByte placeIn symbol letters keys inputWord outputWord kinds kindWords wordSymbol upTo blanks name mark close oneArgument twoArguments gate statement comment line bench
 tests q h = (agree 79 (λ k. live (stateOf k)) (λ k. ltb 0 k) tt q h, agree 79 (λ k. empty (stateOf k)) (λ k. ltb 0 k && ltb k 4) tt q h)
 
 pub live-state : (q : ℕ) → q < 79 → live (stateOf q) ≡ ltb 0 q

@@ -12,7 +12,8 @@ use Rattle.syntax.proofs.state_table.Statement as stated
 use Rattle.syntax.proofs.state_table.Tie as tie
 
 returns : tie.Need-returns
-unfolding StateTable states told row rows table then inName after inKeyword inKind has cat orElse either empty next signs within wordByte placeIn symbol letters keys inputWord outputWord kinds kindWords wordSymbol upTo blanks name mark close oneArgument twoArguments gate statement comment line bench
+unfolding StateTable states told row rows table then inName after inKeyword inKind has cat orElse either empty next
+    signs within wordByte placeIn symbol letters keys inputWord outputWord kinds kindWords wordSymbol upTo blanks name mark close oneArgument twoArguments gate statement comment line bench
 returns c = refl
 
 pub state-table-spec : {M : Type 1} → stated.statement M
