@@ -10,7 +10,6 @@ use Rattle.ground.proofs.Elem.{elem-at}
 use Rattle.answers.specs.declared.Ruling.the-variants.{Fine}
 use Rattle.answers.specs.Rules.{refusal}
 use Rattle.syntax.specs.Syntax.{Formed}
-use Rattle.statements.specs.Tables.{isGate}
 use Rattle.names.specs.Names.{nameRules}
 use Rattle.order.proofs.Says as order
 use Rattle.records.specs.Net.{gatesOf, placedOf, lineOf}
@@ -18,12 +17,11 @@ use Rattle.netlist.specs.Solved.{Right}
 use Rattle.netlist.proofs.Numbers.{line-gate, order-long, order-gate, order-at}
 use Rattle.bench.specs.Text.{defsIn, usesIn, netIn}
 use Rattle.equations.specs.Meaning.{nameOn}
-use Rattle.equations.specs.Right.{Line}
 use Rattle.equations.specs.Numbers.{numberOf, lineFor}
 use Rattle.equations.specs.Placing.{InOrder, FirstLeft}
 use Rattle.equations.proofs.Tables.{inputs-are, map-get, gate-line}
 use Rattle.equations.proofs.SameMeaning.{number-of-gate}
-use Rattle.equations.proofs.Placing.{number, numbers, number-inside, later, later-line, order-gates, elem-same, Whole, whole, one-order, places-to, places-from}
+use Rattle.equations.proofs.Placing.{number, number-inside, later, later-line, order-gates, elem-same, Whole, whole, one-order, places-to, places-from}
 
 module _ (t : List ℕ) (f : Formed t) (none : refusal (nameRules t (defsIn t) (usesIn t)) ≡ Fine) where
   -- ---- where all gates are placed

@@ -9,7 +9,7 @@ use lib.Dec.{T}
 use mir.Facts.{and-yes}
 use Rattle.ground.proofs.Tests.{T-is}
 use Rattle.words.specs.Words.{wordByte}
-use Rattle.syntax.specs.Regular.{Re, seq, alt, Has}
+use Rattle.syntax.specs.Regular.{Re, seq, Has}
 use Rattle.syntax.specs.Kinds.{Among}
 use Rattle.syntax.specs.Grammar.{symbols, sign, letters, keys, wordSymbol, upTo, blanks, name, mark}
 use Rattle.shape.proofs.Symbols.{Gap, hasOwn, word-byte}

@@ -1,4 +1,4 @@
--- The words of the notation that are no names, spelt here and nowhere else: INPUT and OUTPUT, and the kinds in one table.
+-- The words of the notation that are no names, spelt here alone: INPUT and OUTPUT, and the kinds in one table. The grammar is made of them.
 -- Assumes nothing.
 use mathlib.Core.Path.{_≡_}
 use mathlib.Core.Logic.{_⊎_}
