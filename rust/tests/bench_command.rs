@@ -288,7 +288,7 @@ fn signals() {
         // signals that whoever runs the tests ignores are heard again
         let mut command = Command::new("env");
         command.arg(format!("--default-signal={signal}")).arg(script()).args(words(&[&pipe, &out]));
-        let mut process = command.stdout(Stdio::piped()).stderr(Stdio::piped()).spawn().expect("it starts");
+        let mut process = command.stdout(Stdio::null()).stderr(Stdio::null()).spawn().expect("it starts");
         let mut text = writing_end(&pipe, &mut process);
         let new = directory.names().into_iter().find(|name| !["out", "text"].contains(&name.as_str())).expect("a new file");
         assert_eq!(mode(&directory.0.join(&new)), 0o600);
@@ -296,8 +296,7 @@ fn signals() {
         assert!(random.len() >= 10 && random != process.id().to_string(), "{new}");
         let id = process.id().to_string();
         assert!(Command::new("sh").args(["-c", "kill -s \"$1\" \"$2\"", "sh", signal, &id]).status().expect("it starts").success());
-        let output = process.wait_with_output().expect("it ends");
-        assert_eq!((output.status.signal(), output.stdout.as_slice()), (Some(number), &b""[..]), "{signal}");
+        assert_eq!(process.wait().expect("it ends").signal(), Some(number), "{signal}");
         assert_eq!(directory.names(), ["out", "text"], "{signal}");
         assert_eq!(fs::read(&out).expect("a file"), OLD);
         assert_eq!(text.write(b"INPUT(a)").expect_err("nobody reads").kind(), ErrorKind::BrokenPipe);
