@@ -90,21 +90,19 @@ fn texts_that_cannot_be_read() {
     assert_eq!((fs::read(&out).expect("a file"), directory.names()), (OLD.to_vec(), vec!["out".to_string()]));
 }
 
-/// A text that comes through a pipe, with no place beside it.
+/// A text may come through a pipe. Where it is no regular file there is no place beside it.
 #[test]
 fn texts_from_pipes() {
     let directory = Directory::new("a pipe");
-    let out = directory.0.join("out");
-    let from_pipe = |paths: &[&Path]| {
-        let mut process =
-            after(":", &words(paths)).stdin(Stdio::piped()).stdout(Stdio::piped()).stderr(Stdio::piped()).spawn().expect("it starts");
-        let sent = process.stdin.take().expect("piped").write_all(&c17());
-        (sent.is_ok(), command::said(process.wait_with_output().expect("it ends")))
-    };
-    assert_eq!(from_pipe(&[Path::new("/dev/stdin"), &out]), (true, (Some(0), COUNTS.to_string(), String::new())));
+    let (out, device) = (directory.0.join("out"), directory.0.join("device"));
+    let mut command = after(":", &words(&[Path::new("/dev/stdin"), &out]));
+    let mut process = command.stdin(Stdio::piped()).stdout(Stdio::piped()).stderr(Stdio::piped()).spawn().expect("it starts");
+    process.stdin.take().expect("piped").write_all(&c17()).expect("it reads");
+    assert_eq!(command::said(process.wait_with_output().expect("it ends")), (Some(0), COUNTS.to_string(), String::new()));
     assert!(has_records(&out));
-    stopped(from_pipe(&[Path::new("/dev/stdin")]).1, "/dev/stdin");
-    assert!(!Path::new("/dev/circuit.rec").exists());
+    symlink("/dev/null", &device).expect("a link");
+    stopped(bench(&[&device]), &format!("{} is no regular file", device.display()));
+    assert_eq!(directory.names(), ["device", "out"]);
 }
 
 /// A device of its own where that can be made; where it can't, nobody here can lose this one.
@@ -145,7 +143,12 @@ fn other_things_than_files() {
     let things = [pipe.clone(), socket.clone(), device.clone(), path("directory")].into_iter().chain(links.map(|(name, _)| path(name)));
     for out in things {
         let kind = kinds(&out);
-        stopped(bench(&[&file, &out]), &out.display().to_string());
+        let what = match out.metadata() {
+            Err(_) => "is a link to nothing",
+            Ok(of) if of.is_dir() => "is a directory",
+            Ok(_) => "is no regular file",
+        };
+        stopped(bench(&[&file, &out]), &format!("{} {what}", out.display()));
         assert_eq!(kinds(&out), kind, "{out:?}");
     }
     assert_eq!((kinds(&pipe).0, kinds(&socket).1, kinds(&device).2), (true, true, true));
@@ -254,9 +257,10 @@ fn what_can_not_be_printed_or_written() {
     let (file, out) = (directory.write("text.bench", &c17()), directory.write("out", OLD));
     let wrong = directory.write("wrong.bench", b"input(a)\n");
     for text in [&file, &wrong] {
-        for said in unheard(&words(&[text, &out])) {
-            stopped(said, "standard output");
-        }
+        let [closed, full, broken] = unheard(&words(&[text, &out]));
+        stopped(closed, "standard output is closed");
+        stopped(full, "standard output: ");
+        stopped(broken, "standard output: ");
     }
     for out in [&out, &directory.0.join("new")] {
         stopped(run(&mut after("ulimit -f 0", &words(&[&file, out]))), &out.display().to_string());

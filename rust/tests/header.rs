@@ -93,13 +93,15 @@ fn names_in_the_docs() {
     assert!(numbered > 0, "numbers stand before names");
 }
 
+type Spoil = fn(&mut Vec<u8>);
+
 /// Example A, spoilt so that each refusal is given that files can have.
 fn refused_files() -> Vec<(&'static str, Files)> {
     let inputs = record(INPUT, false, 0, 0).repeat(3);
     let circuit = [&inputs[..], &record(AND, false, 0, 1), &record(OR, true, 3, 2)].concat();
     let faults = [[3, 0, 0, 0, 0, 0, 0, 0], [0, 0, 0, 1, 0, 0, 0, 0]].concat();
     let patterns = vec![1, 1, 0, 0, 1, 0];
-    let spoils: [(&str, fn(&mut Vec<u8>)); 8] = [
+    let spoils: [(&str, Spoil); 8] = [
         ("circuit", |bytes| bytes.truncate(7)),
         ("circuit", |bytes| bytes[34] = 4),
         ("circuit", |bytes| *bytes = record(INPUT, true, 0, 0).repeat(65)),
@@ -109,7 +111,7 @@ fn refused_files() -> Vec<(&'static str, Files)> {
         ("patterns", |bytes| bytes.truncate(5)),
         ("patterns", |bytes| bytes[4] = 3),
     ];
-    let spoilt = |(name, spoil): (&'static str, fn(&mut Vec<u8>))| {
+    let spoilt = |(name, spoil): (&'static str, Spoil)| {
         let [mut circuit, mut faults, mut patterns] = [circuit.clone(), faults.clone(), patterns.clone()];
         match name {
             "circuit" => spoil(&mut circuit),
