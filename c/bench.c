@@ -321,7 +321,7 @@ static void explain(uint32_t refusal, size_t place) {
 /* A name as it is shown, on one line whatever it is. */
 static const char *shown(char *name) {
     for (char *at = name; *at; at++)
-        if ((*at >= 0 && *at < ' ') || *at == 127) *at = '?';
+        if ((unsigned char)*at < ' ' || *at == 127) *at = '?';
     return name;
 }
 
