@@ -14,7 +14,8 @@ use Rattle.answers.specs.Rules.{refusal, said}
 use Rattle.answers.specs.Records.{recordsOk}
 use Rattle.answers.proofs.Rules.{after-refused}
 use Rattle.circuit.specs.Record.{inputsOf, outputsOf}
-use Rattle.circuit.specs.Check.{layoutRules, countRules, circuitRules}
+use Rattle.circuit.specs.Check.{circuitRules}
+use Rattle.circuit.proofs.Sizes as sealed
 use Rattle.words.specs.Words.{wordsOf, endsOf}
 use Rattle.statements.specs.Tables.{gatesIn, kindsOf}
 use Rattle.statements.proofs.Lengths.{defs-split, firsts-length, seconds-length, kinds-length}
@@ -93,17 +94,6 @@ fits o few room = record {
 
 -- ---- more lines than a circuit may have
 
-last-fails : (s t : Bool) → (s && (t && false)) ≡ false
-last-fails true true = refl
-last-fails true false = refl
-last-fails false t = refl
-
 pub too-many : (net : Net) {c : List ℕ} → 2048 < sizeOf net → Answers (recordRules (recordsOf net) (length c)) (recordsOf net) c c (Refused 1 0)
-unfolding layoutRules refusal said recordsOk
 too-many net {c} l =
-    let n = records-length net (sizeOf net) in
-    let many : leb (length (recordsOf net) / 8) 2048 ≡ false = lt-leb (length (recordsOf net) / 8) 2048 (omega (arith, n)) in
-    let bad : recordsOk 8 2048 (length (recordsOf net)) ≡ false =
-    rw many (last-fails (eqb (length (recordsOf net) % 8) 0) (leb 1 (length (recordsOf net) / 8))) in
-    let first : refusal (layoutRules (recordsOf net)) ≡ Ruling.Refused 1 0 = rw bad in
-    first-refused (circuitRules (recordsOf net)) (bufferRules (length c)) (after-refused (layoutRules (recordsOf net)) (countRules (inputsOf (recordsOf net)) (outputsOf (recordsOf net))) first)
+    first-refused (circuitRules (recordsOf net)) (bufferRules (length c)) (sealed.too-many (recordsOf net) (omega (arith, records-length net (sizeOf net))))

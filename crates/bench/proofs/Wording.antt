@@ -1,13 +1,14 @@
 -- The reader's refusals in the paper's words: a refusal is the first that applies, with the lowest place, and where one applies it is given.
 -- Assumes nothing.
-use mathlib.Core.Path.{_≡_, sym, _∙_}
+use mathlib.Core.Path.{_≡_, refl, _∙_}
 use mathlib.Core.List.{List, _++_}
 use Prim.Native.Nat.{ℕ}
-use native.Mathlib.Omega.{arith}
 use lib.ListN.{length}
 use Rattle.answers.specs.declared.Ruling.{Ruling}
 use Rattle.answers.specs.Rules.{refusal, Applies, AllHold, AllSay}
-use Rattle.answers.proofs.Rules.{applies, refused, fine, both-say}
+use Rattle.answers.proofs.Rules.{fine, both-say}
+use Rattle.answers.proofs.Answer as answer
+use Rattle.answers.proofs.Answer.{Ruled}
 use Rattle.answers.proofs.Same.{eq-same}
 use Rattle.circuit.specs.Record.{linesOf}
 use Rattle.circuit.specs.Check.{circuitRules}
@@ -21,7 +22,7 @@ use Rattle.order.proofs.Says.{cycle-says}
 use Rattle.bench.specs.declared.Read.{Read}
 use Rattle.bench.specs.declared.Read.the-variants.{Records, Refused}
 use Rattle.bench.specs.Text.{defsIn, usesIn, netIn}
-use Rattle.bench.specs.Bench.{bufferRules, netRules, benchRules, recordsIn, answered, readOf, Reads}
+use Rattle.bench.specs.Bench.{bufferRules, netRules, benchRules, recordsIn, readOf, Reads}
 
 buffer-says : (room : ℕ) → AllSay (bufferRules room)
 unfolding bufferRules AllSay
@@ -34,21 +35,23 @@ bench-says t room =
     (both-say (cycleRules (netIn t .firsts) (netIn t .seconds)) _ (cycle-says (netIn t .firsts) (netIn t .seconds))
     (both-say (circuitRules (recordsIn t)) _ (circuit-says (recordsIn t)) (buffer-says room))))
 
-refused-ruling : (v : Ruling) (n x y : ℕ) → Refused x y ≡ answered v n → v ≡ Ruling.Refused x y
-refused-ruling Ruling.Fine n x y e = let z : _≡_ {A = ℕ} 0 1 = cc in absurd (omega arith)
-refused-ruling (Ruling.Refused u t) n x y e = cc
+-- what was ruled, by the answer
+abbrev pub rulingOf : Read → Ruling
+rulingOf (Records n) = Ruling.Fine
+rulingOf (Refused number place) = Ruling.Refused number place
+
+pub ruled : (n : ℕ) → Ruled Refused rulingOf (Records n)
+ruled n = record { refuses = λ x y. refl; accepts = refl }
 
 module _ {t c c′ : List ℕ} {r : Read} (p : Reads t c c′ r) where
   module _ (number place : ℕ) where
     pub refused-applies : r ≡ Refused number place → Applies (benchRules t (length c)) number place
     unfolding readOf
-    refused-applies e =
-        applies (benchRules t (length c)) (bench-says t (length c)) number place
-        (refused-ruling (refusal (benchRules t (length c))) _ number place (sym e ∙ p .answer))
+    refused-applies = answer.refused-applies (ruled _) (benchRules t (length c)) (bench-says t (length c)) (p .answer) number place
 
     pub applies-refused : Applies (benchRules t (length c)) number place → r ≡ Refused number place
     unfolding readOf
-    applies-refused a = p .answer ∙ rw (refused (benchRules t (length c)) (bench-says t (length c)) number place a)
+    applies-refused = answer.applies-refused (ruled _) (benchRules t (length c)) (bench-says t (length c)) (p .answer) number place
 
   -- where all that is asked holds, the text is read
   pub holds-success : AllHold (benchRules t (length c)) → r ≡ Records (linesOf (recordsIn t))

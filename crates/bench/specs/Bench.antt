@@ -3,10 +3,10 @@
 use mathlib.Core.Path.{_≡_}
 use mathlib.Core.List.{List, [], _∷_, _++_}
 use Prim.Native.Nat.{ℕ}
-use lib.Dec.{eqb}
 use lib.ListN.{length, drop}
-use Rattle.answers.specs.declared.Ruling.{Ruling}
-use Rattle.answers.specs.Rules.{Rule, whole, refusal, unless}
+use Rattle.answers.specs.Rules.{Rule, refusal, unless}
+use Rattle.answers.specs.Lent.{exact}
+use Rattle.answers.specs.Answer.{answered}
 use Rattle.answers.specs.Area.{Numbers, success, refusedAt, told}
 use Rattle.circuit.specs.Record.{linesOf}
 use Rattle.circuit.specs.Check.{circuitRules}
@@ -23,7 +23,7 @@ abbrev pub bufferBytes : ℕ
 bufferBytes = 16384
 
 unfoldable pub bufferRules : ℕ → List Rule
-bufferRules room = whole 10 (eqb room bufferBytes) (room ≡ bufferBytes) 0 ∷ []
+bufferRules room = exact bufferBytes room ∷ []
 
 -- the circuit check's refusals on the records, then 10
 abbrev pub recordRules : List ℕ → ℕ → List Rule
@@ -37,16 +37,12 @@ netRules net room = cycleRules (net .firsts) (net .seconds) ++ recordRules (reco
 abbrev pub benchRules : List ℕ → ℕ → List Rule
 benchRules t room = syntaxRules t ++ (nameRules t (defsIn t) (usesIn t) ++ netRules (netIn t) room)
 
--- the answer by what the rules say: the number of records where all is fine
-abbrev pub answered : Ruling → ℕ → Read
-answered Ruling.Fine n = Records n
-answered (Ruling.Refused number place) n = Refused number place
-
 abbrev pub recordsIn : List ℕ → List ℕ
 recordsIn t = recordsOf (netIn t)
 
+-- the number of records where all is fine
 unfoldable pub readOf : List ℕ → ℕ → Read
-readOf t room = answered (refusal (benchRules t room)) (linesOf (recordsIn t))
+readOf t room = answered Refused (refusal (benchRules t room)) (Records (linesOf (recordsIn t)))
 
 -- the paper's number and values for each case of the answer
 unfoldable pub numbersOf : Read → Numbers

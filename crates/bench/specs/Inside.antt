@@ -14,11 +14,13 @@ use Rattle.records.specs.Net.{Net, gatesOf, placedOf, recordsOf}
 use Rattle.records.specs.Owed.{Numbers}
 use Rattle.bench.specs.declared.Read.{Read}
 use Rattle.bench.specs.Text.{formsIn, defsIn, outsIn, firstsIn, secondsIn, usesIn, netIn}
-use Rattle.bench.specs.Bench.{recordRules, netRules, recordsIn, answered, laidOn}
+use Rattle.bench.specs.Bench.{recordRules, netRules, recordsIn, laidOn}
+use Rattle.answers.specs.Answer.{answered}
+use Rattle.bench.specs.declared.Read.the-variants.{Records, Refused}
 
 -- the answer and the buffer afterwards, where these are the rules and the records
 pub record Answers (rules : List Rule) (records c c′ : List ℕ) (r : Read) : Type 0 where
-  pub answer : r ≡ answered (refusal rules) (linesOf records)
+  pub answer : r ≡ answered Refused (refusal rules) (Records (linesOf records))
   pub circuit : c′ ≡ unless (refusal rules) c (laidOn c records)
 
 -- of records, of a net, and of a text that is right in syntax

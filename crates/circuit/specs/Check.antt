@@ -5,11 +5,11 @@ use mathlib.Core.List.{List, [], _∷_, _++_}
 use Prim.Native.Nat.{ℕ, _≤_}
 use lib.Dec.{leb}
 use lib.ListN.{length}
-use Rattle.answers.specs.declared.Ruling.{Ruling}
 use Rattle.answers.specs.Rules.{Rule, refusal}
 use Rattle.answers.specs.Rules.Rule.{whole, each}
 use Rattle.answers.specs.Records.{recordsOk, Records}
 use Rattle.answers.specs.Area.{Numbers, success, refusedAt, told}
+use Rattle.answers.specs.Answer.{answered}
 use Rattle.circuit.specs.declared.Checked.{Checked}
 use Rattle.circuit.specs.declared.Checked.the-variants.{Accepted, Refused}
 use Rattle.circuit.specs.Record.{linesOf, inputsOf, outputsOf}
@@ -33,16 +33,13 @@ countRules inputs outputs =
 abbrev pub circuitRules : List ℕ → List Rule
 circuitRules c = layoutRules c ++ countRules (inputsOf c) (outputsOf c)
 
--- the answer by what the rules say: lines, inputs and outputs where all is fine
-abbrev pub answered : Ruling → ℕ → ℕ → ℕ → Checked
-answered Ruling.Fine n m o = Accepted n m o
-answered (Ruling.Refused number place) n m o = Refused number place
-
+-- lines, inputs and outputs where the counts are fine
 abbrev pub countedOf : ℕ → ℕ → ℕ → Checked
-countedOf n m o = answered (refusal (countRules m o)) n m o
+countedOf n m o = answered Refused (refusal (countRules m o)) (Accepted n m o)
 
+-- and where all is
 unfoldable pub checkOf : List ℕ → Checked
-checkOf c = answered (refusal (circuitRules c)) (linesOf c) (inputsOf c) (outputsOf c)
+checkOf c = answered Refused (refusal (circuitRules c)) (Accepted (linesOf c) (inputsOf c) (outputsOf c))
 
 -- the paper's number and values for each case of the answer
 unfoldable pub numbersOf : Checked → Numbers

@@ -37,3 +37,7 @@ pub record Accepts (c : List ℕ) (n m o : ℕ) : Type 0 where
   pub outputs : o ≡ outputsOf c
   pub fine : refusal (circuitRules c) ≡ Ruling.Fine
   pub good : Good c
+
+-- an accepted circuit of n lines and m inputs: what a part's inner functions ask for
+abbrev pub Known : List ℕ → ℕ → ℕ → Type 0
+Known c n m = Accepts c n m (outputsOf c)

@@ -6,6 +6,7 @@ use Prim.Native.Nat.{ℕ, _+_, _≤_}
 use lib.IntN.{ℤ}
 use lib.ListN.{length}
 use Rattle.answers.specs.Rules.{Rule, refusal, unless}
+use Rattle.answers.specs.Answer.{answered}
 use Rattle.circuit.specs.Record.{outputsBefore}
 use Rattle.lists.specs.declared.Fault.{Fault}
 use Rattle.cnf.specs.Lists.{gather}
@@ -13,7 +14,8 @@ use Rattle.cnf.specs.Cnf.{Clauses, wordsOf}
 use Rattle.line_clauses.specs.Clauses.{clausesOf}
 use Rattle.line_clauses.specs.Inside.{Circuit}
 use Rattle.clauses.specs.declared.Written.{Written}
-use Rattle.clauses.specs.Promise.{answered, laidOn}
+use Rattle.clauses.specs.declared.Written.the-variants.{Success, Refused}
+use Rattle.clauses.specs.Promise.{laidOn}
 
 -- an accepted circuit of n lines with so many outputs
 pub record Counted (c : List ℕ) (n outputs : ℕ) : Type 0 where
@@ -33,5 +35,5 @@ pub record WholeRoom (c : List ℕ) (f : Fault) (n outputs : ℕ) (w : List ℤ)
 -- ---- the answer and the words afterwards, where these are the rules, the clauses and the number of variables
 
 pub record Answers (rules : List Rule) (cs : Clauses) (variables : ℕ) (w w′ : List ℤ) (r : Written) : Type 0 where
-  pub answer : r ≡ answered (refusal rules) (length (wordsOf cs)) (length cs) variables
+  pub answer : r ≡ answered Refused (refusal rules) (Success (length (wordsOf cs)) (length cs) variables)
   pub words : w′ ≡ unless (refusal rules) w (laidOn w (wordsOf cs))

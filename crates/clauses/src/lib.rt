@@ -26,6 +26,8 @@ ghost use Rattle.ground.specs.Put.{Put};
 ghost use Rattle.cnf.specs.Write.{single, Takes};
 ghost use Rattle.line_clauses.specs.Clauses.{stuckLiteral, goodClauses, faultyClauses, differenceClauses, differences, clausesOf, variablesOf};
 ghost use Rattle.clauses.specs.Promise.{roomRules, laidOn, Writes};
+ghost use Rattle.circuit.specs.Record.{inputsOf};
+ghost use Rattle.circuit.specs.Formed.{Accepts};
 ghost use Rattle.clauses.specs.Inside.{Counted, LinesRoom, WholeRoom, Answers};
 
 // What the writer answers.
@@ -160,7 +162,7 @@ fn fitted(circuit: &[u8], fault: Fault, n: usize, outputs: usize, words: &mut [i
 
 // On an accepted circuit: the fault's refusals, then the list.
 fn accepted(circuit: &[u8], fault: &[u8], n: usize, outputs: usize, words: &mut [i32]) -> Written
-    requires { ⌜ Counted (now circuit) n outputs ⌝ }
+    requires { ⌜ Accepts (now circuit) n (inputsOf (now circuit)) outputs ⌝ }
     ensures { λ r. ⌜ Answers (faultRules 1 (now (circuit .entry)) (now (fault .entry)) ++ roomRules (length (wordsOf (clausesOf (now (circuit .entry)) (faultAt (now (fault .entry)) 0) n))) (length (now (words .entry)))) (clausesOf (now (circuit .entry)) (faultAt (now (fault .entry)) 0) n) (variablesOf (now (circuit .entry)) n) (now (words .entry)) (now (words .exit)) r ⌝ }
 {
     let v = check_faults(circuit, fault, 1);

@@ -7,7 +7,8 @@ use Prim.Native.Nat.{ℕ, _*_, _≤_, _<_}
 use lib.ListN.{length, getD}
 use Rattle.answers.specs.Rules.{refusal, unless}
 use Rattle.answers.specs.declared.Ruling.{Ruling}
-use Rattle.needs.specs.Needs.{tableOf, whole, kept, turn, compacted}
+use Rattle.tables.specs.Entries.{entriesOf}
+use Rattle.needs.specs.Needs.{whole, kept, turn, compacted}
 use Rattle.needs.specs.Words.{Meets}
 use Rattle.counts.specs.Counted.{Counted, Seen}
 use Rattle.compact.specs.Compact.{marksRules}
@@ -35,15 +36,15 @@ pub record Place (m : List ℕ) (P p : ℕ) : Type 0 where
 pub record Ready (t : List ℕ) (F P k : ℕ) (m c s : List ℕ) : Type 0 where
   pub counted : Counted t F P (kept m) c
   pub seen : Seen t F P s
-  pub enough : Meets (tableOf F t) F P (kept m)
+  pub enough : Meets (entriesOf F t) F P (kept m)
   pub in-set : (q : ℕ) → q < k → kept m q ≡ true
 
 -- the turn of pattern p
 pub record Turned (t : List ℕ) (F P p : ℕ) (m m′ c′ s : List ℕ) : Type 0 where
-  pub marks : m′ ≡ turn (tableOf F t) F P m p
+  pub marks : m′ ≡ turn (entriesOf F t) F P m p
   pub ready : Ready t F P p m′ c′ s
 
 -- the compactor after the table's rules
 pub record Finishes (F P : ℕ) (t m : List ℕ) (r : Ruling) (m′ : List ℕ) : Type 0 where
   pub answer : r ≡ refusal (marksRules P m)
-  pub marks : m′ ≡ unless (refusal (marksRules P m)) m (compacted (tableOf F t) F P)
+  pub marks : m′ ≡ unless (refusal (marksRules P m)) m (compacted (entriesOf F t) F P)

@@ -1,53 +1,14 @@
 // Part 3, the compactor: which patterns of a table are kept.
 use answers::Ruling;
-use answers::first_big;
+use tables::check_table;
 ghost use mathlib.Core.Path.{_≡_};
 ghost use Prim.Native.Nat.{_+_};
 ghost use lib.ListN.{length, replicate};
-ghost use Rattle.answers.specs.Rules.{refusal};
-ghost use Rattle.needs.specs.Needs.{tableOf, compacted};
-ghost use Rattle.compact.specs.Compact.{inRange, sizesOk, Sized, tableRules, Compacts};
+ghost use Rattle.tables.specs.Entries.{entriesOf};
+ghost use Rattle.tables.specs.Table.{Sized};
+ghost use Rattle.needs.specs.Needs.{compacted};
+ghost use Rattle.compact.specs.Compact.{Compacts};
 ghost use Rattle.compact.specs.Internal.{Sizes, Zeros, AllCounted, Place, Ready, Turned, Finishes};
-
-// ---- the table's rules
-
-fn in_range(n: u64) -> bool
-    ensures { λ r. ⌜ r ≡ inRange n ⌝ }
-{
-    if n < 1 {
-        return false;
-    }
-    n <= 256
-}
-
-// Whether both counts are in range and so many bytes are their product.
-fn sizes_ok(fault_count: u64, pattern_count: u64, bytes: usize) -> bool
-    ensures { λ r. ⌜ r ≡ sizesOk «fault_count» «pattern_count» bytes ⌝ }
-{
-    if !in_range(fault_count) {
-        return false;
-    }
-    if !in_range(pattern_count) {
-        return false;
-    }
-    bytes as u64 == fault_count * pattern_count
-}
-
-// What the rules of a table say: refusals 12 and 13.
-pub fn check_table(fault_count: u64, pattern_count: u64, table: &[u8]) -> Ruling
-    ensures { λ r. ⌜ r ≡ refusal (tableRules «fault_count» «pattern_count» (now (table .entry))) ⌝ }
-{
-    if !sizes_ok(fault_count, pattern_count, table.len()) {
-        return Ruling::Refused(12, 0);
-    }
-    let bad = first_big(table);
-    if bad < table.len() {
-        return Ruling::Refused(13, bad);
-    }
-    Ruling::Fine
-}
-
-// ---- the marks
 
 // Marks every pattern as kept.
 fn keep_all(marks: &mut [u8])
@@ -110,7 +71,7 @@ fn drop_spare(
     requires { ⌜ Sizes (now counts) (now seen) (now table) n patterns ⌝ }
     requires { ⌜ now marks ≡ replicate patterns 1 ⌝ }
     requires { ⌜ AllCounted (now table) n patterns (now counts) (now seen) ⌝ }
-    ensures { λ _. ⌜ now (marks .exit) ≡ compacted (tableOf n (now (table .entry))) n patterns ⌝ }
+    ensures { λ _. ⌜ now (marks .exit) ≡ compacted (entriesOf n (now (table .entry))) n patterns ⌝ }
 {
     let mut left = patterns;
     while 0 < left {
@@ -132,7 +93,7 @@ fn mark_all(
     requires { ⌜ Sizes (now counts) (now seen) (now table) n patterns ⌝ }
     requires { ⌜ Zeros (now counts) × Zeros (now seen) ⌝ }
     requires { ⌜ length (now marks) ≡ patterns ⌝ }
-    ensures { λ _. ⌜ now (marks .exit) ≡ compacted (tableOf n (now (table .entry))) n patterns ⌝ }
+    ensures { λ _. ⌜ now (marks .exit) ≡ compacted (entriesOf n (now (table .entry))) n patterns ⌝ }
 {
     keep_all(marks);
     count_all(counts, seen, table, n, patterns);

@@ -8,7 +8,8 @@ use lib.Dec.{eqb, leb, ltb}
 use lib.ListN.{getD}
 use Rattle.ground.specs.Choose.{one}
 use Rattle.ground.specs.Below.{anyBelow, countBelow}
-use Rattle.needs.specs.Needs.{Patterns, tableOf, whole, detects}
+use Rattle.tables.specs.Entries.{entriesOf}
+use Rattle.needs.specs.Needs.{Patterns, whole, detects}
 
 -- a pattern's entries stand in the table t from `from` on. A row has n cells from `at` on; the pattern counts at its cell k where that fault's entry is `want`
 unfoldable pub hitRow : List ℕ → ℕ → ℕ → ℕ → ℕ → ℕ → Bool
@@ -28,4 +29,4 @@ pub record Counted (t : List ℕ) (F P : ℕ) (K : Patterns) (c : List ℕ) : Ty
 
 -- whether a fault is detected is kept apart, 1 or 0
 pub record Seen (t : List ℕ) (F P : ℕ) (s : List ℕ) : Type 0 where
-  pub fault : (f : ℕ) → f < F → getD s f 0 ≡ one (detects (tableOf F t) P whole f)
+  pub fault : (f : ℕ) → f < F → getD s f 0 ≡ one (detects (entriesOf F t) P whole f)

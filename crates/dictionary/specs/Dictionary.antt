@@ -1,32 +1,23 @@
 -- Part 2, the dictionary maker: the refusals 1 to 10, and what it promises.
 -- Assumes nothing.
 use mathlib.Core.Path.{_≡_}
-use mathlib.Core.Bool.{_&&_}
-use mathlib.Core.List.{List, [], _∷_, _++_}
+use mathlib.Core.List.{List, _++_}
 use Prim.Native.Nat.{ℕ, _*_}
-use lib.Dec.{eqb}
 use lib.ListN.{length}
 use Rattle.answers.specs.declared.Ruling.{Ruling}
 use Rattle.answers.specs.Rules.{Rule, refusal, unless}
-use Rattle.answers.specs.Rules.Rule.{whole}
+use Rattle.answers.specs.Lent.{lentRules}
 use Rattle.answers.specs.Area.{told, done}
 use Rattle.circuit.specs.Record.{linesOf, inputsOf}
 use Rattle.circuit.specs.Check.{circuitRules}
-use Rattle.lists.specs.Faults.{faultCount, faultRules}
-use Rattle.lists.specs.Patterns.{patternCount, patternRules}
+use Rattle.lists.specs.Faults.{faultCount}
+use Rattle.lists.specs.Patterns.{patternCount}
+use Rattle.lists.specs.Both.{listRules}
 use Rattle.rows.specs.Table.{tableOf, workOf}
 
--- the exact sizes: table faults × patterns, work memory 2N
-unfoldable pub bufferRules : ℕ → ℕ → ℕ → ℕ → ℕ → List Rule
-bufferRules n faults patterns table work =
-    whole 10 (eqb table (faults * patterns) && eqb work (2 * n)) ((table ≡ faults * patterns) × (work ≡ 2 * n)) 0 ∷ []
-
--- what is checked after the circuit: the faults, the patterns, and the lent buffers
-abbrev pub listRules : List ℕ → ℕ → List ℕ → List ℕ → List Rule
-listRules c m fs ps = faultRules 256 c fs ++ patternRules m ps
-
+-- what is checked after the circuit: the faults, the patterns, and the exact sizes: table faults × patterns, work memory 2N
 abbrev pub restRules : List ℕ → ℕ → ℕ → List ℕ → List ℕ → ℕ → ℕ → List Rule
-restRules c n m fs ps table work = listRules c m fs ps ++ bufferRules n (faultCount fs) (patternCount m ps) table work
+restRules c n m fs ps table work = listRules c m fs ps ++ lentRules (faultCount fs * patternCount m ps) table (2 * n) work
 
 abbrev pub dictionaryRules : List ℕ → List ℕ → List ℕ → List ℕ → List ℕ → List Rule
 dictionaryRules c fs ps t w = circuitRules c ++ restRules c (linesOf c) (inputsOf c) fs ps (length t) (length w)

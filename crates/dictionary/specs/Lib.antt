@@ -1,3 +1,2 @@
 pub mod Dictionary
 pub mod Words
-pub mod Owed

@@ -20,7 +20,8 @@ use Rattle.simulate.specs.Vectors.{NoX}
 use Rattle.simulate.specs.Work.{goodOf, faultyOf}
 use Rattle.simulate.proofs.Mono.{RefinesAll, unforced-mono, stuck-mono, values-mono}
 use Rattle.simulate.proofs.Known.{unforced-keeps, stuck-keeps, values-known}
-use Rattle.entry.specs.Entry.{pass, fail, unknown, Test, agree, differ, someOutput, everyOutput, entryBy, entryOf, entryAt}
+use Rattle.tables.specs.Entries.{pass, fail, unknown}
+use Rattle.entry.specs.Entry.{Test, agree, differ, someOutput, everyOutput, entryBy, entryOf, entryAt}
 use Rattle.entry.specs.Words.{Differ, Agree, SomeOutput, EntryBy}
 use Rattle.entry.proofs.Words.{agree-says, fail-some, pass-every, entry-words, entry-says}
 

@@ -15,7 +15,8 @@ use Rattle.cnf.specs.Cnf.{Clauses}
 use Rattle.cnf.specs.Table.{table, gateClauses, sites}
 use Rattle.cnf.specs.Write.{sizeOf, Takes}
 use Rattle.cnf.proofs.Sizes.{size-append, gate-size, gate-length, few}
-use Rattle.line_clauses.specs.Clauses.{isAt, faultySite, goodVar, faultyVar, stuckVar, goodClauses, faultyClauses}
+use Rattle.lists.specs.Faults.{isAt}
+use Rattle.line_clauses.specs.Clauses.{faultySite, goodVar, faultyVar, stuckVar, goodClauses, faultyClauses}
 use Rattle.line_clauses.specs.Inside.{faultyKind, LineTakes}
 
 -- clauses that take what a row of the table does

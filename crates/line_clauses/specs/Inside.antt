@@ -12,7 +12,8 @@ use Rattle.lists.specs.declared.Fault.{Fault}
 use Rattle.cnf.specs.declared.Size.{Size}
 use Rattle.cnf.specs.Cnf.{Clauses, wordsOf}
 use Rattle.cnf.specs.Write.{Takes}
-use Rattle.line_clauses.specs.Clauses.{isAt, goodClauses, faultyClauses, differenceClauses}
+use Rattle.lists.specs.Faults.{isAt}
+use Rattle.line_clauses.specs.Clauses.{goodClauses, faultyClauses, differenceClauses}
 
 -- ---- the circuit and its lines
 

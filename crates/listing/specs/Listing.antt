@@ -10,19 +10,21 @@ use Rattle.answers.specs.declared.Ruling.the-variants.{Fine, Refused}
 use Rattle.answers.specs.Rules.{Rule, refusal, unless}
 use Rattle.circuit.specs.Record.{linesOf, inputsOf}
 use Rattle.circuit.specs.Check.{circuitRules}
-use Rattle.lists.specs.Faults.{faultCount, faultRules}
-use Rattle.lists.specs.Patterns.{patternCount, patternRules}
+use Rattle.lists.specs.Faults.{faultCount}
+use Rattle.lists.specs.Patterns.{patternCount}
+use Rattle.lists.specs.Both.{listRules}
 use Rattle.rows.specs.Table.{tableOf}
+use Rattle.tables.specs.Entries.{entriesOf}
 use Rattle.needs.specs.Needs as needs
 use Rattle.listing.specs.Text.{linesTo, refusedText}
 
 -- what can be refused: the circuit, the faults, the patterns; its own buffers are of their size
 abbrev pub programRules : List ℕ → List ℕ → List ℕ → List Rule
-programRules c fs ps = circuitRules c ++ (faultRules 256 c fs ++ patternRules (inputsOf c) ps)
+programRules c fs ps = circuitRules c ++ listRules c (inputsOf c) fs ps
 
 -- one line per pattern of a table, each pattern marked as the compaction says
 abbrev pub tableText : ℕ → ℕ → List ℕ → List ℕ
-tableText faults patterns t = linesTo faults t (needs.compacted (needs.tableOf faults t) faults patterns) patterns
+tableText faults patterns t = linesTo faults t (needs.compacted (entriesOf faults t) faults patterns) patterns
 
 -- the dictionary
 abbrev pub dictionaryOf : List ℕ → List ℕ → List ℕ → List ℕ

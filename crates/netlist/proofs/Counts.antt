@@ -51,14 +51,6 @@ module _ (net : Net) where
     pub net-inputs : inputsOf (recordsOf net) ≡ net .inputs
     net-inputs = rw (net-lines net) (count-front (net .inputs) (gatesOf net) (isInput (recordsOf net)) input-line gate-line)
 
-    -- the first gate placed has inputs as sources
-    pub some-input : 1 ≤ sizeOf net → 1 ≤ net .inputs
-    some-input h = go (net .inputs) refl
-      where
-        go : (m : ℕ) → net .inputs ≡ m → 1 ≤ m
-        go zero e = absurd (omega (arith, pin-before net r 0 1 (omega arith)))
-        go (suc m) e = omega arith
-
   -- ---- outputs
 
   pub net-outputs : outputsOf (recordsOf net) ≡ countBelow (sizeOf net) (λ k. elem (net .outputs) (numberOn net k))

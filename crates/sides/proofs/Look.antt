@@ -4,7 +4,7 @@ use mathlib.Core.Path.{_≡_, refl}
 use mathlib.Core.Logic.{⊎-elim}
 use mathlib.Core.Bool.{Bool, true, false}
 use mathlib.Core.List.{List}
-use Prim.Native.Nat.{ℕ, _≤_, _<_}
+use Prim.Native.Nat.{ℕ, _+_, _≤_, _<_}
 use native.Mathlib.Nat.{le-refl}
 use native.Mathlib.Omega.{arith}
 use lib.ListN.{length}
@@ -25,7 +25,9 @@ use Rattle.entry.proofs.Words.{fail-some, pass-every, entry-words}
 use Rattle.entry.proofs.Fill.{known-decided}
 use Rattle.nodes.specs.Node.{Node, IsNode, countX}
 use Rattle.nodes.proofs.Node.{all-set}
+use Rattle.simulate.proofs.Settled.{shaped}
 use Rattle.sides.specs.Look.{settled, Settled, lookOf}
+use Rattle.sides.specs.Owed.{Prepared}
 
 -- ---- the search's own word
 
@@ -84,3 +86,12 @@ module _ (fault : Fault) (c : List ℕ) (n : ℕ) (s : Node) where
             values-known unforced unforced-keeps c s n sized full n (le-refl n) k l,
             values-known (stuckAt fault) (stuck-keeps fault (omega arith)) c s n sized full n (le-refl n) k l,
           ))
+
+-- what a search of an accepted circuit needs
+pub prepared : (fault : Fault) (c : List ℕ) (n room : ℕ) → WellFormed c (inputsBefore c n) n → fault .line < n → fault .value ≤ 1 → room ≡ n + n → Prepared c fault n room
+prepared fault c n room well line small two = record {
+  shaped = shaped well;
+  line = line;
+  looks = record { three = λ s i. look-three fault c n s; unknown = λ s i. unknown-has-x fault c n s small well i };
+  two = two;
+}

@@ -18,6 +18,7 @@ use Rattle.lists.specs.declared.Fault.{Fault}
 use Rattle.simulate.specs.Simulate.{Forcing, unforced, stuckAt, gateValue, lineValue, valuesTo}
 use Rattle.simulate.specs.Vectors.{NoX}
 use Rattle.simulate.proofs.Inputs.{input-below}
+use Rattle.simulate.proofs.Settled.{shaped}
 use Rattle.simulate.proofs.Values.{value-at}
 
 abbrev pub Keeps : Forcing → Type 0
@@ -46,7 +47,7 @@ module _ (f : Forcing) (keeps : Keeps f) (c p : List ℕ) (n : ℕ) (well : Well
   line-known vs k l below = keeps k 0 _ (go (isInput c k) refl)
     where
       go : (t : Bool) → isInput c k ≡ t → choose t (getD p (inputsBefore c k) 0) (gateValue f c vs k) < 2
-      go true e = full (inputsBefore c k) (input-below well l (eqb-true (kindAt c k) 0 e))
+      go true e = full (inputsBefore c k) (input-below (shaped well) l (eqb-true (kindAt c k) 0 e))
       go false e = gate-value-known vs k l (eqb-false (kindAt c k) 0 e) below
 
   pub values-known : (m : ℕ) → m ≤ n → (k : ℕ) → k < m → getD (valuesTo f c p m) k 0 < 2

@@ -12,7 +12,7 @@ use Rattle.circuit.specs.Record.{kindAt, pinAt}
 use Rattle.lists.specs.declared.Fault.{Fault}
 use Rattle.simulate.specs.Simulate.{Forcing, unforced, stuckAt, gateValue, lineValue, valuesTo}
 use Rattle.simulate.specs.Sites.{faultyAt, Gives, OnLine, OnPin}
-use Rattle.simulate.specs.Owed.{Ordered}
+use Rattle.circuit.specs.Formed.{Lower}
 use Rattle.simulate.proofs.Values.{value-at}
 use Rattle.simulate.proofs.Below.{stuck-site, stuck-off, values-below}
 
@@ -20,10 +20,10 @@ use Rattle.simulate.proofs.Below.{stuck-site, stuck-off, values-below}
 same-at : (f : Forcing) (c p : List ℕ) (m n k : ℕ) → k < m → k < n → getD (valuesTo f c p m) k 0 ≡ getD (valuesTo f c p n) k 0
 same-at f c p m n k a b = value-at f c p m k a ∙ sym (value-at f c p n k b)
 
-module _ (fault : Fault) (c p : List ℕ) (n : ℕ) (o : Ordered c n) (inside : fault .line < n) where
+module _ (fault : Fault) (c p : List ℕ) (n : ℕ) (lower : (k : ℕ) → k < n → (kindAt c k ≡ 0 → ⊥) → Lower c k) (inside : fault .line < n) where
   -- the source of a pin that the gate has
   source-below : (k : ℕ) → k < n → (kindAt c k ≡ 0 → ⊥) → (s : ℕ) → 1 ≤ s → s ≤ pinsOf (kindAt c k) → pinAt c k s < k
-  source-below k l ne s a b = o .lower k l ne s a (omega (arith, two-pins (kindAt c k)))
+  source-below k l ne s a b = lower k l ne s a (omega (arith, two-pins (kindAt c k)))
 
   -- a gate whose own line is not stuck
   gives : (k : ℕ) → k < n → ((v : ℕ) → stuckAt fault k 0 v ≡ v) → Gives fault c p n k

@@ -22,6 +22,7 @@ use Rattle.simulate.specs.Simulate.{Forcing, unforced, stuckAt, gateValu
 use Rattle.simulate.specs.Boolean.{Vector, Truths, good, faulty, gateTruth, lineTruth, truthsTo, truthAt}
 use Rattle.simulate.specs.Vectors.{patternOf, Fills}
 use Rattle.simulate.proofs.Inputs.{input-below}
+use Rattle.simulate.proofs.Settled.{shaped}
 use Rattle.simulate.proofs.Mono.{RefinesAll}
 
 -- ---- the pattern of a vector
@@ -84,7 +85,7 @@ module _ (f : Forcing) (t : Truths) (alike : Alike f t) (c : List ℕ) (m n : �
       go : (b : Bool)
           → isInput c k ≡ b
           → f k 0 (choose b (getD (patternOf m x) (inputsBefore c k) 0) (gateValue f c (map one ts) k)) ≡ one (t k 0 (choose b (x (inputsBefore c k)) (gateTruth t c ts k)))
-      go true e = ap (f k 0) (pattern-at m x (inputsBefore c k) (input-below well l (eqb-true (kindAt c k) 0 e))) ∙ alike k 0 _
+      go true e = ap (f k 0) (pattern-at m x (inputsBefore c k) (input-below (shaped well) l (eqb-true (kindAt c k) 0 e))) ∙ alike k 0 _
       go false e = ap (f k 0) (gate-alike ts k l (eqb-false (kindAt c k) 0 e)) ∙ alike k 0 _
 
   pub values-alike : (k : ℕ) → k ≤ n → valuesTo f c (patternOf m x) k ≡ map one (truthsTo t c x k)

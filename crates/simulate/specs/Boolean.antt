@@ -1,7 +1,7 @@
 -- What a complete input vector does, over Bool and on its own: good and faulty truths, and when a vector detects a fault.
 -- Assumes nothing.
 use mathlib.Core.Path.{_≡_}
-use mathlib.Core.Bool.{Bool, true, false, _&&_}
+use mathlib.Core.Bool.{Bool, true, false}
 use mathlib.Core.List.{List, [], _∷_, _++_}
 use Prim.Native.Nat.{ℕ, zero, suc, _<_}
 use lib.Dec.{eqb}
@@ -10,6 +10,7 @@ use Rattle.ground.specs.Choose.{choose}
 use Rattle.gates.specs.Boolean.{boolGate}
 use Rattle.circuit.specs.Record.{kindAt, pinAt, isInput, isOutput, inputsBefore}
 use Rattle.lists.specs.declared.Fault.{Fault}
+use Rattle.lists.specs.Faults.{isAt}
 
 -- the value of each input, by its number
 abbrev pub Vector : Type 0
@@ -23,7 +24,7 @@ abbrev pub good : Truths
 good line site b = b
 
 unfoldable pub faulty : Fault → Truths
-faulty fault line site b = choose (eqb line (fault .line) && eqb site (fault .site)) (eqb (fault .value) 1) b
+faulty fault line site b = choose (isAt fault line site) (eqb (fault .value) 1) b
 
 unfoldable pub gateTruth : Truths → List ℕ → List Bool → ℕ → Bool
 gateTruth f c ts k = boolGate (kindAt c k) (λ s. f k s (getD ts (pinAt c k s) false))

@@ -2,7 +2,7 @@
 -- Assumes nothing.
 use mathlib.Core.Path.{sym, _∙_}
 use borrow.Author.Needs.{needs}
-use Rattle.clauses.proofs.Answer.{first-refused, first-fine, one-fault}
+use Rattle.clauses.proofs.Answer.{counted, first-refused, first-fine, one-fault}
 use Rattle.clauses.proofs.accepted.Statement.{statement}
 use Rattle.clauses.proofs.accepted.Tie as tie
 
@@ -19,7 +19,7 @@ read-fault-requires : tie.Need-read-fault-requires
 read-fault-requires c κs = one-fault _ _ (sym (c .before .before .check-faults .ensures) ∙ c .enum-told .given .1)
 
 fitted-requires : tie.Need-fitted-requires
-fitted-requires c κs = search needs
+fitted-requires c κs = counted (c .before .before .before .before .before .before .before .pre)
 
 returns : tie.Need-returns
 returns c = first-refused _ _ (sym (c .before .before .before .check-faults .ensures) ∙ c .before .v .given .1)

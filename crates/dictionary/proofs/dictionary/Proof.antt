@@ -2,8 +2,8 @@
 -- Assumes nothing.
 use mathlib.Core.Path.{sym, _∙_}
 use borrow.Author.Needs.{needs}
-use Rattle.dictionary.proofs.Answer.{known, circuit-refused, circuit-accepted}
-use Rattle.circuit.proofs.Accepted.{accepts, refuses}
+use Rattle.dictionary.proofs.Answer.{circuit-refused, circuit-accepted}
+use Rattle.circuit.proofs.Accepted.{accepts, refuses, known}
 use Rattle.dictionary.proofs.dictionary.Statement.{statement}
 use Rattle.dictionary.proofs.dictionary.Tie as tie
 

@@ -4,7 +4,7 @@ use lib.ListN.{length-map}
 use native.Mathlib.Omega.{arith}
 use borrow.Author.Needs.{needs}
 use Rattle.listing.specs.Text.{letterOf}
-use Rattle.listing.proofs.Digits.{digits-short}
+use Rattle.decimals.proofs.Digits.{digits-short}
 use Rattle.listing.proofs.Pieces.{line-put}
 use Rattle.ground.proofs.Put.{put-long}
 use Rattle.listing.proofs.put_line.Statement.{statement}

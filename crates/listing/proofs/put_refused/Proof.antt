@@ -3,7 +3,7 @@
 use native.Mathlib.Omega.{arith}
 use borrow.Author.Needs.{needs}
 use Rattle.listing.proofs.Pieces.{refused-put}
-use Rattle.listing.proofs.Digits.{digits-short}
+use Rattle.decimals.proofs.Digits.{digits-short}
 use Rattle.ground.proofs.Put.{put-long}
 use Rattle.listing.proofs.put_refused.Statement.{statement}
 use Rattle.listing.proofs.put_refused.Tie as tie

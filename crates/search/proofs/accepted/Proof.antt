@@ -19,7 +19,7 @@ read-fault-requires : tie.Need-read-fault-requires
 read-fault-requires c κs = fault-inside _ _ _ _ _ _ (sym (c .before .before .check-rest .ensures) ∙ c .enum-told .given .1)
 
 run-all-x-requires : tie.Need-run-all-x-requires
-run-all-x-requires c κs = let p = c .before .before .before .before .before .before .before .before .before .before .pre in runs _ _ _ _ _ _ (sym (c .before .before .before .before .before .check-rest .ensures) ∙ c .before .before .before .enum-told .given .1) (c .before .before .read-fault .ensures) (p .0) (p .1) (p .2)
+run-all-x-requires c κs = let p = c .before .before .before .before .before .before .before .before .before .before .pre in runs _ _ _ _ _ _ (sym (c .before .before .before .before .before .check-rest .ensures) ∙ c .before .before .before .enum-told .given .1) (c .before .before .read-fault .ensures) p
 
 returns : tie.Need-returns
 returns c = rest-refused (sym (c .before .before .before .check-rest .ensures) ∙ c .before .v .given .1)
@@ -31,7 +31,7 @@ same-length-2 : tie.Need-same-length-2
 same-length-2 c = search needs
 
 returns-2 : tie.Need-returns-2
-returns-2 c = let p = c .before .before .before .before .before .before .before .before .before .before .before .before .before .before .before .pre in rest-fine (sym (c .before .before .before .before .before .before .before .before .before .before .check-rest .ensures) ∙ c .before .before .before .before .before .before .before .before .enum-told .given .1) (c .before .before .before .before .before .before .before .read-fault .ensures) (p .0) (p .1) (c .before .before .before .before .run-all-x .ensures)
+returns-2 c = let p = c .before .before .before .before .before .before .before .before .before .before .before .before .before .before .before .pre in rest-fine (sym (c .before .before .before .before .before .before .before .before .before .before .check-rest .ensures) ∙ c .before .before .before .before .before .before .before .before .enum-told .given .1) (c .before .before .before .before .before .before .before .read-fault .ensures) p (c .before .before .before .before .run-all-x .ensures)
 
 pub accepted-spec : {M : Type 1} → statement M
 accepted-spec =

@@ -3,7 +3,7 @@
 use mathlib.Core.Path.{sym, _∙_}
 use borrow.Author.Needs.{needs}
 use Rattle.search.proofs.Answer.{circuit-refused, circuit-fine}
-use Rattle.circuit.proofs.Accepted.{accepts, refuses}
+use Rattle.circuit.proofs.Accepted.{accepts, refuses, known}
 use Rattle.search.proofs.search.Statement.{statement}
 use Rattle.search.proofs.search.Tie as tie
 
@@ -17,9 +17,7 @@ enum-known-v-2 : tie.Need-enum-known-v-2
 enum-known-v-2 c = search needs
 
 accepted-requires : tie.Need-accepted-requires
-accepted-requires c κs =
-    let a = accepts _ _ _ _ (sym (c .before .before .before .v2 .given .1) ∙ c .before .before .before .before .before .check .ensures .answer) in
-    (a .lines, a .inputs, a .good)
+accepted-requires c κs = known (accepts _ _ _ _ (sym (c .before .before .before .v2 .given .1) ∙ c .before .before .before .before .before .check .ensures .answer))
 
 returns : tie.Need-returns
 returns c = circuit-refused (refuses _ _ _ (sym (c .before .v .given .1) ∙ c .before .before .before .check .ensures .answer))

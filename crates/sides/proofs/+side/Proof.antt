@@ -18,7 +18,6 @@ use Rattle.nodes.proofs.Node.{found-first, fewer, set-again, restored, set-is}
 use Rattle.nodes.proofs.Ways.{Open, from-node, fits, spent, failed, passed, first-test, first-spent, second-test, second-none, second-spent}
 use Rattle.sides.specs.Look.{lookOf, workOf}
 use Rattle.sides.specs.Owed.{Prepared}
-use Rattle.sides.proofs.Look.{unknown-has-x}
 use Rattle.sides.proofs.side.Reads as side
 use Rattle.sides.proofs.side.Kinds as side-kinds
 use Rattle.sides.proofs.+side.Lts-side as side-lts
@@ -94,7 +93,7 @@ module _ (t : ℕ) where
   opened c =
       let e = entry c in
       let u = sym (c .before .before .before .before .before .before .visit .ensures .says) ∙ c .before .before .if3 .left in
-      record { more = omega arith; unknown = u; first = found-first (c .first-x .ensures) (unknown-has-x _ _ _ _ (ready e .value) (ready e .well) (node-at e) u) }
+      record { more = omega arith; unknown = u; first = found-first (c .first-x .ensures) (ready e .looks .unknown _ (node-at e) u) }
 
   -- the first side, of which r is the answer
   abbrev First : AtFirst → Verdict → Type 0
@@ -183,7 +182,7 @@ module _ (t : ℕ) where
       let x = c .before .before in
       let e = entry x in
       let r = ready e in
-      (fewer (omega arith) (opened x .first) (e .pre .0), (record { well = r .well; line = r .line; value = r .value; two = c .before .before .before .before .before .before .before .before .visit .kept .1 .1 .1 .0 ∙ r .two }, set-is _ 0 (omega arith) (node-at e)))
+      (fewer (omega arith) (opened x .first) (e .pre .0), (record { shaped = r .shaped; line = r .line; looks = r .looks; two = c .before .before .before .before .before .before .before .before .visit .kept .1 .1 .1 .0 ∙ r .two }, set-is _ 0 (omega arith) (node-at e)))
 
   side-enum-known-a : side-lts.Need-enum-known-a calls here side.Post
   side-enum-known-a c = search needs
@@ -203,7 +202,7 @@ module _ (t : ℕ) where
       let f = first-of n in
       let e = entry (x-of f) in
       let r = ready e in
-      (subst (λ (s : Node). countX s < t) (sym (again n)) (fewer {v = 1} (omega arith) (opened (x-of f) .first) (e .pre .0)), (record { well = r .well; line = r .line; value = r .value; two = lengths f .1 ∙ r .two }, subst (IsNode _) (sym (again n)) (set-is _ 1 (omega arith) (node-at e))))
+      (subst (λ (s : Node). countX s < t) (sym (again n)) (fewer {v = 1} (omega arith) (opened (x-of f) .first) (e .pre .0)), (record { shaped = r .shaped; line = r .line; looks = r .looks; two = lengths f .1 ∙ r .two }, subst (IsNode _) (sym (again n)) (set-is _ 1 (omega arith) (node-at e))))
 
   side-enum-known-b : side-lts.Need-enum-known-b calls here side.Post
   side-enum-known-b c = search needs

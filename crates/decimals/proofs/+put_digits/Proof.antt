@@ -1,4 +1,4 @@
--- `listing::put_digits` meets its contract. The measure is the number of digits that are left.
+-- `decimals::put_digits` meets its contract. The measure is the number of digits that are left.
 -- Assumes nothing.
 use Prim.Native.Nat.{ℕ, _-_, _/_, _<_}
 use native.Mathlib.Omega.{arith}
@@ -6,13 +6,13 @@ use borrow.Author.Needs.{needs}
 use borrow.Fn.Kinds.{In}
 use borrow.Fn.PlainCycle.{Measures, is, falls, and}
 use Rattle.ground.proofs.Put.{put-long}
-use Rattle.listing.proofs.Digits.{digits-short, none-left, one-digit, more-digits}
-use Rattle.listing.proofs.put_digits.Reads as put-digits
-use Rattle.listing.proofs.put_digits.Kinds as put-digits-kinds
-use Rattle.listing.proofs.+put_digits.Lts-put_digits as put-digits-lts
-use Rattle.listing.proofs.put_byte.Reads as put-byte-reads
-use Rattle.listing.proofs.+put_digits.{statement}
-use Rattle.listing.proofs.+put_digits.Tie.{close}
+use Rattle.decimals.proofs.Digits.{digits-short, none-left, one-digit, more-digits}
+use Rattle.decimals.proofs.put_digits.Reads as put-digits
+use Rattle.decimals.proofs.put_digits.Kinds as put-digits-kinds
+use Rattle.decimals.proofs.+put_digits.Lts-put_digits as put-digits-lts
+use Rattle.decimals.proofs.put_byte.Reads as put-byte-reads
+use Rattle.decimals.proofs.+put_digits.{statement}
+use Rattle.decimals.proofs.+put_digits.Tie.{close}
 
 abbrev μ-put-digits : Measures 1 put-digits-kinds.ps ℕ
 μ-put-digits κs a = a .1 .1 .1 .0

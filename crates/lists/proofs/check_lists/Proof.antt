@@ -1,12 +1,12 @@
--- `dictionary::check_lists` meets its contract: a refusal of the faults is handed on, else the patterns decide.
+-- `lists::check_lists` meets its contract: a refusal of the faults is handed on, else the patterns decide.
 -- Assumes nothing.
 use mathlib.Core.Path.{sym, _∙_}
 use borrow.Author.Needs.{needs}
 use Rattle.lists.specs.Patterns.{patternRules}
 use Rattle.lists.specs.Faults.{faultRules}
 use Rattle.answers.proofs.Rules.{after-refused, after-fine}
-use Rattle.dictionary.proofs.check_lists.Statement.{statement}
-use Rattle.dictionary.proofs.check_lists.Tie as tie
+use Rattle.lists.proofs.check_lists.Statement.{statement}
+use Rattle.lists.proofs.check_lists.Tie as tie
 
 check-faults-requires : tie.Need-check-faults-requires
 check-faults-requires c κs = search needs

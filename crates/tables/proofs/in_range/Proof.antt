@@ -1,8 +1,8 @@
--- `compact::in_range` meets its contract: by its tests.
+-- `tables::in_range` meets its contract: by its tests.
 -- Assumes nothing.
 use borrow.Author.Tests.{le-leb, lt-leb}
-use Rattle.compact.proofs.in_range.Statement.{statement}
-use Rattle.compact.proofs.in_range.Tie as tie
+use Rattle.tables.proofs.in_range.Statement.{statement}
+use Rattle.tables.proofs.in_range.Tie as tie
 
 returns : tie.Need-returns
 returns c = simp (lt-leb _ _ (c .if1 .taken))

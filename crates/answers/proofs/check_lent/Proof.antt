@@ -1,18 +1,14 @@
--- `search::check_lent` meets its contract: one answer for each branch.
+-- `answers::check_lent` meets its contract: one answer for each branch.
 -- Assumes nothing.
 use borrow.Author.Tests.{eq-eqb, ne-eqb}
-use borrow.Author.Needs.{needs}
-use Rattle.search.specs.Search.{lentRules}
+use Rattle.answers.specs.Lent.{lentRules}
 use Rattle.answers.specs.Rules.{said, refusal}
-use Rattle.search.proofs.check_lent.Statement.{statement}
-use Rattle.search.proofs.check_lent.Tie as tie
+use Rattle.answers.proofs.check_lent.Statement.{statement}
+use Rattle.answers.proofs.check_lent.Tie as tie
 
 returns : tie.Need-returns
 unfolding lentRules refusal said
 returns c = simp (ne-eqb _ _ (c .if1 .taken))
-
-mul-if2 : tie.Need-mul-if2
-mul-if2 c = search needs
 
 returns-2 : tie.Need-returns-2
 unfolding lentRules refusal said
@@ -23,4 +19,4 @@ unfolding lentRules refusal said
 returns-3 c = simp (eq-eqb _ _ (c .before .if1 .left), eq-eqb _ _ (c .if2 .left))
 
 pub check-lent-spec : {M : Type 1} → statement M
-check-lent-spec = tie.close (tie.spec returns mul-if2 returns-2 returns-3)
+check-lent-spec = tie.close (tie.spec returns returns-2 returns-3)

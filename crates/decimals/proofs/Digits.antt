@@ -12,7 +12,7 @@ use borrow.Author.Tests.{lt-ltb, le-ltb}
 use Rattle.ground.specs.Choose.{choose}
 use Rattle.ground.specs.Put.{Put}
 use Rattle.ground.proofs.Put.{put-none, put-then}
-use Rattle.listing.specs.Text.{digits, valueFrom}
+use Rattle.decimals.specs.Digits.{digits, valueFrom}
 
 pub digits-short : (f n : ℕ) → length (digits f n) ≤ f
 unfolding digits

@@ -1,14 +1,14 @@
--- `compact::sizes_ok` meets its contract: by its tests; a product of two counts in range fits.
+-- `tables::sizes_ok` meets its contract: by its tests; a product of two counts in range fits.
 -- Assumes nothing.
 use mathlib.Core.Path.{sym, _∙_}
 use native.Mathlib.Nat.{mul-le-mul-right}
 use native.Mathlib.Omega.{arith}
-use Rattle.compact.specs.Compact.{sizesOk}
-use Rattle.compact.proofs.Refusals.{in-range}
+use Rattle.tables.specs.Table.{sizesOk}
+use Rattle.tables.proofs.Refusals.{in-range}
 use borrow.Author.Needs.{needs}
 use borrow.Author.Tests.{not-true, not-false}
-use Rattle.compact.proofs.sizes_ok.Statement.{statement}
-use Rattle.compact.proofs.sizes_ok.Tie as tie
+use Rattle.tables.proofs.sizes_ok.Statement.{statement}
+use Rattle.tables.proofs.sizes_ok.Tie as tie
 
 in-range-requires : tie.Need-in-range-requires
 in-range-requires c κs = search needs
