@@ -4,6 +4,8 @@ pub mod Names
 pub mod RightNet
 pub mod SameMeaning
 pub mod Cycles
+pub mod Placing
+pub mod InOrder
 pub mod Lines
 pub mod Outputs
 pub mod Parts

@@ -24,7 +24,8 @@ use Rattle.netlist.specs.Solved.{Right}
 use Rattle.netlist.proofs.Numbers.{line-number}
 use Rattle.netlist.proofs.Fields.{net-lines, net-out}
 use Rattle.bench.specs.Text.{formsIn, defsIn, usesIn, netIn}
-use Rattle.equations.specs.Meaning.{linesIn, wordOn, nameOn}
+use Rattle.shape.specs.Shape.{wordOn}
+use Rattle.equations.specs.Meaning.{linesIn, nameOn}
 use Rattle.equations.specs.Right.{Defines, Defined}
 use Rattle.equations.specs.Numbers.{numberOf, lineFor}
 use Rattle.equations.specs.Computes.{sizeIn, OwnLines, IsOutput, outputName, outputsIn}

@@ -1,4 +1,4 @@
--- What the reader's answer says: the records it wrote compute what the text says, it accepts what can be accepted, and 16 is a cycle.
+-- What the reader's answer says: the records it wrote compute what the text says, it accepts what can be accepted, and 16 is a cycle and its first gate.
 -- Assumes nothing.
 use mathlib.Core.Path.{_≡_, refl, sym, ap, _∙_, subst}
 use mathlib.Core.Logic.{_↔_}
@@ -16,11 +16,12 @@ use Rattle.bench.specs.declared.Read.the-variants.{Records, Refused}
 use Rattle.bench.specs.Text.{netIn}
 use Rattle.bench.specs.Bench.{bufferBytes, benchRules, answered, recordsIn, readOf, laidOn, Reads}
 use Rattle.equations.specs.Right.{TextCycle}
+use Rattle.equations.specs.Placing.{FirstLeft}
 use Rattle.equations.specs.Computes.{sizeIn, Acceptable, Computes}
 use Rattle.equations.proofs.RightNet.{size-is}
 use Rattle.equations.proofs.Computes.{computes}
 use Rattle.equations.proofs.Accepted.{accepted}
-use Rattle.equations.proofs.Sixteen.{sixteen}
+use Rattle.equations.proofs.Sixteen.{sixteen, sixteen-place}
 
 -- ---- the answer is the ruling's
 
@@ -63,10 +64,18 @@ module _ {t c c′ : List ℕ} where
     given e = p .answer ∙ ap (λ (v : Ruling). answered v (linesOf (recordsIn t))) e
 
     -- without 14 or 15, 16 is given exactly if the text has a cycle
-    pub read-sixteen : ((k : ℕ) → r ≡ Refused 14 k → ⊥) → ((k : ℕ) → r ≡ Refused 15 k → ⊥) → ((k : ℕ) × (r ≡ Refused 16 k)) ↔ TextCycle t
-    unfolding readOf
-    read-sixteen a b =
-        let s = sixteen t (length c) (λ k e. a k (given e)) (λ k e. b k (given e)) in (
-          λ (k, e). s .0 (k, refused-answer (refusal (benchRules t (length c))) (linesOf (recordsIn t)) (sym e ∙ p .answer)),
-          λ y. let w = s .1 y in (w .0, given (w .1)),
-        )
+    module _ (a : (k : ℕ) → r ≡ Refused 14 k → ⊥) (b : (k : ℕ) → r ≡ Refused 15 k → ⊥) where
+      refused : {m k : ℕ} → r ≡ Refused m k → refusal (benchRules t (length c)) ≡ Ruling.Refused m k
+      unfolding readOf
+      refused e = refused-answer (refusal (benchRules t (length c))) (linesOf (recordsIn t)) (sym e ∙ p .answer)
+
+      pub read-sixteen : ((k : ℕ) × (r ≡ Refused 16 k)) ↔ TextCycle t
+      read-sixteen =
+          let s = sixteen t (length c) (λ k e. a k (given e)) (λ k e. b k (given e)) in
+          (λ (k, e). s .0 (k, refused e), λ y. let w = s .1 y in (w .0, given (w .1)))
+
+      -- at gate g exactly if it is the first in the text that can't be placed
+      pub read-place : (g : ℕ) → (r ≡ Refused 16 g) ↔ FirstLeft t g
+      read-place g =
+          let s = sixteen-place t (length c) (λ k e. a k (given e)) (λ k e. b k (given e)) g in
+          (λ e. s .0 (refused e), λ y. given (s .1 y))

@@ -11,13 +11,14 @@ use Rattle.words.specs.Words.{wordsOf, endsOf}
 use Rattle.syntax.specs.Syntax.{Formed}
 use Rattle.statements.specs.Tables.{inputsIn, gatesIn}
 use Rattle.statements.proofs.Lengths.{seconds-length, kinds-length}
-use Rattle.shape.proofs.Forms.{gate-kind}
+use Rattle.shape.proofs.Forms.{gate-sources}
 use Rattle.names.specs.Names.{nameRules}
 use Rattle.order.specs.Order.{cycleRules}
 use Rattle.records.specs.Net.{gatesOf, sizeOf, pinOf}
 use Rattle.netlist.specs.Solved.{Right}
 use Rattle.bench.specs.Text.{formsIn, defsIn, usesIn, secondsIn, numberIn, netIn}
-use Rattle.equations.specs.Meaning.{wordOn, sourceOn}
+use Rattle.shape.specs.Shape.{wordOn}
+use Rattle.equations.specs.Meaning.{sourceOn}
 use Rattle.equations.specs.Right.{Defined}
 use Rattle.equations.specs.Numbers.{numberOf}
 use Rattle.equations.proofs.Tables.{gates-are, inputs-are, gate-line, output-line, kind-get, pin-get, output-get, number-inside}
@@ -36,7 +37,7 @@ module _ (t : List ℕ) where
   seconds-long = length-map (secondsIn t) (numberIn t) ∙ seconds-length (wordsOf t) (endsOf t) (formsIn t) ∙ sym (gates-are t)
 
   kind-in : Formed t → (g : ℕ) → g < gatesOf (netIn t) → (1 ≤ getD (netIn t .kinds) g 0) × (getD (netIn t .kinds) g 0 ≤ lastKind)
-  kind-in f g l = let n = gate-line t l in rw (← n .before, kind-get (n .line)) (gate-kind t f (n .place) (n .line .passes))
+  kind-in f g l = let n = gate-line t l in let w = gate-sources t f (n .place) (n .line .passes) .0 in rw (← n .before, kind-get (n .line)) (w .some-kind, w .last-kind)
 
   module _ (none : refusal (nameRules t (defsIn t) (usesIn t)) ≡ Fine) where
     -- the number of a name that is defined is a gate's or an input's

@@ -1,4 +1,4 @@
--- Without 14 or 15, 16 is given exactly if the text has a cycle.
+-- Without 14 or 15, 16 is given exactly if the text has a cycle, and names the first gate in the text that can't be placed.
 -- Assumes nothing.
 use mathlib.Core.Path.{_≡_, refl, sym, ap, _∙_}
 use mathlib.Core.Logic.{_↔_}
@@ -11,13 +11,17 @@ use Rattle.answers.specs.Rules.{refusal}
 use Rattle.answers.proofs.Rules.{after-refused, after-fine}
 use Rattle.circuit.specs.Check.{layoutRules, countRules}
 use Rattle.syntax.specs.Syntax.{syntaxRules}
+use Rattle.syntax.proofs.Says.{right-text}
 use Rattle.names.specs.Names.{nameRules}
 use Rattle.order.specs.Order.{cycleRules}
+use Rattle.order.proofs.Says.{refused-left, left-refused}
 use Rattle.order.proofs.Cycle.{cycle-refused, refused-cycle}
 use Rattle.bench.specs.Text.{defsIn, usesIn, netIn}
 use Rattle.bench.specs.Bench.{bufferRules, recordRules, netRules, benchRules, recordsIn}
 use Rattle.equations.specs.Right.{TextCycle}
+use Rattle.equations.specs.Placing.{FirstLeft}
 use Rattle.equations.proofs.Cycles.{net-cycle, text-cycle}
+use Rattle.equations.proofs.InOrder as placing
 use Rattle.equations.proofs.Parts.{refused-number}
 
 syntax-14 : (t : List ℕ) {m k : ℕ} → refusal (syntaxRules t) ≡ Refused m k → m ≡ 14
@@ -62,23 +66,39 @@ module _ (t : List ℕ) (room : ℕ) where
       net-left : refusal (benchRules t room) ≡ refusal (netRules (netIn t) room)
       net-left = after-fine (syntaxRules t) _ syntax ∙ after-fine (nameRules t (defsIn t) (usesIn t)) _ names
 
-      refused-text-cycle : (k : ℕ) → refusal (benchRules t room) ≡ Refused 16 k → TextCycle t
-      refused-text-cycle k e = go (refusal (cycleRules (netIn t .firsts) (netIn t .seconds))) refl
+      -- the records are not refused with 16, so the net is
+      net-sixteen : {k : ℕ} → refusal (benchRules t room) ≡ Refused 16 k → refusal (cycleRules (netIn t .firsts) (netIn t .seconds)) ≡ Refused 16 k
+      net-sixteen {k} e = go (refusal (cycleRules (netIn t .firsts) (netIn t .seconds))) refl
         where
-          go : (v : Ruling) → refusal (cycleRules (netIn t .firsts) (netIn t .seconds)) ≡ v → TextCycle t
+          go : (v : Ruling) → refusal (cycleRules (netIn t .firsts) (netIn t .seconds)) ≡ v → v ≡ Refused 16 k
           go Fine q =
               let records : refusal (recordRules (recordsIn t) room) ≡ Refused 16 k =
               sym (after-fine (cycleRules (netIn t .firsts) (netIn t .seconds)) _ q) ∙ sym net-left ∙ e in
               absurd (records-not-16 (recordsIn t) room records refl)
-          go (Refused m i) q = text-cycle t names (refused-cycle (netIn t .firsts) (netIn t .seconds) q)
+          go (Refused m i) q = sym (net-left ∙ after-refused (cycleRules (netIn t .firsts) (netIn t .seconds)) _ q) ∙ e
 
-      text-cycle-refused : TextCycle t → (k : ℕ) × (refusal (benchRules t room) ≡ Refused 16 k)
-      text-cycle-refused c =
-          let w = cycle-refused (netIn t .firsts) (netIn t .seconds) (net-cycle t names c) in
-          (w .0, net-left ∙ after-refused (cycleRules (netIn t .firsts) (netIn t .seconds)) _ (w .1))
+      sixteen-net : {k : ℕ} → refusal (cycleRules (netIn t .firsts) (netIn t .seconds)) ≡ Refused 16 k → refusal (benchRules t room) ≡ Refused 16 k
+      sixteen-net e = net-left ∙ after-refused (cycleRules (netIn t .firsts) (netIn t .seconds)) _ e
+
+  -- without 14 and 15 the text is right in syntax and names
+  module _ {P : Type 0} where
+    right : (refusal (syntaxRules t) ≡ Fine → refusal (nameRules t (defsIn t) (usesIn t)) ≡ Fine → P) → Without 14 → Without 15 → P
+    right f a b = let syntax = no-14 a in f syntax (no-15 syntax b)
 
   pub sixteen : Without 14 → Without 15 → ((k : ℕ) × (refusal (benchRules t room) ≡ Refused 16 k)) ↔ TextCycle t
-  sixteen a b =
-      let syntax = no-14 a in
-      let names = no-15 syntax b in
-      (λ (k, e). refused-text-cycle syntax names k e, text-cycle-refused syntax names)
+  sixteen =
+      right
+      (λ syntax names. (
+        λ (k, e). text-cycle t names (refused-cycle (netIn t .firsts) (netIn t .seconds) (net-sixteen syntax names e)),
+        λ c. let w = cycle-refused (netIn t .firsts) (netIn t .seconds) (net-cycle t names c) in (w .0, sixteen-net syntax names (w .1)),
+      ))
+
+  -- and it names the first gate in the text that can't be placed
+  pub sixteen-place : Without 14 → Without 15 → (g : ℕ) → (refusal (benchRules t room) ≡ Refused 16 g) ↔ FirstLeft t g
+  sixteen-place =
+      right
+      (λ syntax names g.
+      let f = right-text t syntax .is-formed in (
+        λ e. placing.text-left t f names g (refused-left (netIn t .firsts) (netIn t .seconds) (net-sixteen syntax names e)),
+        λ w. sixteen-net syntax names (left-refused (netIn t .firsts) (netIn t .seconds) (placing.net-left t f names g w)),
+      ))

@@ -17,13 +17,15 @@ use Rattle.ground.proofs.Counting.{count-below}
 use Rattle.ground.proofs.Lists.{collect-length}
 use Rattle.ground.proofs.Collect.{collect-get, collect-from}
 use Rattle.words.specs.Words.{wordAt, wordsOf, endsOf}
-use Rattle.statements.specs.Lines.{kindOf, wordIn}
+use Rattle.syntax.specs.Kinds.{kindOf}
+use Rattle.statements.specs.Lines.{wordIn}
 use Rattle.statements.specs.Tables.{isInput, isOutput, isGate, defines, inputsTo, gatesTo, inputsIn, gatesIn, definedAt, numberAt, defsOf, numbersOf, outsOf, firstsOf, secondsOf, kindsOf}
 use Rattle.statements.proofs.Lengths.{outs-length, firsts-length}
 use Rattle.records.specs.Net.{gatesOf, pinOf}
 use Rattle.names.specs.Names as names
 use Rattle.bench.specs.Text.{formsIn, defsIn, outsIn, firstsIn, numberIn, netIn}
-use Rattle.equations.specs.Meaning.{linesIn, wordOn, nameOn, kindOn, sourceOn}
+use Rattle.shape.specs.Shape.{wordOn}
+use Rattle.equations.specs.Meaning.{linesIn, nameOn, kindOn, sourceOn}
 use Rattle.equations.specs.Right.{Line}
 use Rattle.equations.specs.Numbers.{gateNames, inputNames, nameOf, numberOf}
 
@@ -48,7 +50,7 @@ nth test t {j} l =
     let w = collect-from (test (formsIn t)) (λ k. k) (linesIn t) j l in
     record { place = w .place; line = record { inside = w .below; passes = w .passes }; before = w .before }
 
-map-get : (f : ℕ → ℕ) (l : List ℕ) (k : ℕ) → k < length l → getD (map f l) k 0 ≡ f (getD l k 0)
+pub map-get : (f : ℕ → ℕ) (l : List ℕ) (k : ℕ) → k < length l → getD (map f l) k 0 ≡ f (getD l k 0)
 map-get f (x ∷ l) zero h = refl
 map-get f (x ∷ l) (suc k) h = map-get f l k (le-of-suc-le-suc h)
 
@@ -163,7 +165,7 @@ module _ {t : List ℕ} {k : ℕ} where
       ∙ get l f)
 
   -- a line that defines a name is a gate or an input
-  by-cases : {P : Type 0} → (Line isGate t k → P) → (Line isInput t k → P) → Line defines t k → P
+  pub by-cases : {P : Type 0} → (Line isGate t k → P) → (Line isInput t k → P) → Line defines t k → P
   by-cases {P} g i l = go (isInput (formsIn t) k) refl (l .passes)
     where
       go : (b : Bool) → isInput (formsIn t) k ≡ b → (b || isGate (formsIn t) k) ≡ true → P

@@ -16,7 +16,8 @@ use Rattle.statements.specs.Lines.{wordIn}
 use Rattle.statements.specs.Tables.{isOutput, isGate, defines, definedAt, defsOf, outsOf, firstsOf, secondsOf}
 use Rattle.statements.proofs.Sizes.{Inside, outs-within, firsts-within, seconds-within}
 use Rattle.bench.specs.Text.{formsIn, defsIn, outsIn, firstsIn, secondsIn, usesIn}
-use Rattle.equations.specs.Meaning.{linesIn, wordOn, sourceOn}
+use Rattle.shape.specs.Shape.{wordOn}
+use Rattle.equations.specs.Meaning.{linesIn, sourceOn}
 use Rattle.equations.specs.Right.{Line, Defines}
 use Rattle.equations.proofs.Tables.{placeOf, tableOf, Nth, nth, get, get-inside, def-get}
 

@@ -19,9 +19,11 @@ use Rattle.words.specs.Words.{same}
 use Rattle.syntax.specs.Syntax.{RightText}
 use Rattle.statements.specs.Tables.{isInput, isOutput, defines, inputsTo, inputsIn, gatesIn}
 use Rattle.bench.specs.Text.{formsIn}
-use Rattle.equations.specs.Meaning.{linesIn, wordOn, nameOn, Solves}
+use Rattle.shape.specs.Shape.{wordOn}
+use Rattle.equations.specs.Meaning.{linesIn, nameOn, Solves}
 use Rattle.equations.specs.Right.{Line, Defined, NamesRight, TextCycle}
 use Rattle.equations.specs.Numbers.{lineFor}
+use Rattle.equations.specs.Placing.{InOrder}
 
 -- how many lines the records have
 abbrev pub sizeIn : List ℕ → ℕ
@@ -71,6 +73,7 @@ pub record OneSolution {A : Type 0} (gate : ℕ → (ℕ → A) → A) (t : List
 pub record Computes (t c : List ℕ) : Type 0 where
   pub check : checkOf c ≡ Accepted (sizeIn t) (inputsIn (formsIn t)) (outputsIn t)
   pub lines : OwnLines t
+  pub gates : InOrder t
   pub outputs : (k : ℕ) → k < sizeIn t → (record-of.isOutput c k ≡ true) ↔ ((w : List ℕ) × IsOutput t w × (lineFor t w ≡ k))
   -- for every pattern, with three values
   pub values : (p : List ℕ) → OneSolution gateOf t (λ j. getD p j 0) (λ w. getD (goodOf c p (sizeIn t)) (lineFor t w) 0)

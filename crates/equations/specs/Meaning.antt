@@ -9,13 +9,10 @@ use lib.Dec.{eqb}
 use lib.ListN.{length, getD}
 use Rattle.ground.specs.Choose.{choose}
 use Rattle.words.specs.Words.{wordAt, wordsOf, endsOf}
-use Rattle.statements.specs.Lines.{kindOf, wordIn}
+use Rattle.syntax.specs.Kinds.{kindOf}
 use Rattle.statements.specs.Tables.{isInput, isGate, inputsTo, definedAt}
+use Rattle.shape.specs.Shape.{wordOn}
 use Rattle.bench.specs.Text.{formsIn}
-
--- word j of line k
-abbrev pub wordOn : List ℕ → ℕ → ℕ → List ℕ
-wordOn t k j = wordAt t (wordIn (wordsOf t) (endsOf t) k j)
 
 -- the name that line k defines
 abbrev pub nameOn : List ℕ → ℕ → List ℕ

@@ -7,7 +7,8 @@ use mathlib.Core.List.{List}
 use Prim.Native.Nat.{ℕ, _<_}
 use Rattle.statements.specs.Tables.{isOutput, isGate, defines}
 use Rattle.bench.specs.Text.{formsIn}
-use Rattle.equations.specs.Meaning.{linesIn, wordOn, nameOn, sourceOn}
+use Rattle.shape.specs.Shape.{wordOn}
+use Rattle.equations.specs.Meaning.{linesIn, nameOn, sourceOn}
 
 -- line k is one of those that a test of forms picks: an input, an output, a gate, one that defines a name
 pub record Line (test : List ℕ → ℕ → Bool) (t : List ℕ) (k : ℕ) : Type 0 where

@@ -1,16 +1,17 @@
 -- Refusal 16 says what its words do; what the order is where it is not given, and which gate it names where it is.
 -- Assumes nothing.
 use mathlib.Core.Path.{_≡_, refl, sym, _∙_}
-use mathlib.Core.Logic.{⊎-elim}
+use mathlib.Core.Logic.{inl, ⊎-elim}
 use mathlib.Core.Bool.{Bool, true, false, false≢true}
 use mathlib.Core.List.{List}
 use Prim.Native.Nat.{ℕ, _≤_, _<_}
 use native.Mathlib.Omega.{arith}
 use lib.ListN.{length, getD, take}
 use Rattle.ground.specs.Lists.{elem, indexIn}
+use Rattle.ground.proofs.Tests.{either}
 use Rattle.answers.specs.Rules.{refusal, Applies, AllHold, Same, AllSay}
 use Rattle.answers.specs.declared.Ruling.the-variants.{Fine, Refused}
-use Rattle.answers.proofs.Rules.{applies, all-hold}
+use Rattle.answers.proofs.Rules.{applies, refused, all-hold}
 use Rattle.order.specs.Order.{orderOf, Order, Places, Source, cycleRules}
 use Rattle.order.proofs.Gates.{order-full, gate-inside, sources-placed, gate-index}
 use Rattle.order.proofs.Unique.{order-placed, placed-in}
@@ -78,3 +79,10 @@ module _ (a b : List ℕ) where
       placed j l h low true q = refl
       placed j l h low false q =
           absurd (omega (arith, low j (omega arith, λ p. false≢true (sym q ∙ gate-says j .tests p))))
+
+  -- and the first gate that is left is refused
+  pub left-refused : {k : ℕ} → FirstLeft a b 16 k → refusal (cycleRules a b) ≡ Refused 16 k
+  unfolding Applies cycleRules
+  left-refused {k} w =
+      refused (cycleRules a b) cycle-says 16 k
+      (inl (refl, (w .inside, w .left), λ j (l, n). ⊎-elim (λ h. absurd (n (w .first j h))) (λ h. h) (either j k)))

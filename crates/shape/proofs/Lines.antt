@@ -6,16 +6,17 @@ use mathlib.Core.Bool.{true, false, false≢true}
 use mathlib.Core.List.{List, [], _∷_, _++_, append-assoc, append-nil}
 use Prim.Native.Nat.{ℕ}
 use lib.Dec.{T}
+use lib.ListN.{length}
 use Rattle.words.specs.Words.{within, wordByte}
 use Rattle.syntax.specs.Regular.{Re, eps, one, seq, alt, star, has, Has}
-use Rattle.syntax.specs.Grammar.{signs, placeIn, symbol, symbols, sign, blanks, name, mark, close, oneArgument, twoArguments, gate, statement, comment, line}
-use Rattle.statements.specs.Lines.{inputWord}
-use Rattle.shape.specs.Shape.{outputWord, Port, Kind1, Kind2, Shape, blank, port, gate1, gate2}
+use Rattle.syntax.specs.Grammar.{signs, placeIn, symbol, symbols, sign, keys, blanks, name, mark, close, oneArgument, twoArguments, gate, statement, comment, line}
+use Rattle.syntax.specs.Kinds.{inputWord, outputWord, portWords, kinds, kindWords, Among}
+use Rattle.shape.specs.Shape.{Shape, blank, port}
 use Rattle.shape.proofs.Symbols.{Gap, hasOwn, no-feed-byte}
 use Rattle.shape.proofs.Pieces as p
 use Rattle.shape.proofs.Pieces.{All, NoFeed, Off, Ends, Pieces, lineWords}
 use Rattle.shape.proofs.Parse.{two, nil, sign-is, all-of, blanks-gap}
-use Rattle.shape.proofs.Spelling.{Spelt, keys, keys-spelt, worded, named, Marked, marked}
+use Rattle.shape.proofs.Spelling.{Spelt, keywords, keys-spelt, worded, named, Marked, marked}
 
 -- ---- the signs and the keywords
 
@@ -40,27 +41,20 @@ equals : Sign 61
 unfolding symbol has signs placeIn wordByte within
 equals = record { own = tt; is-gap = record { off = refl; no-hash = refl; no-feed = refl } }
 
-abbrev ports : List (List ℕ)
-ports = (73 ∷ 78 ∷ 80 ∷ 85 ∷ 84 ∷ []) ∷ (79 ∷ 85 ∷ 84 ∷ 80 ∷ 85 ∷ 84 ∷ []) ∷ []
-
-abbrev pub kinds1 : List (List ℕ)
-kinds1 = (66 ∷ 85 ∷ 70 ∷ 70 ∷ []) ∷ (78 ∷ 79 ∷ 84 ∷ []) ∷ []
-
-abbrev pub kinds2 : List (List ℕ)
-kinds2 =
-    (65 ∷ 78 ∷ 68 ∷ []) ∷ (78 ∷ 65 ∷ 78 ∷ 68 ∷ []) ∷ (79 ∷ 82 ∷ []) ∷ (78 ∷ 79 ∷ 82 ∷ []) ∷ (88 ∷ 79 ∷ 82 ∷ []) ∷ (88 ∷ 78 ∷ 79 ∷ 82 ∷ []) ∷ []
-
-port-spelt : (l : List ℕ) → Has (keys ports) (symbols l) → Spelt Port l
+port-spelt : (l : List ℕ) → Has (keys portWords) (symbols l) → Spelt (Among portWords) l
 unfolding symbol has signs placeIn wordByte within inputWord outputWord
-port-spelt = keys-spelt Port ports tt (λ w k. k)
+port-spelt = keys-spelt (Among portWords) portWords tt (λ w k. k)
 
-kind1-spelt : (l : List ℕ) → Has (keys kinds1) (symbols l) → Spelt Kind1 l
-unfolding symbol has signs placeIn wordByte within
-kind1-spelt = keys-spelt Kind1 kinds1 tt (λ w k. k)
+kind-spelt : (n : ℕ) → T (keywords (kindWords n)) → (l : List ℕ) → Has (keys (kindWords n)) (symbols l) → Spelt (Among (kindWords n)) l
+kind-spelt n t = keys-spelt (Among (kindWords n)) (kindWords n) t (λ w k. k)
 
-kind2-spelt : (l : List ℕ) → Has (keys kinds2) (symbols l) → Spelt Kind2 l
-unfolding symbol has signs placeIn wordByte within
-kind2-spelt = keys-spelt Kind2 kinds2 tt (λ w k. k)
+of-one : T (keywords (kindWords 1))
+unfolding symbol has signs placeIn wordByte within kindWords kinds
+of-one = tt
+
+of-two : T (keywords (kindWords 2))
+unfolding symbol has signs placeIn wordByte within kindWords kinds
+of-two = tt
 
 -- ---- the arguments
 
@@ -105,23 +99,25 @@ two-arguments l h =
 
 -- ---- gates and statements
 
--- a gate's kind and sources, or a statement
-data Gate (l : List ℕ) : Type 0 where
-  single : (k y : List ℕ) → Kind1 k → Pieces l (k ∷ y ∷ []) → Gate l
-  double : (k y z : List ℕ) → Kind2 k → Pieces l (k ∷ y ∷ z ∷ []) → Gate l
+-- a gate's kind and its sources
+record Gate (l : List ℕ) : Type 0 where
+  kind : List ℕ
+  sources : List (List ℕ)
+  is : Among (kindWords (length sources)) kind
+  pieces : Pieces l (kind ∷ sources)
 
 gates : (l : List ℕ) → Has gate (symbols l) → Gate l
 unfolding gate Has
 gates l h =
     ⊎-elim
     (λ s.
-    let k = worded (keys kinds1) oneArgument kind1-spelt l s in
+    let k = worded (keys (kindWords 1)) oneArgument (kind-spelt 1 of-one) l s in
     let y = one-argument (k .rest) (k .follows) in
-    single (k .word) (y .0) (k .kind) (k .pieces (y .1 .off) (y .1 .pieces)))
+    record { kind = k .word; sources = y .0 ∷ []; is = k .kind; pieces = k .pieces (y .1 .off) (y .1 .pieces) })
     (λ s.
-    let k = worded (keys kinds2) twoArguments kind2-spelt l s in
+    let k = worded (keys (kindWords 2)) twoArguments (kind-spelt 2 of-two) l s in
     let y = two-arguments (k .rest) (k .follows) in
-    double (k .word) (y .0) (y .1) (k .kind) (k .pieces (y .2 .off) (y .2 .pieces)))
+    record { kind = k .word; sources = y .0 ∷ y .1 ∷ []; is = k .kind; pieces = k .pieces (y .2 .off) (y .2 .pieces) })
     h
 
 record Said (l : List ℕ) : Type 0 where
@@ -129,23 +125,23 @@ record Said (l : List ℕ) : Type 0 where
   shape : Shape words
   pieces : Pieces l words
 
--- a gate behind its name
-defined : (x : List ℕ) {l m : List ℕ} → ((ws : List (List ℕ)) → Pieces m ws → Pieces l (x ∷ ws)) → Gate m → Said l
-defined x f (single k y e q) = record { words = x ∷ k ∷ y ∷ []; shape = gate1 x k y e; pieces = f _ q }
-defined x f (double k y z e q) = record { words = x ∷ k ∷ y ∷ z ∷ []; shape = gate2 x k y z e; pieces = f _ q }
-
 statements : (l : List ℕ) → Has statement (symbols l) → Said l
 unfolding statement Has
 statements l h =
     ⊎-elim
     (λ s.
-    let k = worded (keys ports) oneArgument port-spelt l s in
+    let k = worded (keys portWords) oneArgument port-spelt l s in
     let y = one-argument (k .rest) (k .follows) in
     record { words = k .word ∷ y .0 ∷ []; shape = port (k .word) (y .0) (k .kind); pieces = k .pieces (y .1 .off) (y .1 .pieces) })
     (λ s.
     let n = named (mark 61 gate) l s in
     let m = signed gate (n .rest) equals (n .follows) in
-    defined (n .word) (λ ws q. n .pieces (m .off) (m .pieces q)) (gates (m .rest) (m .follows)))
+    let g = gates (m .rest) (m .follows) in
+    record {
+      words = n .word ∷ g .kind ∷ g .sources;
+      shape = Shape.gate (n .word) (g .kind) (g .sources) (g .is);
+      pieces = n .pieces (m .off) (m .pieces (g .pieces));
+    })
     h
 
 -- ---- lines

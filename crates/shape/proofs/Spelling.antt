@@ -1,7 +1,7 @@
 -- Words in the grammar: names and keywords, what stands behind them, and signs.
 -- Assumes nothing.
 use mathlib.Core.Path.{_≡_, refl, sym, ap, _∙_, subst}
-use mathlib.Core.Logic.{_⊎_, inl, inr, ⊎-elim}
+use mathlib.Core.Logic.{inl, inr, ⊎-elim}
 use mathlib.Core.Bool.{Bool, true, false, _&&_}
 use mathlib.Core.List.{List, [], _∷_, _++_}
 use Prim.Native.Nat.{ℕ, zero, suc}
@@ -9,9 +9,9 @@ use lib.Dec.{T}
 use mir.Facts.{and-yes}
 use Rattle.ground.proofs.Tests.{T-is}
 use Rattle.words.specs.Words.{wordByte}
-use Rattle.syntax.specs.Regular as r
-use Rattle.syntax.specs.Regular.{Re, seq, alt, Has}
-use Rattle.syntax.specs.Grammar.{symbols, sign, letters, wordSymbol, upTo, blanks, name, mark}
+use Rattle.syntax.specs.Regular.{Re, seq, Has}
+use Rattle.syntax.specs.Kinds.{Among}
+use Rattle.syntax.specs.Grammar.{symbols, sign, letters, keys, wordSymbol, upTo, blanks, name, mark}
 use Rattle.shape.proofs.Symbols.{Gap, hasOwn, word-byte}
 use Rattle.shape.proofs.Pieces as p
 use Rattle.shape.proofs.Pieces.{All, Letter, Off, Pieces}
@@ -94,26 +94,16 @@ key-spelt K (b ∷ w) t q l h = record {
   kind = q;
 }
 
--- one of several keywords, in the grammar and in words
-abbrev pub keys : List (List ℕ) → Re
-keys [] = r.none
-keys (k ∷ []) = letters k
-keys (k ∷ j ∷ ks) = alt (letters k) (keys (j ∷ ks))
-
-abbrev pub Among : List (List ℕ) → List ℕ → Type 0
-Among [] w = ⊥
-Among (k ∷ []) w = w ≡ k
-Among (k ∷ j ∷ ks) w = (w ≡ k) ⊎ Among (j ∷ ks) w
-
+-- one of several keywords
 abbrev pub keywords : List (List ℕ) → Bool
 keywords [] = true
 keywords (k ∷ ks) = keyword k && keywords ks
 
 pub keys-spelt : (K : List ℕ → Type 0) (ks : List (List ℕ)) → T (keywords ks) → ((w : List ℕ) → Among ks w → K w)
     → (l : List ℕ) → Has (keys ks) (symbols l) → Spelt K l
-unfolding Has
+unfolding Has keys
 keys-spelt K [] t f l h = absurd h
-keys-spelt K (k ∷ []) t f l h = key-spelt K k (and-yes (keyword k) _ t .0) (f k refl) l h
+keys-spelt K (k ∷ []) t f l h = key-spelt K k (and-yes (keyword k) _ t .0) (f k (inl refl)) l h
 keys-spelt K (k ∷ j ∷ ks) t f l h =
     let u = and-yes (keyword k) _ t in
     ⊎-elim (λ x. key-spelt K k (u .0) (f k (inl refl)) l x) (λ x. keys-spelt K (j ∷ ks) (u .1) (λ w m. f w (inr m)) l x) h

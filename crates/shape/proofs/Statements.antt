@@ -1,18 +1,19 @@
--- Line k of a right text: it has no word, or two, three or four, and what each of these is.
+-- Line k of a right text: it has no word, or those of an INPUT or OUTPUT, or those of a gate.
 -- Assumes nothing.
-use mathlib.Core.Path.{_≡_, refl, sym, ap, _∙_, subst}
+use mathlib.Core.Path.{_≡_, sym, ap, _∙_, subst}
 use mathlib.Core.Logic.{_⊎_, inl, inr}
 use mathlib.Core.List.{List, map}
-use Prim.Native.Nat.{ℕ, _<_}
+use Prim.Native.Nat.{ℕ, _+_, _<_}
 use native.Mathlib.Omega.{arith}
 use lib.ListN.{length, getD, length-map, List·getD-map}
 use lib.Seq.{ext-getD}
 use Rattle.ground.specs.Lists.{table}
 use Rattle.ground.proofs.Lists.{table-length, table-get}
 use Rattle.words.specs.Words.{wordAt, wordsOf, endsOf}
+use Rattle.syntax.specs.Kinds.{portWords, kindWords, Among}
 use Rattle.syntax.specs.Syntax.{Formed}
 use Rattle.statements.specs.Lines.{wordIn, sizeAt}
-use Rattle.shape.specs.Shape.{Shape, blank, port, gate1, gate2, Port, Kind1, Kind2, wordsOn}
+use Rattle.shape.specs.Shape.{Shape, blank, port, gate, wordsOn, wordOn}
 use Rattle.shape.proofs.Rows.{Row, row-at}
 use Rattle.shape.proofs.Texts.{rows-of}
 
@@ -33,13 +34,13 @@ line-shape t f k h =
     subst (λ (l : List ℕ). Shape (map (wordAt t) l)) (row-table r) (r .shape)
 
 module _ (t : List ℕ) (k : ℕ) where
-  pub words-long : length (wordsOn t k) ≡ sizeAt (endsOf t) k
+  words-long : length (wordsOn t k) ≡ sizeAt (endsOf t) k
   unfolding wordsOn
   words-long =
       length-map (table (wordIn (wordsOf t) (endsOf t) k) (sizeAt (endsOf t) k)) (wordAt t)
       ∙ table-length (wordIn (wordsOf t) (endsOf t) k) (sizeAt (endsOf t) k)
 
-  pub words-at : (j : ℕ) → j < sizeAt (endsOf t) k → getD (wordsOn t k) j (wordAt t 0) ≡ wordAt t (wordIn (wordsOf t) (endsOf t) k j)
+  words-at : (j : ℕ) → j < sizeAt (endsOf t) k → getD (wordsOn t k) j (wordAt t 0) ≡ wordOn t k j
   unfolding wordsOn
   words-at j l =
       List·getD-map (wordAt t) (table (wordIn (wordsOf t) (endsOf t) k) (sizeAt (endsOf t) k)) j 0
@@ -47,41 +48,15 @@ module _ (t : List ℕ) (k : ℕ) where
 
 -- ---- what a line says
 
-sizes : {ws : List (List ℕ)} → Shape ws → (length ws ≡ 0) ⊎ ((length ws ≡ 2) ⊎ ((length ws ≡ 3) ⊎ (length ws ≡ 4)))
-sizes blank = inl refl
-sizes (port p x e) = inr (inl refl)
-sizes (gate1 x k y e) = inr (inr (inl refl))
-sizes (gate2 x k y z e) = inr (inr (inr refl))
+-- by its number of words, its first and its second: nothing, INPUT or OUTPUT, or a gate with n sources
+abbrev pub Told : ℕ → List ℕ → List ℕ → Type 0
+Told size first second = (size ≡ 0) ⊎ (((size ≡ 2) × Among portWords first) ⊎ ((n : ℕ) × (size ≡ 2 + n) × Among (kindWords n) second))
 
-port-of : {ws : List (List ℕ)} (d : List ℕ) → Shape ws → length ws ≡ 2 → Port (getD ws 0 d)
-port-of d blank n = absurd (omega arith)
-port-of d (port p x e) n = e
-port-of d (gate1 x k y e) n = absurd (omega arith)
-port-of d (gate2 x k y z e) n = absurd (omega arith)
+told : {ws : List (List ℕ)} → Shape ws → {size : ℕ} → length ws ≡ size → (d : List ℕ) {word : ℕ → List ℕ} → ((j : ℕ) → j < size → getD ws j d ≡ word j)
+    → Told size (word 0) (word 1)
+told blank e d f = inl (sym e)
+told (port p x a) e d f = inr (inl (sym e, subst (Among portWords) (f 0 (omega arith)) a))
+told (gate x k s a) e d f = inr (inr (length s, omega arith, subst (Among (kindWords (length s))) (f 1 (omega arith)) a))
 
-kind1-of : {ws : List (List ℕ)} (d : List ℕ) → Shape ws → length ws ≡ 3 → Kind1 (getD ws 1 d)
-kind1-of d blank n = absurd (omega arith)
-kind1-of d (port p x e) n = absurd (omega arith)
-kind1-of d (gate1 x k y e) n = e
-kind1-of d (gate2 x k y z e) n = absurd (omega arith)
-
-kind2-of : {ws : List (List ℕ)} (d : List ℕ) → Shape ws → length ws ≡ 4 → Kind2 (getD ws 1 d)
-kind2-of d blank n = absurd (omega arith)
-kind2-of d (port p x e) n = absurd (omega arith)
-kind2-of d (gate1 x k y e) n = absurd (omega arith)
-kind2-of d (gate2 x k y z e) n = e
-
-module _ (t : List ℕ) (f : Formed t) (k : ℕ) (h : k < length (endsOf t)) where
-  -- no word, two, three or four
-  pub line-size : (sizeAt (endsOf t) k ≡ 0) ⊎ ((sizeAt (endsOf t) k ≡ 2) ⊎ ((sizeAt (endsOf t) k ≡ 3) ⊎ (sizeAt (endsOf t) k ≡ 4)))
-  line-size = subst (λ (n : ℕ). (n ≡ 0) ⊎ ((n ≡ 2) ⊎ ((n ≡ 3) ⊎ (n ≡ 4)))) (words-long t k) (sizes (line-shape t f k h))
-
-  -- of two the first is INPUT or OUTPUT, of three the second BUFF or NOT, of four one of the other kinds
-  pub line-port : sizeAt (endsOf t) k ≡ 2 → Port (wordAt t (wordIn (wordsOf t) (endsOf t) k 0))
-  line-port e = subst Port (words-at t k 0 (omega (arith, e))) (port-of (wordAt t 0) (line-shape t f k h) (words-long t k ∙ e))
-
-  pub line-gate1 : sizeAt (endsOf t) k ≡ 3 → Kind1 (wordAt t (wordIn (wordsOf t) (endsOf t) k 1))
-  line-gate1 e = subst Kind1 (words-at t k 1 (omega (arith, e))) (kind1-of (wordAt t 0) (line-shape t f k h) (words-long t k ∙ e))
-
-  pub line-gate2 : sizeAt (endsOf t) k ≡ 4 → Kind2 (wordAt t (wordIn (wordsOf t) (endsOf t) k 1))
-  line-gate2 e = subst Kind2 (words-at t k 1 (omega (arith, e))) (kind2-of (wordAt t 0) (line-shape t f k h) (words-long t k ∙ e))
+pub line-told : (t : List ℕ) → Formed t → (k : ℕ) → k < length (endsOf t) → Told (sizeAt (endsOf t) k) (wordOn t k 0) (wordOn t k 1)
+line-told t f k h = told (line-shape t f k h) (words-long t k) (wordAt t 0) (words-at t k)

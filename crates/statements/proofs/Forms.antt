@@ -16,7 +16,8 @@ use Rattle.ground.specs.Lists.{table}
 use Rattle.ground.proofs.Counting.{Sum, no-sum, sum-more, sum-all, count-same}
 use Rattle.ground.proofs.Lists.{table-length, table-get, Tabled, tabled-none, tabled-more, tabled-all}
 use Rattle.words.specs.Words.{wordAt, same}
-use Rattle.statements.specs.Lines.{inputWord, wordIn, sizeAt, formOf, formsOf}
+use Rattle.syntax.specs.Kinds.{inputWord}
+use Rattle.statements.specs.Lines.{wordIn, sizeAt, formOf, formsOf}
 use Rattle.statements.specs.Tables.{isGate}
 use Rattle.statements.specs.Owed.{Forms}
 

@@ -1,31 +1,14 @@
 -- The lines of a text that is right in syntax, by their words: two words are an INPUT or an OUTPUT, three or four a gate.
 -- `ws` has the first bytes of the text's words, `es` how many of them stand before each line's end.
 -- Assumes nothing.
-use mathlib.Core.List.{List, [], _∷_}
+use mathlib.Core.List.{List}
 use Prim.Native.Nat.{ℕ, zero, suc, _+_, _-_}
 use lib.Dec.{eqb}
 use lib.ListN.{length, getD}
 use Rattle.ground.specs.Choose.{choose}
 use Rattle.ground.specs.Lists.{table}
 use Rattle.words.specs.Words.{wordAt, same}
-
--- ---- keywords
-
--- INPUT
-unfoldable pub inputWord : List ℕ
-inputWord = 73 ∷ 78 ∷ 80 ∷ 85 ∷ 84 ∷ []
-
--- BUFF NOT AND NAND OR NOR XOR XNOR are the kinds 1 to 8
-unfoldable pub kindOf : List ℕ → ℕ
-kindOf w =
-    choose (same w (66 ∷ 85 ∷ 70 ∷ 70 ∷ [])) 1
-    (choose (same w (78 ∷ 79 ∷ 84 ∷ [])) 2
-    (choose (same w (65 ∷ 78 ∷ 68 ∷ [])) 3
-    (choose (same w (78 ∷ 65 ∷ 78 ∷ 68 ∷ [])) 4
-    (choose (same w (79 ∷ 82 ∷ [])) 5
-    (choose (same w (78 ∷ 79 ∷ 82 ∷ [])) 6
-    (choose (same w (88 ∷ 79 ∷ 82 ∷ [])) 7
-    (choose (same w (88 ∷ 78 ∷ 79 ∷ 82 ∷ [])) 8 0)))))))
+use Rattle.syntax.specs.Kinds.{inputWord}
 
 -- ---- a line's words
 

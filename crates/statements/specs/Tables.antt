@@ -10,7 +10,8 @@ use Rattle.ground.specs.Choose.{choose}
 use Rattle.ground.specs.Below.{countBelow}
 use Rattle.ground.specs.Lists.{collect}
 use Rattle.words.specs.Words.{wordAt}
-use Rattle.statements.specs.Lines.{kindOf, wordIn}
+use Rattle.syntax.specs.Kinds.{kindOf}
+use Rattle.statements.specs.Lines.{wordIn}
 
 -- ---- what line k is
 

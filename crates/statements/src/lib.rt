@@ -11,7 +11,8 @@ ghost use lib.ListN.{length, take};
 ghost use Rattle.ground.specs.Choose.{choose};
 ghost use Rattle.words.specs.Words.{wordAt, same};
 ghost use Rattle.words.specs.Owed.{Keyword};
-ghost use Rattle.statements.specs.Lines.{kindOf, startAt, wordIn, sizeAt, formOf};
+ghost use Rattle.syntax.specs.Kinds.{kindOf};
+ghost use Rattle.statements.specs.Lines.{startAt, wordIn, sizeAt, formOf};
 ghost use Rattle.statements.specs.Tables.{gatesIn, kindsOf};
 ghost use Rattle.statements.specs.Owed.{Forms, DefsRoom, Defs, OutsRoom, Outs, GatesRoom, Sources, KindsRoom};
 

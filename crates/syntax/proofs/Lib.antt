@@ -1,3 +1,4 @@
+pub mod KindTable
 pub mod Shortened
 pub mod Derivative
 pub mod Table

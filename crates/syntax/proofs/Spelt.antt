@@ -11,7 +11,8 @@ use borrow.Author.Tests.{eqb-true}
 use Rattle.ground.proofs.Tests.{both, T-is}
 use Rattle.words.specs.Words.{within, wordByte}
 use Rattle.syntax.specs.Regular.{Re, none, eps, one, seq, alt, star, has, Many, stop, more, Has}
-use Rattle.syntax.specs.Grammar.{signs, placeIn, symbol, symbols, letters, wordSymbol, upTo, blanks, name, mark, close, oneArgument, twoArguments, gate, statement, comment, line, bench}
+use Rattle.syntax.specs.Kinds.{inputWord, outputWord, kinds, kindWords}
+use Rattle.syntax.specs.Grammar.{signs, placeIn, symbol, symbols, letters, keys, wordSymbol, upTo, blanks, name, mark, close, oneArgument, twoArguments, gate, statement, comment, line, bench}
 use Rattle.syntax.specs.Syntax.{Formed}
 
 -- a byte of each symbol
@@ -69,7 +70,8 @@ has-back (alt r s) a w h =
 has-back (star r) a w h = many-back r (has-back r a) h
 
 bench-spelt : spelt bench ≡ true
-unfolding spelt allSpelt back byteOf has signs within wordByte placeIn symbol letters wordSymbol upTo blanks name mark close oneArgument twoArguments gate statement comment line bench
+unfolding spelt allSpelt back byteOf has
+    signs within wordByte placeIn symbol letters keys inputWord outputWord kinds kindWords wordSymbol upTo blanks name mark close oneArgument twoArguments gate statement comment line bench
 bench-spelt = refl
 
 later : (a w : List ℕ) → map back (a ++ w) ≡ a ++ w → map back w ≡ w

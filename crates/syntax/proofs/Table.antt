@@ -19,9 +19,10 @@ use Rattle.ground.proofs.Map.{map-at}
 use Rattle.ground.proofs.Lists.{table-length, table-get}
 use Rattle.words.specs.Words.{within, wordByte}
 use Rattle.syntax.specs.Regular.{Re, none, has}
-use Rattle.syntax.specs.Derivative.{cat, orElse, either, empty, next, live}
-use Rattle.syntax.specs.Grammar.{signs, placeIn, symbol, letters, wordSymbol, upTo, blanks, name, mark, close, oneArgument, twoArguments, gate, statement, comment, line, bench}
-use Rattle.syntax.specs.Owed.{SymbolTable, then, inName, ofOne, ofTwo, inKeyword, inKind, states, stateOf, told, row, rows, StateTable}
+use Rattle.syntax.specs.Derivative.{cat, orElse, either, empty, next, after, live}
+use Rattle.syntax.specs.Kinds.{inputWord, outputWord, kinds, kindWords}
+use Rattle.syntax.specs.Grammar.{signs, placeIn, symbol, letters, keys, wordSymbol, upTo, blanks, name, mark, close, oneArgument, twoArguments, gate, statement, comment, line, bench}
+use Rattle.syntax.specs.Owed.{SymbolTable, then, inName, inKeyword, inKind, states, stateOf, told, row, rows, StateTable}
 
 -- ---- symbols
 
@@ -36,7 +37,7 @@ symbol-small b h = ltb→lt (symbol b) 21 (at-below 256 (λ k. ltb (symbol k) 21
 -- ---- states
 
 count : length states ≡ 79
-unfolding states inName inKeyword inKind
+unfolding states inName inputWord outputWord inKeyword inKind
 count = refl
 
 row-length : (r : Re) → length (row r) ≡ 23
@@ -88,7 +89,8 @@ agree n s t h k l = one-same (s k) (t k) (eqb→eq (one (s k)) (one (t k)) (at-b
 
 -- a state goes on unless it is 0, and a text may end in 1, 2 and 3
 tests : (q : ℕ) → q < 79 → (live (stateOf q) ≡ ltb 0 q) × (empty (stateOf q) ≡ (ltb 0 q && ltb q 4))
-unfolding live stateOf states then inName ofOne ofTwo inKeyword inKind has cat orElse either empty next signs within wordByte placeIn symbol letters wordSymbol upTo blanks name mark close oneArgument twoArguments gate statement comment line bench
+unfolding live stateOf states then inName after inKeyword inKind has cat orElse either empty next
+    signs within wordByte placeIn symbol letters keys inputWord outputWord kinds kindWords wordSymbol upTo blanks name mark close oneArgument twoArguments gate statement comment line bench
 tests q h = (agree 79 (λ k. live (stateOf k)) (λ k. ltb 0 k) tt q h, agree 79 (λ k. empty (stateOf k)) (λ k. ltb 0 k && ltb k 4) tt q h)
 
 pub live-state : (q : ℕ) → q < 79 → live (stateOf q) ≡ ltb 0 q

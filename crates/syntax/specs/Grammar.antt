@@ -5,7 +5,8 @@ use Prim.Native.Nat.{ℕ, zero, suc}
 use lib.Dec.{eqb}
 use Rattle.ground.specs.Choose.{choose}
 use Rattle.words.specs.Words.{wordByte}
-use Rattle.syntax.specs.Regular.{Re, eps, one, seq, alt, star, has}
+use Rattle.syntax.specs.Regular.{Re, none, eps, one, seq, alt, star, has}
+use Rattle.syntax.specs.Kinds.{portWords, kindWords}
 
 -- ---- symbols
 
@@ -36,6 +37,12 @@ letters [] = eps
 letters (b ∷ []) = sign b
 letters (b ∷ c ∷ l) = seq (sign b) (letters (c ∷ l))
 
+-- one of several keywords
+unfoldable pub keys : List (List ℕ) → Re
+keys [] = none
+keys (w ∷ []) = letters w
+keys (w ∷ v ∷ ws) = alt (letters w) (keys (v ∷ ws))
+
 unfoldable pub wordSymbol : Re
 wordSymbol = one (7 ∷ 8 ∷ 9 ∷ 10 ∷ 11 ∷ 12 ∷ 13 ∷ 14 ∷ 15 ∷ 16 ∷ 17 ∷ 18 ∷ 19 ∷ [])
 
@@ -63,26 +70,13 @@ oneArgument = mark 40 (name close)
 unfoldable pub twoArguments : Re
 twoArguments = mark 40 (name (mark 44 (name close)))
 
--- BUFF NOT, and AND NAND OR NOR XOR XNOR
+-- a kind with as many arguments as it has sources
 unfoldable pub gate : Re
-gate =
-    alt
-    (seq (alt (letters (66 ∷ 85 ∷ 70 ∷ 70 ∷ [])) (letters (78 ∷ 79 ∷ 84 ∷ []))) (seq blanks oneArgument))
-    (seq
-    (alt (letters (65 ∷ 78 ∷ 68 ∷ []))
-    (alt (letters (78 ∷ 65 ∷ 78 ∷ 68 ∷ []))
-    (alt (letters (79 ∷ 82 ∷ []))
-    (alt (letters (78 ∷ 79 ∷ 82 ∷ []))
-    (alt (letters (88 ∷ 79 ∷ 82 ∷ []))
-    (letters (88 ∷ 78 ∷ 79 ∷ 82 ∷ [])))))))
-    (seq blanks twoArguments))
+gate = alt (seq (keys (kindWords 1)) (seq blanks oneArgument)) (seq (keys (kindWords 2)) (seq blanks twoArguments))
 
 -- INPUT(a), OUTPUT(a), or a = KIND(..)
 unfoldable pub statement : Re
-statement =
-    alt
-    (seq (alt (letters (73 ∷ 78 ∷ 80 ∷ 85 ∷ 84 ∷ [])) (letters (79 ∷ 85 ∷ 84 ∷ 80 ∷ 85 ∷ 84 ∷ []))) (seq blanks oneArgument))
-    (name (mark 61 gate))
+statement = alt (seq (keys portWords) (seq blanks oneArgument)) (name (mark 61 gate))
 
 -- # and anything but a line feed
 unfoldable pub comment : Re

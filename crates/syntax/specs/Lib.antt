@@ -1,4 +1,5 @@
 pub mod Regular
+pub mod Kinds
 pub mod Grammar
 pub mod Derivative
 pub mod Syntax

@@ -5,11 +5,12 @@ use mathlib.Core.Bool.{Bool, true, false, _&&_}
 use mathlib.Core.List.{List, [], _∷_, _++_, map}
 use Prim.Native.Nat.{ℕ, zero, suc, _+_, _*_, _-_, _/_, _<_}
 use lib.Dec.{leb, ltb}
-use lib.ListN.{length, getD}
+use lib.ListN.{length, getD, drop}
 use Rattle.ground.specs.Lists.{table}
 use Rattle.syntax.specs.Regular.{Re, none, eps, seq, alt, star}
-use Rattle.syntax.specs.Derivative.{next}
-use Rattle.syntax.specs.Grammar.{symbol, sign, letters, upTo, blanks, name, mark, close, oneArgument, twoArguments, gate, comment, line, bench}
+use Rattle.syntax.specs.Derivative.{next, after}
+use Rattle.syntax.specs.Kinds.{bytes, inputWord, outputWord}
+use Rattle.syntax.specs.Grammar.{symbol, symbols, sign, letters, upTo, blanks, name, mark, close, oneArgument, twoArguments, gate, comment, line, bench}
 
 -- ---- the table of the symbols: of each byte its symbol, as a letter from a on
 
@@ -27,28 +28,16 @@ unfoldable pub inName : ℕ → Re → List Re
 inName zero r = seq blanks r ∷ []
 inName (suc n) r = seq (upTo (suc n)) (seq blanks r) ∷ inName n r
 
--- the rest of a keyword, then what follows the keyword
-unfoldable pub ofOne : List ℕ → Re
-ofOne w = seq (letters w) (seq blanks oneArgument)
-
-unfoldable pub ofTwo : List ℕ → Re
-ofTwo w = seq (letters w) (seq blanks twoArguments)
-
 -- in INPUT or OUTPUT, which may also be a name of which n letters may still come
 unfoldable pub inKeyword : List ℕ → ℕ → List Re
 inKeyword [] n = alt (seq blanks oneArgument) (seq (upTo n) (seq blanks (mark 61 gate))) ∷ []
-inKeyword (b ∷ w) n = alt (ofOne (b ∷ w)) (seq (upTo n) (seq blanks (mark 61 gate))) ∷ inKeyword w (n - 1)
+inKeyword (b ∷ w) n = alt (seq (letters (b ∷ w)) (seq blanks oneArgument)) (seq (upTo n) (seq blanks (mark 61 gate))) ∷ inKeyword w (n - 1)
 
--- in the name of a kind: after A, AN, B, BU, BUF, N, NO, O, X, XN
+-- in the name of a kind, after these letters
 unfoldable pub inKind : List Re
 inKind =
-    ofTwo (78 ∷ 68 ∷ []) ∷ ofTwo (68 ∷ []) ∷
-    ofOne (85 ∷ 70 ∷ 70 ∷ []) ∷ ofOne (70 ∷ 70 ∷ []) ∷ ofOne (70 ∷ []) ∷
-    alt (ofOne (79 ∷ 84 ∷ [])) (seq (alt (letters (65 ∷ 78 ∷ 68 ∷ [])) (letters (79 ∷ 82 ∷ []))) (seq blanks twoArguments)) ∷
-    alt (ofOne (84 ∷ [])) (ofTwo (82 ∷ [])) ∷
-    ofTwo (82 ∷ []) ∷
-    seq (alt (letters (79 ∷ 82 ∷ [])) (letters (78 ∷ 79 ∷ 82 ∷ []))) (seq blanks twoArguments) ∷
-    ofTwo (79 ∷ 82 ∷ []) ∷ []
+    map (λ w. after gate (symbols (bytes w)))
+    ("A" ∷ "AN" ∷ "B" ∷ "BU" ∷ "BUF" ∷ "N" ∷ "NO" ∷ "O" ∷ "X" ∷ "XN" ∷ [])
 
 -- in the order of the table; first nothing, the start of a line, in a comment, after a statement
 unfoldable pub states : List Re
@@ -57,9 +46,9 @@ states =
     map then
     ((blanks ∷ [])
     ++ inName 15 (mark 61 gate)
-    ++ inKeyword (78 ∷ 80 ∷ 85 ∷ 84 ∷ []) 15
+    ++ inKeyword (drop 1 inputWord) 15
     ++ (alt (seq blanks oneArgument) (seq blanks (mark 61 gate)) ∷ [])
-    ++ inKeyword (85 ∷ 84 ∷ 80 ∷ 85 ∷ 84 ∷ []) 15
+    ++ inKeyword (drop 1 outputWord) 15
     ++ (seq blanks (name close) ∷ seq blanks gate ∷ seq blanks oneArgument ∷ seq blanks twoArguments ∷ seq blanks (name (mark 44 (name close))) ∷ [])
     ++ inKind
     ++ inName 15 (mark 44 (name close))

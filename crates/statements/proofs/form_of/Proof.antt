@@ -1,6 +1,7 @@
 -- `statements::form_of` meets its contract: the number of words decides, and of two words the first.
 -- Assumes nothing.
-use Rattle.statements.specs.Lines.{inputWord, wordIn, sizeAt, formOf}
+use Rattle.syntax.specs.Kinds.{inputWord}
+use Rattle.statements.specs.Lines.{wordIn, sizeAt, formOf}
 use Rattle.words.specs.Owed.{allWord}
 use Rattle.words.specs.Words.{wordByte, within, wordAt, same}
 use borrow.Author.Tests.{eq-eqb, ne-eqb}

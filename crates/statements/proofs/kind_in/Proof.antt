@@ -1,6 +1,6 @@
 -- `statements::kind_in` meets its contract.
 -- Assumes nothing.
-use Rattle.statements.specs.Lines.{kindOf}
+use Rattle.syntax.specs.Kinds.{kindOf}
 use Rattle.words.specs.Words.{wordAt}
 use borrow.Author.Tests.{le-leb, lt-leb}
 use Prim.Native.Nat.{ℕ}

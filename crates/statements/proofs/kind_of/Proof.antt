@@ -1,6 +1,6 @@
 -- `statements::kind_of` meets its contract: the keywords are tried from the last to the first.
 -- Assumes nothing.
-use Rattle.statements.specs.Lines.{kindOf}
+use Rattle.syntax.specs.Kinds.{kinds, kindOf}
 use Rattle.words.specs.Owed.{allWord, Keyword}
 use Rattle.words.specs.Words.{wordByte, within}
 use mathlib.Core.Path.{_≡_, refl}
@@ -17,7 +17,7 @@ keyword : {name : List ℕ} {at : ℕ} → allWord name ≡ true → length name
 keyword letters short inside = record { letters = letters; short = short; inside = inside }
 
 returns : tie.Need-returns
-unfolding kindOf
+unfolding kindOf kinds
 returns c =
     rw (
       c .kind-if8 .ensures,

@@ -2,7 +2,8 @@
 -- Assumes nothing.
 use Rattle.statements.proofs.Filling.{Filling, begun, more, so-many-are}
 use Rattle.statements.specs.Tables.{isGate, kindsOf}
-use Rattle.statements.specs.Lines.{kindOf, wordIn}
+use Rattle.syntax.specs.Kinds.{kindOf}
+use Rattle.statements.specs.Lines.{wordIn}
 use Rattle.words.specs.Words.{wordAt}
 use Rattle.ground.specs.Choose.{choose}
 use Prim.Native.Nat.{ℕ, _-_}
