@@ -35,7 +35,7 @@ module _ (net : Net) (r : Right net) where
       sizes-decide (recordsOf net) (sizeOf net) (net-long net) (λ few k l. net-layout net r (omega arith) k l)
       ∙ rw (net-inputs net r) (same-sizes (sizeOf net) (net .inputs) (outputsOf (recordsOf net)) (length (net .outputs)) outputs-ok)
 
-  net-says : AllSay (netSizes net)
+  pub net-says : AllSay (netSizes net)
   net-says = sizes-say (sizeOf net) (net .inputs) (length (net .outputs))
 
   -- in words: what is refused is the first that applies, and the first that applies is refused
