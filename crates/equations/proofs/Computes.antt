@@ -31,6 +31,7 @@ use Rattle.equations.proofs.Tables.{inputs-are}
 use Rattle.equations.proofs.RightNet.{size-is, number-below, right-net}
 use Rattle.equations.proofs.SameMeaning.{name-of, net-solved, text-solves}
 use Rattle.equations.proofs.Lines.{own-lines}
+use Rattle.equations.proofs.Fields.{own-records}
 use Rattle.equations.proofs.InOrder.{in-order}
 use Rattle.equations.proofs.Outputs.{outputs-exactly, outputs-count}
 use Rattle.equations.proofs.Parts.{Parts, parts}
@@ -91,6 +92,7 @@ module _ (t : List ℕ) (room : ℕ) (p : Parts t room) where
   computes-parts = record {
     check = accepted;
     lines = own-lines t (p .names) r;
+    records = own-records t (p .names) r few;
     gates = in-order t (right-text t (p .syntax) .is-formed) (p .names) r;
     outputs = outputs-exactly t (p .names) r;
     values = λ q.

@@ -8,6 +8,7 @@ pub mod Placing
 pub mod InOrder
 pub mod Lines
 pub mod Outputs
+pub mod Fields
 pub mod Parts
 pub mod Computes
 pub mod Accepted

@@ -8,7 +8,7 @@ use mathlib.Core.List.{List}
 use Prim.Native.Nat.{ℕ, _+_, _≤_, _<_}
 use lib.ListN.{getD}
 use Rattle.ground.specs.Below.{anyBelow, countBelow}
-use Rattle.gates.specs.Gate.{gateOf}
+use Rattle.gates.specs.Gate.{pinsOf, gateOf}
 use Rattle.gates.specs.Boolean.{boolGate}
 use Rattle.circuit.specs.declared.Checked.the-variants.{Accepted}
 use Rattle.circuit.specs.Record as record-of
@@ -17,10 +17,10 @@ use Rattle.simulate.specs.Work.{goodOf}
 use Rattle.simulate.specs.Boolean.{Vector, good, truthAt}
 use Rattle.words.specs.Words.{same}
 use Rattle.syntax.specs.Syntax.{RightText}
-use Rattle.statements.specs.Tables.{isInput, isOutput, defines, inputsTo, inputsIn, gatesIn}
+use Rattle.statements.specs.Tables.{isInput, isOutput, isGate, defines, inputsTo, inputsIn, gatesIn}
 use Rattle.bench.specs.Text.{formsIn}
 use Rattle.shape.specs.Shape.{wordOn}
-use Rattle.equations.specs.Meaning.{linesIn, nameOn, Solves}
+use Rattle.equations.specs.Meaning.{linesIn, nameOn, kindOn, sourceOn, Solves}
 use Rattle.equations.specs.Right.{Line, Defined, NamesRight, TextCycle}
 use Rattle.equations.specs.Numbers.{lineFor}
 use Rattle.equations.specs.Placing.{InOrder}
@@ -48,6 +48,12 @@ pub record OwnLines (t : List ℕ) : Type 0 where
   pub all : (k : ℕ) → k < sizeIn t → (w : List ℕ) × Defined t w × (lineFor t w ≡ k)
   pub inputs-first : (k : ℕ) → Line isInput t k → lineFor t (nameOn t k) ≡ inputsTo (formsIn t) k
 
+-- the records by the names of their lines: an input's has kind 0, a gate's its kind, and at each pin of it the line of the source's name
+pub record OwnRecords (t c : List ℕ) : Type 0 where
+  pub input : (k : ℕ) → Line isInput t k → record-of.kindAt c (lineFor t (nameOn t k)) ≡ 0
+  pub kind : (k : ℕ) → Line isGate t k → record-of.kindAt c (lineFor t (nameOn t k)) ≡ kindOn t k
+  pub pin : (k : ℕ) → Line isGate t k → (s : ℕ) → 1 ≤ s → s ≤ pinsOf (kindOn t k) → record-of.pinAt c (lineFor t (nameOn t k)) s ≡ lineFor t (sourceOn t k s)
+
 -- the name w stands in some OUTPUT
 pub record IsOutput (t w : List ℕ) : Type 0 where
   pub place : ℕ
@@ -74,6 +80,7 @@ pub record Computes (t c : List ℕ) : Type 0 where
   pub check : checkOf c ≡ Accepted (sizeIn t) (inputsIn (formsIn t)) (outputsIn t)
   pub lines : OwnLines t
   pub gates : InOrder t
+  pub records : OwnRecords t c
   pub outputs : (k : ℕ) → k < sizeIn t → (record-of.isOutput c k ≡ true) ↔ ((w : List ℕ) × IsOutput t w × (lineFor t w ≡ k))
   -- for every pattern, with three values
   pub values : (p : List ℕ) → OneSolution gateOf t (λ j. getD p j 0) (λ w. getD (goodOf c p (sizeIn t)) (lineFor t w) 0)
