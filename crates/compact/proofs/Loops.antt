@@ -10,6 +10,7 @@ use native.Mathlib.Omega.{arith}
 use lib.Dec.{ltb}
 use lib.ListN.{length, set, replicate, length-replicate}
 use borrow.Author.Tests.{lt-ltb, le-ltb}
+use Rattle.ground.proofs.Filled.{filled-at}
 use Rattle.tables.specs.Entries.{entriesOf}
 use Rattle.needs.specs.Needs.{whole, lacks, kept, turns, compacted}
 use Rattle.needs.proofs.Words.{meets-is}
@@ -37,18 +38,25 @@ row-faults {c} {s} {t} {F} {P} z p l = record { cells = omega (arith, z .faults,
 
 -- other memory of the same size
 pub sizes-after : {c s t : List ℕ} {F P : ℕ} (d r : List ℕ) → Sizes c s t F P → length d ≡ length c → length r ≡ length s → Sizes d r t F P
-sizes-after d r z e f = record { few-faults = z .few-faults; few-patterns = z .few-patterns; cells = e ∙ z .cells; faults = f ∙ z .faults; table = z .table }
+sizes-after d r z e f = record { few-faults = z .few-faults; few-patterns = z .few-patterns; cells = rw e (z .cells); faults = f ∙ z .faults; table = z .table }
 
 -- ---- the start
 
-pub start-sizes : (n k : ℕ) (t : List ℕ) (F P : ℕ) → n ≡ 65792 → k ≡ 256 → Sized F P (length t) → Sizes (replicate n 0) (replicate k 0) t F P
+start-sizes : (n k : ℕ) (t : List ℕ) (F P : ℕ) → 256 * F + F ≤ n → k ≡ 256 → Sized F P (length t) → Sizes (replicate n 0) (replicate k 0) t F P
 start-sizes n k t F P e f z = record {
   few-faults = z .few-faults;
   few-patterns = z .few-patterns;
-  cells = length-replicate {A = ℕ} n 0 ∙ e;
+  cells = rw (length-replicate {A = ℕ} n 0) e;
   faults = length-replicate {A = ℕ} k 0 ∙ f;
   table = z .product ∙ mul-comm F P;
 }
+
+-- counts and notes in memory of so many cells, all 0
+pub started : (cells : ℕ) {t : List ℕ} {F P : ℕ}
+    → 256 * F + F ≤ cells
+    → Sized F P (length t)
+    → Sizes (replicate cells 0) (replicate 256 0) t F P × (Zeros (replicate cells 0) × Zeros (replicate 256 0))
+started cells {t} {F} {P} room sized = (start-sizes cells 256 t F P room refl sized, (filled-at cells 0, filled-at 256 0))
 
 -- ---- the patterns below p are counted
 

@@ -3,7 +3,7 @@
 use mathlib.Core.Path.{_≡_}
 use mathlib.Core.Bool.{true}
 use mathlib.Core.List.{List}
-use Prim.Native.Nat.{ℕ, _*_, _≤_, _<_}
+use Prim.Native.Nat.{ℕ, _+_, _*_, _≤_, _<_}
 use lib.ListN.{length, getD}
 use Rattle.answers.specs.Rules.{refusal, unless}
 use Rattle.answers.specs.declared.Ruling.{Ruling}
@@ -16,7 +16,7 @@ use Rattle.compact.specs.Compact.{marksRules}
 pub record Sizes (c s t : List ℕ) (F P : ℕ) : Type 0 where
   pub few-faults : F ≤ 256
   pub few-patterns : P ≤ 256
-  pub cells : length c ≡ 65792
+  pub cells : 256 * F + F ≤ length c
   pub faults : length s ≡ 256
   pub table : length t ≡ P * F
 

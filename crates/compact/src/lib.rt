@@ -2,7 +2,7 @@
 use answers::Ruling;
 use tables::check_table;
 ghost use mathlib.Core.Path.{_≡_};
-ghost use Prim.Native.Nat.{_+_};
+ghost use Prim.Native.Nat.{_+_, _<_};
 ghost use lib.ListN.{length, replicate};
 ghost use Rattle.tables.specs.Entries.{entriesOf};
 ghost use Rattle.tables.specs.Table.{Sized};
@@ -100,6 +100,28 @@ fn mark_all(
     drop_spare(counts, seen, marks, table, n, patterns);
 }
 
+// The marks of a table with few faults: a row of 256 for the pairs of each, and one for the faults.
+fn mark_few(n: usize, patterns: usize, table: &[u8], marks: &mut [u8])
+    requires { ⌜ Sized n patterns (length (now table)) × (n < 16) ⌝ }
+    requires { ⌜ length (now marks) ≡ patterns ⌝ }
+    ensures { λ _. ⌜ now (marks .exit) ≡ compacted (entriesOf n (now (table .entry))) n patterns ⌝ }
+{
+    let mut counts = [0u8; 4096];
+    let mut seen = [0u8; 256];
+    mark_all(&mut counts, &mut seen, marks, table, n, patterns);
+}
+
+// The same for any number of faults. Memory for all rows takes longer to clear than a small table to compact.
+fn mark_many(n: usize, patterns: usize, table: &[u8], marks: &mut [u8])
+    requires { ⌜ Sized n patterns (length (now table)) ⌝ }
+    requires { ⌜ length (now marks) ≡ patterns ⌝ }
+    ensures { λ _. ⌜ now (marks .exit) ≡ compacted (entriesOf n (now (table .entry))) n patterns ⌝ }
+{
+    let mut counts = [0u8; 65792];
+    let mut seen = [0u8; 256];
+    mark_all(&mut counts, &mut seen, marks, table, n, patterns);
+}
+
 // Over a table that keeps its rules.
 fn compact_table(n: usize, patterns: usize, table: &[u8], marks: &mut [u8]) -> Ruling
     requires { ⌜ Sized n patterns (length (now table)) ⌝ }
@@ -108,10 +130,11 @@ fn compact_table(n: usize, patterns: usize, table: &[u8], marks: &mut [u8]) -> R
     if marks.len() != patterns {
         return Ruling::Refused(10, 0);
     }
-    // a row of 256 for the pairs of each fault, and one for the faults
-    let mut counts = [0u8; 65792];
-    let mut seen = [0u8; 256];
-    mark_all(&mut counts, &mut seen, marks, table, n, patterns);
+    if n < 16 {
+        mark_few(n, patterns, table, marks);
+        return Ruling::Fine;
+    }
+    mark_many(n, patterns, table, marks);
     Ruling::Fine
 }
 

@@ -100,10 +100,10 @@ module _
     seen-is : (f : ℕ) → f < F → eqb (getD s f 0) 1 ≡ detects (entriesOf F t) P whole f
     seen-is f k = ap (λ (n : ℕ). eqb n 1) (seen .fault f k) ∙ one-is (detects (entriesOf F t) P whole f)
 
-    fault-lost : (f : ℕ) → f < F → soleIn c s 65536 t (p * F) 1 f ≡ lost (entriesOf F t) P (without m p) f
+    fault-lost : (f : ℕ) → f < F → soleIn c s (256 * F) t (p * F) 1 f ≡ lost (entriesOf F t) P (without m p) f
     unfolding soleOf lost
     fault-lost f k =
-        rw (seen-is f k) (and-swap (eqb (getD c (65536 + f) 0) 1) (detects (entriesOf F t) P whole f) (fails (entriesOf F t p f)))
+        rw (seen-is f k) (and-swap (eqb (getD c (256 * F + f) 0) 1) (detects (entriesOf F t) P whole f) (fails (entriesOf F t p f)))
         ∙ agree-where (detects (entriesOf F t) P whole f) (λ d.
         sole-held (failing (entriesOf F t) f) (fault-cell counted few f k)
         ∙ ap (λ (b : Bool). b && not (detects (entriesOf F t) P (without m p) f)) (sym (same-detected (entriesOf F t) F P (kept m) enough f k) ∙ d))
@@ -139,6 +139,6 @@ module _
     unfolding neededOf lacks
     decided =
         rw (
-          any-same F (soleIn c s 65536 t (p * F) 1) (lost (entriesOf F t) P (without m p)) fault-lost,
+          any-same F (soleIn c s (256 * F) t (p * F) 1) (lost (entriesOf F t) P (without m p)) fault-lost,
           any-same F (soleAt c s t (p * F)) (λ g. anyBelow g (λ f. lostPair (entriesOf F t) P (without m p) f g)) pairs-lost,
         )

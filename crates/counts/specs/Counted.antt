@@ -1,4 +1,5 @@
--- Counts of patterns, a cell each: at 256 g + f for the pair f < g of faults, how many tell the two apart; at 65536 + f for the fault f, how many fail it.
+-- Counts of patterns, a cell each, for n faults: at 256 g + f for the pair f < g, how many tell the two apart; at 256 n + f for the fault f, how many
+-- fail it.
 -- Assumes nothing.
 use mathlib.Core.Path.{_≡_}
 use mathlib.Core.Bool.{Bool, _&&_, _||_}
@@ -21,7 +22,7 @@ hitPair t from k g = leb (getD t (from + g) 0) 1 && hitRow t from (1 - getD t (f
 
 -- at cell k, of n faults
 unfoldable pub hit : List ℕ → ℕ → ℕ → ℕ → Bool
-hit t from n k = anyBelow n (hitPair t from k) || hitRow t from 1 65536 n k
+hit t from n k = anyBelow n (hitPair t from k) || hitRow t from 1 (256 * n) n k
 
 -- each cell counts the patterns of the set, and is a byte: of at most 256 patterns a count of 1 is still told from every other
 pub record Counted (t : List ℕ) (F P : ℕ) (K : Patterns) (c : List ℕ) : Type 0 where

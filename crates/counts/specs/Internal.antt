@@ -26,7 +26,7 @@ pub record Row (c : List ℕ) (at : ℕ) (t : List ℕ) (from n : ℕ) : Type 0 
 
 pub record Cells (c t : List ℕ) (from n : ℕ) : Type 0 where
   pub few : n ≤ 256
-  pub cells : length c ≡ 65792
+  pub cells : 256 * n + n ≤ length c
   pub entries : from + n ≤ length t
 
 -- the first n faults are seen where the pattern fails them
@@ -49,4 +49,4 @@ soleAt c s t from g =
 
 -- at some fault or some pair
 unfoldable pub neededOf : List ℕ → List ℕ → List ℕ → ℕ → ℕ → Bool
-neededOf c s t from n = anyBelow n (soleIn c s 65536 t from 1) || anyBelow n (soleAt c s t from)
+neededOf c s t from n = anyBelow n (soleIn c s (256 * n) t from 1) || anyBelow n (soleAt c s t from)

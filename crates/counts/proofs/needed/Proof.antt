@@ -14,6 +14,9 @@ Inv-loop counts seen table from n g₀ g = None (soleAt counts seen table from) 
 abbrev μ-loop : tie.MeasureT-loop
 μ-loop counts seen table from n g₀ g = n - g
 
+mul-sole-in : tie.Need-mul-sole-in Inv-loop μ-loop
+mul-sole-in c = search needs
+
 sole-in-requires : tie.Need-sole-in-requires Inv-loop μ-loop
 sole-in-requires c κs = search needs
 
@@ -51,6 +54,7 @@ needed-spec =
     (tie.spec
     Inv-loop
     μ-loop
+    mul-sole-in
     sole-in-requires
     returns
     loop-holds
