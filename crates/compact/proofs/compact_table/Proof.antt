@@ -15,7 +15,7 @@ same-length : tie.Need-same-length
 same-length c = search needs
 
 returns-2 : tie.Need-returns-2
-returns-2 c = finish-fine (c .before .before .before .before .before .if1 .left) (c .before .mark-few .ensures)
+returns-2 c = finish-fine (c .before .before .before .before .before .if1 .left) (c .before .before .mark-few .ensures)
 
 mark-many-requires : tie.Need-mark-many-requires
 mark-many-requires c κs = search needs
@@ -24,7 +24,7 @@ same-length-2 : tie.Need-same-length-2
 same-length-2 c = search needs
 
 returns-3 : tie.Need-returns-3
-returns-3 c = finish-fine (c .before .before .before .before .before .if1 .left) (c .before .mark-many .ensures)
+returns-3 c = finish-fine (c .before .before .before .before .before .if1 .left) (c .before .before .mark-many .ensures)
 
 pub compact-table-spec : {M : Type 1} → statement M
 compact-table-spec =
