@@ -1,11 +1,13 @@
 /* The program behind `./ullimaqsu bench`: reads a text in the bench notation and writes its circuit records.
 
-   bench TEXT RECORDS
+   bench TEXT RECORDS OUT
 
-   The answer is the library's. A refusal writes no file; it is printed as `refused`, number and place, and on a second line stands what it
-   means, with line and column. For that the text is looked at once more, up to the place that the library gave. Nothing is judged anew:
-   what may follow the bytes before that place is all that is asked.
-   Status: 0, or 1 for a refusal, or 2 if a file could not be read or written. */
+   The answer is the library's. RECORDS takes the place of OUT once all has gone well; here OUT is only the name in messages. So the records
+   are written first, then the report is printed, and a report that can't be printed is a failure too: OUT then stays as it was.
+   A refusal writes no file; it is printed as `refused`, number and place, and standard error gets what it means, with line and column. For
+   that the text is looked at once more, up to the place that the library gave. Nothing is judged anew: what may follow the bytes before that
+   place is all that is asked.
+   Status: 0, or 1 for a refusal, or 2 if something could not be read, written or printed. */
 #include "ullimaqsu.h"
 
 #if __STDC_HOSTED__
@@ -18,7 +20,11 @@ size_t fread(void *, size_t, size_t, FILE *);
 size_t fwrite(const void *, size_t, size_t, FILE *);
 int ferror(FILE *);
 int fclose(FILE *);
+int fflush(FILE *);
 int printf(const char *, ...);
+int fprintf(FILE *, const char *, ...);
+void perror(const char *);
+extern FILE *stdout, *stderr;
 int memcmp(const void *, const void *, size_t);
 size_t strlen(const char *);
 #endif
@@ -28,6 +34,9 @@ size_t strlen(const char *);
 
 static uint8_t text[MOST_BYTES + 1], circuit[16384], answer[32];
 static size_t len;
+
+/* What a refusal means, piece by piece. */
+#define say(...) fprintf(stderr, __VA_ARGS__)
 
 /* The k-th number of the answer. */
 static size_t number(int k) {
@@ -65,7 +74,7 @@ static int same(struct word a, struct word b) { return a.len == b.len && !memcmp
 static int is(struct word a, const char *b) { return a.len == strlen(b) && !memcmp(text + a.at, b, a.len); }
 static int begins(struct word a, const char *b) { return a.len <= strlen(b) && !memcmp(text + a.at, b, a.len); }
 
-static void quote(struct word word) { printf("`%.*s`", (int)word.len, (const char *)text + word.at); }
+static void quote(struct word word) { say("`%.*s`", (int)word.len, (const char *)text + word.at); }
 
 /* ---- places */
 
@@ -80,30 +89,30 @@ static size_t line_begin(size_t at) {
     return at;
 }
 
-static void print_place(size_t at) {
-    printf("line %u, column %u (byte %u): ", (unsigned)line_of(at), (unsigned)(at - line_begin(at) + 1), (unsigned)at);
+static void say_place(size_t at) {
+    say("line %u, column %u (byte %u): ", (unsigned)line_of(at), (unsigned)(at - line_begin(at) + 1), (unsigned)at);
 }
 
 /* ---- refusal 14: what must follow the bytes before the place */
 
-static void print_found(size_t at) {
-    if (at == len) printf("the text ends");
-    else if (text[at] == '\n') printf("the line ends");
-    else if (is_blank(at)) printf("is a blank");
-    else if (text[at] > ' ' && text[at] < 127) printf("is `%c`", text[at]);
-    else printf("is byte %u", text[at]);
+static void say_found(size_t at) {
+    if (at == len) say("the text ends");
+    else if (text[at] == '\n') say("the line ends");
+    else if (is_blank(at)) say("is a blank");
+    else if (text[at] > ' ' && text[at] < 127) say("is `%c`", text[at]);
+    else say("is byte %u", text[at]);
 }
 
 /* What must follow, after something that the caller has printed. */
 static void must(size_t place, const char *what) {
-    printf("there must be %s, and here ", what);
-    print_found(place);
+    say("there must be %s, and here ", what);
+    say_found(place);
 }
 
 /* A name ends where it has as many letters as it may; no other letter is refused in a name. */
 static int too_long(struct word name, size_t place) {
     if (name.at + name.len < place || place == len || !is_of_a_name(place)) return 0;
-    quote(name), printf(" has 16 letters, digits or underscores, and a name has no more");
+    quote(name), say(" has 16 letters, digits or underscores, and a name has no more");
     return 1;
 }
 
@@ -111,11 +120,11 @@ static const char *const kinds[] = {"BUFF", "NOT", "AND", "NAND", "OR", "NOR", "
 #define KINDS (sizeof kinds / sizeof *kinds)
 
 /* The kinds that begin with what there is. */
-static void print_kinds(struct word word) {
+static void say_kinds(struct word word) {
     size_t left = 0;
     for (size_t k = 0; k < KINDS; k++) left += begins(word, kinds[k]);
     for (size_t k = 0; k < KINDS; k++)
-        if (begins(word, kinds[k])) printf("%s%s", kinds[k], --left > 1 ? ", " : left ? " or " : "");
+        if (begins(word, kinds[k])) say("%s%s", kinds[k], --left > 1 ? ", " : left ? " or " : "");
 }
 
 /* From `(` on: one source, or two. */
@@ -123,21 +132,21 @@ static void explain_sources(size_t at, size_t place, struct word of, int sources
     for (int source = 1; source <= sources; source++) {
         at = behind_blanks(at + 1, place);
         if (at == place) {
-            printf("after `%c` ", source == 1 ? '(' : ','), must(place, "a name");
+            say("after `%c` ", source == 1 ? '(' : ','), must(place, "a name");
             return;
         }
         struct word name = word_at(at, place);
         if (too_long(name, place)) return;
         at = behind_blanks(at + name.len, place);
         if (at == place) {
-            printf("after ");
-            if (sources == 2) printf("the %s of the two sources of ", source == 1 ? "first" : "second");
-            else printf(is(of, "INPUT") || is(of, "OUTPUT") ? "the name in " : "the only source of ");
-            quote(of), printf(" "), must(place, source < sources ? "`,`" : "`)`");
+            say("after ");
+            if (sources == 2) say("the %s of the two sources of ", source == 1 ? "first" : "second");
+            else say(is(of, "INPUT") || is(of, "OUTPUT") ? "the name in " : "the only source of ");
+            quote(of), say(" "), must(place, source < sources ? "`,`" : "`)`");
             return;
         }
     }
-    printf("after `)` "), must(place, "the end of the line or `#`");
+    say("after `)` "), must(place, "the end of the line or `#`");
 }
 
 /* From `=` on. */
@@ -147,25 +156,25 @@ static void explain_gate(size_t at, size_t place) {
     size_t k = 0;
     while (k < KINDS && !is(kind, kinds[k])) k++;
     if (k == KINDS) {
-        printf("after "), kind.len ? quote(kind) : (void)printf("`=`");
-        printf(" there must be %s", kind.len ? "the rest of " : "");
-        print_kinds(kind), printf(", in capitals, and here "), print_found(place);
+        say("after "), kind.len ? quote(kind) : (void)say("`=`");
+        say(" there must be %s", kind.len ? "the rest of " : "");
+        say_kinds(kind), say(", in capitals, and here "), say_found(place);
         return;
     }
     at = behind_blanks(at + kind.len, place);
-    if (at == place) printf("after "), quote(kind), printf(" "), must(place, "`(`");
+    if (at == place) say("after "), quote(kind), say(" "), must(place, "`(`");
     else explain_sources(at, place, kind, k < 2 ? 1 : 2);
 }
 
 static void explain_syntax(size_t place) {
-    print_place(place);
+    say_place(place);
     if (place == MOST_BYTES && len > MOST_BYTES) {
-        printf("a text has at most 32,768 bytes, and this one goes on");
+        say("a text has at most 32,768 bytes, and this one goes on");
         return;
     }
     size_t at = behind_blanks(line_begin(place), place);
     if (at == place) {
-        printf("at the beginning of a line "), must(place, "INPUT, OUTPUT, a name, `#` or the end of the line");
+        say("at the beginning of a line "), must(place, "INPUT, OUTPUT, a name, `#` or the end of the line");
         return;
     }
     struct word first = word_at(at, place);
@@ -173,8 +182,8 @@ static void explain_syntax(size_t place) {
     if (too_long(first, place)) return;
     at = behind_blanks(at + first.len, place);
     if (at == place) {
-        printf("after "), quote(first), printf(" "), must(place, keyword ? "`(` or `=`" : "`=`");
-        if (!keyword && place < len && text[place] == '(') printf("; only INPUT and OUTPUT, in capitals, are followed by `(`");
+        say("after "), quote(first), say(" "), must(place, keyword ? "`(` or `=`" : "`=`");
+        if (!keyword && place < len && text[place] == '(') say("; only INPUT and OUTPUT, in capitals, are followed by `(`");
     } else if (text[at] == '(') explain_sources(at, place, first, 1);
     else explain_gate(at, place);
 }
@@ -225,9 +234,9 @@ static size_t definition_of(struct word name) {
 static void explain_name(size_t place) {
     struct word name = word_at(place, len);
     size_t first = definition_of(name);
-    print_place(place), quote(name);
-    if (first == defined) printf(" is used here and defined nowhere");
-    else printf(" is defined here a second time, after line %u", (unsigned)line_of(definitions[first].name.at));
+    say_place(place), quote(name);
+    if (first == defined) say(" is used here and defined nowhere");
+    else say(" is defined here a second time, after line %u", (unsigned)line_of(definitions[first].name.at));
 }
 
 /* A search through sources: the definitions in the order in which they were met, and which one read each. */
@@ -263,16 +272,16 @@ static size_t nearest_loop(size_t from) {
 }
 
 /* Round the loop that was followed last: back from its beginning, by who reads whom. */
-static void print_loop(size_t from) {
+static void say_loop(size_t from) {
     static size_t way[MOST_STATEMENTS];
     size_t steps = 0, d = from;
     do way[steps++] = d, d = reader[d];
     while (d != from);
     quote(definitions[from].name);
     for (size_t k = steps; k > 0; k--) {
-        if (steps > 8 && k == steps - 6) printf(", and so on, %u gates in all, of which the last", (unsigned)steps), k = 1;
-        else if (k < steps) printf(", which");
-        printf(" reads "), quote(definitions[way[k - 1]].name);
+        if (steps > 8 && k == steps - 6) say(", and so on, %u gates in all, of which the last", (unsigned)steps), k = 1;
+        else if (k < steps) say(", which");
+        say(" reads "), quote(definitions[way[k - 1]].name);
     }
 }
 
@@ -280,38 +289,58 @@ static void explain_cycle(size_t gate) {
     for (size_t d = 0; d < defined; d++)
         for (int pin = 0; pin < definitions[d].pins; pin++) definitions[d].reads[pin] = definition_of(definitions[d].sources[pin]);
     size_t stuck = gates[gate], loop = nearest_loop(stuck);
-    print_place(definitions[stuck].name.at);
-    printf("gate %u, ", (unsigned)gate), quote(definitions[stuck].name), printf(", can't be placed: it ");
-    if (loop != stuck) printf("needs "), quote(definitions[loop].name), printf(" (line %u), which ", (unsigned)line_of(definitions[loop].name.at));
-    printf("depends on itself: "), print_loop(loop);
+    say_place(definitions[stuck].name.at);
+    say("gate %u, ", (unsigned)gate), quote(definitions[stuck].name), say(", can't be placed: it ");
+    if (loop != stuck) say("needs "), quote(definitions[loop].name), say(" (line %u), which ", (unsigned)line_of(definitions[loop].name.at));
+    say("depends on itself: "), say_loop(loop);
 }
 
 /* ---- the program */
 
-static void explain(uint32_t refusal, size_t place) {
-    if (refusal != 14) read_statements();
+static const char *words_of(uint32_t refusal) {
     switch (refusal) {
-    case 14: explain_syntax(place); break;
-    case 15: explain_name(place); break;
-    case 16: explain_cycle(place); break;
-    case 1:
-        if (defined) printf("the text has %u inputs and gates, and a circuit at most 2,048", (unsigned)defined);
-        else printf("the text has no input and no gate");
-        break;
-    case 4: printf("the text has %u inputs, and a circuit at most 64", (unsigned)inputs); break;
-    default: printf("the text has no OUTPUT"); break;
+#define WORDS(name, number, says, counts) \
+    case name: return says;
+        ULLIMAQSU_REFUSALS(WORDS)
+#undef WORDS
+    default: return "";
     }
-    printf("\n");
+}
+
+static void explain(uint32_t refusal, size_t place) {
+    if (refusal != ULLIMAQSU_BENCH_SYNTAX) read_statements();
+    switch (refusal) {
+    case ULLIMAQSU_BENCH_SYNTAX: explain_syntax(place); break;
+    case ULLIMAQSU_BENCH_NAME: explain_name(place); break;
+    case ULLIMAQSU_BENCH_CYCLE: explain_cycle(place); break;
+    default: say("%s (inputs in the text: %u, gates: %u)", words_of(refusal), (unsigned)inputs, (unsigned)gate_count);
+    }
+    say("\n");
+}
+
+/* A name as it is shown, on one line whatever it is. */
+static const char *shown(char *name) {
+    for (char *at = name; *at; at++)
+        if ((unsigned char)*at < ' ' || *at == 127) *at = '?';
+    return name;
+}
+
+/* Says that something could not be read or written, and why: what errno has. */
+static int failed(const char *name) {
+    say("ullimaqsu: "), perror(name);
+    return 2;
 }
 
 static int load(const char *path) {
     FILE *from = fopen(path, "rb");
     if (!from) return 0;
     len = fread(text, 1, sizeof text, from);
-    int failed = ferror(from);
-    return !fclose(from) && !failed;
+    if (ferror(from)) return 0;
+    fclose(from);
+    return 1;
 }
 
+/* What is written may be lost as late as in fclose. */
 static int save(const char *path, size_t size) {
     FILE *to = fopen(path, "wb");
     if (!to) return 0;
@@ -320,26 +349,23 @@ static int save(const char *path, size_t size) {
 }
 
 int main(int count, char **words) {
-    if (count != 3) {
-        printf("usage: bench TEXT RECORDS\n");
+    if (count != 4) {
+        say("usage: bench TEXT RECORDS OUT\n");
         return 2;
     }
-    if (!load(words[1])) {
-        printf("it could not be read\n");
-        return 2;
-    }
+    int loaded = load(words[1]);
+    const char *file = shown(words[1]), *records = words[2], *out = shown(words[3]);
+    if (!loaded) return failed(file);
     uint32_t refusal = ullimaqsu_bench(text, len, circuit, sizeof circuit, answer, sizeof answer);
-    if (refusal) {
+    if (refusal != ULLIMAQSU_FINE) {
         printf("refused %u %u\n", (unsigned)refusal, (unsigned)number(0));
-        explain(refusal, number(0));
+        if (fflush(stdout)) return failed("standard output");
+        say("ullimaqsu: %s: ", file), explain(refusal, number(0));
         return 1;
     }
     size_t size = 8 * number(0);
-    if (!save(words[2], size)) {
-        printf("its records could not be written\n");
-        return 2;
-    }
+    if (!save(records, size)) return failed(out);
     ullimaqsu_check(circuit, size, answer, sizeof answer);
     printf("lines %u, inputs %u, outputs %u\n", (unsigned)number(0), (unsigned)number(1), (unsigned)number(2));
-    return 0;
+    return fflush(stdout) ? failed("standard output") : 0;
 }

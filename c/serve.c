@@ -1,7 +1,8 @@
 /* The bridge: answers calls of the entries over stdin and stdout, for tests on a machine that cannot link the archive itself.
    A batch is its size in bytes and then the calls, one after the other. A call is the number of the entry, in eight bytes, and its
    parameters: a number in eight bytes; a slice as its length in eight bytes, a guard, the elements, a guard, and zeros up to the next
-   multiple of eight. The batch goes back as the calls leave it, each entry's number replaced by what the entry returned. */
+   multiple of eight. The batch goes back as the calls leave it, each entry's number replaced by what the entry returned. A number that the
+   header does not name ends the bridge. */
 #include "ullimaqsu.h"
 
 #define GUARD 16
@@ -86,6 +87,16 @@ static uint32_t bench(void) {
 
 static uint32_t (*const entries[])(void) = {check, dictionary, compact, search, clauses, bench};
 
+static int is_named(uint32_t returned) {
+    switch (returned) {
+#define NAMED(name, number, says, counts) case name:
+        ULLIMAQSU_REFUSALS(NAMED)
+#undef NAMED
+    case ULLIMAQSU_FINE: return 1;
+    default: return 0;
+    }
+}
+
 static int all(ssize (*move)(int, void *, size_t), int file, void *at, size_t len) {
     for (ssize moved; len; at = (uint8_t *)at + moved, len -= (size_t)moved)
         if ((moved = move(file, at, len)) <= 0) return 0;
@@ -101,7 +112,9 @@ int main(void) {
         for (next = (uint8_t *)batch; next < (uint8_t *)batch + size;) {
             uint64_t *call = (uint64_t *)next, entry = number();
             if (entry >= sizeof entries / sizeof *entries) return 1;
-            *call = entries[entry]();
+            uint32_t returned = entries[entry]();
+            if (!is_named(returned)) return 1;
+            *call = returned;
         }
         if (!all(put, 1, batch, size)) return 1;
     }

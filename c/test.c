@@ -40,15 +40,17 @@ static int same(const uint8_t *a, const uint8_t *b, size_t len) {
     return 1;
 }
 
-#define INPUT 0, 0, 0, 0, 0, 0, 0, 0
+#define LINE(kind, output, a, b) kind, output, a, 0, b, 0, 0, 0
+#define INPUT LINE(ULLIMAQSU_INPUT, 0, 0, 0)
 #define EIGHT_INPUTS INPUT, INPUT, INPUT, INPUT, INPUT, INPUT, INPUT, INPUT
-#define OUTPUT_OF(line) 1, 1, line, 0, 0, 0, 0, 0
+#define OUTPUT_OF(line) LINE(ULLIMAQSU_BUFFER, 1, line, 0)
+#define NOT_OF(output, line) LINE(ULLIMAQSU_NOT, output, line, 0)
 
 static const uint8_t
-    example_a[] = {INPUT, INPUT, INPUT, 3, 0, 0, 0, 1, 0, 0, 0, 5, 1, 3, 0, 2, 0, 0, 0},
-    first_is_a_buffer[] = {1, 1, 0, 0, 0, 0, 0, 0},
-    reads_itself[] = {INPUT, INPUT, 2, 1, 2, 0, 0, 0, 0, 0},
-    no_output[] = {INPUT, 2, 0, 0, 0, 0, 0, 0, 0},
+    example_a[] = {INPUT, INPUT, INPUT, LINE(ULLIMAQSU_AND, 0, 0, 1), LINE(ULLIMAQSU_OR, 1, 3, 2)},
+    first_is_a_buffer[] = {OUTPUT_OF(0)},
+    reads_itself[] = {INPUT, INPUT, NOT_OF(1, 2)},
+    no_output[] = {INPUT, NOT_OF(0, 0)},
     inputs_64[] = {EIGHT_INPUTS, EIGHT_INPUTS, EIGHT_INPUTS, EIGHT_INPUTS, EIGHT_INPUTS, EIGHT_INPUTS, EIGHT_INPUTS, EIGHT_INPUTS, OUTPUT_OF(63)},
     inputs_65[] = {EIGHT_INPUTS, EIGHT_INPUTS, EIGHT_INPUTS, EIGHT_INPUTS, EIGHT_INPUTS, EIGHT_INPUTS, EIGHT_INPUTS, EIGHT_INPUTS, INPUT, OUTPUT_OF(64)};
 
@@ -59,15 +61,15 @@ static const struct {
     uint32_t returned;
     uint64_t numbers[4];
 } checks[] = {
-    {"example A", example_a, sizeof example_a, 0, {5, 3, 1, 0}},
-    {"64 inputs", inputs_64, sizeof inputs_64, 0, {65, 64, 1, 0}},
-    {"no circuit at all", 0, 0, 1, {0, 0, 0, 0}},
-    {"seven bytes", example_a, 7, 1, {0, 0, 0, 0}},
-    {"line 0 is a buffer", first_is_a_buffer, sizeof first_is_a_buffer, 2, {0, 0, 0, 0}},
-    {"a line reads itself", reads_itself, sizeof reads_itself, 2, {2, 0, 0, 0}},
-    {"65 inputs", inputs_65, sizeof inputs_65, 4, {0, 0, 0, 0}},
-    {"65 inputs and no output", inputs_65, 65 * 8, 4, {0, 0, 0, 0}},
-    {"no output", no_output, sizeof no_output, 5, {0, 0, 0, 0}},
+    {"example A", example_a, sizeof example_a, ULLIMAQSU_FINE, {5, 3, 1, 0}},
+    {"64 inputs", inputs_64, sizeof inputs_64, ULLIMAQSU_FINE, {65, 64, 1, 0}},
+    {"no circuit at all", 0, 0, ULLIMAQSU_CIRCUIT_SIZE, {0, 0, 0, 0}},
+    {"seven bytes", example_a, 7, ULLIMAQSU_CIRCUIT_SIZE, {0, 0, 0, 0}},
+    {"line 0 is a buffer", first_is_a_buffer, sizeof first_is_a_buffer, ULLIMAQSU_CIRCUIT_LAYOUT, {0, 0, 0, 0}},
+    {"a line reads itself", reads_itself, sizeof reads_itself, ULLIMAQSU_CIRCUIT_LAYOUT, {2, 0, 0, 0}},
+    {"65 inputs", inputs_65, sizeof inputs_65, ULLIMAQSU_MANY_INPUTS, {0, 0, 0, 0}},
+    {"65 inputs and no output", inputs_65, 65 * 8, ULLIMAQSU_MANY_INPUTS, {0, 0, 0, 0}},
+    {"no output", no_output, sizeof no_output, ULLIMAQSU_NO_OUTPUT, {0, 0, 0, 0}},
 };
 
 static void test_check(void) {
@@ -85,15 +87,18 @@ static void test_areas(void) {
         uint8_t area[40];
         fill(area, sizeof area);
         uint32_t returned = ullimaqsu_check(example_a, sizeof example_a, len ? area : 0, len);
-        expect(returned == (len == 32 ? 0 : 10), "an area of another size is refused");
+        expect(returned == (len == 32 ? ULLIMAQSU_FINE : ULLIMAQSU_BUFFER_SIZE), "an area of another size is refused");
         expect(len == 32 || stays(area, sizeof area), "an area of another size stays");
     }
 }
 
+#define P ULLIMAQSU_PASS
+#define F ULLIMAQSU_FAIL
+#define U ULLIMAQSU_UNKNOWN
 static const uint8_t
     faults[] = {3, 0, 0, 0, 0, 0, 0, 0, 3, 0, 0, 1, 0, 0, 0, 0, 2, 0, 0, 1, 0, 0, 0, 0, 0, 0, 0, 0, 0, 0, 0, 0},
     patterns[] = {1, 1, 0, 0, 1, 0, 0, 2, 0, 2, 1, 0},
-    table_of_a[] = {1, 0, 0, 1, 0, 1, 1, 0, 0, 1, 1, 0, 2, 2, 2, 2},
+    table_of_a[] = {F, P, P, F, P, F, F, P, P, F, F, P, U, U, U, U},
     work_of_a[] = {2, 1, 0, 2, 2, 0, 1, 0, 0, 0};
 
 /* Example A, with other lengths. */
@@ -102,17 +107,17 @@ static const struct {
     size_t circuit, faults, patterns, table, work;
     uint32_t returned;
 } dictionaries[] = {
-    {"dictionary of example A", 40, 32, 12, 16, 10, 0},
-    {"seven bytes of a circuit, and nothing else right", 7, 31, 11, 15, 9, 1},
-    {"inputs alone, and nothing else right", 24, 31, 11, 15, 9, 5},
-    {"part of a fault, and nothing after it right", 40, 31, 11, 15, 9, 6},
-    {"no faults", 40, 0, 12, 0, 10, 6},
-    {"part of a pattern, and nothing after it right", 40, 32, 11, 15, 9, 8},
-    {"no patterns", 40, 32, 0, 0, 10, 8},
-    {"a table too small", 40, 32, 12, 15, 10, 10},
-    {"a table too large", 40, 32, 12, 17, 10, 10},
-    {"a work memory too small", 40, 32, 12, 16, 9, 10},
-    {"a work memory too large", 40, 32, 12, 16, 11, 10},
+    {"dictionary of example A", 40, 32, 12, 16, 10, ULLIMAQSU_FINE},
+    {"seven bytes of a circuit, and nothing else right", 7, 31, 11, 15, 9, ULLIMAQSU_CIRCUIT_SIZE},
+    {"inputs alone, and nothing else right", 24, 31, 11, 15, 9, ULLIMAQSU_NO_OUTPUT},
+    {"part of a fault, and nothing after it right", 40, 31, 11, 15, 9, ULLIMAQSU_FAULTS_SIZE},
+    {"no faults", 40, 0, 12, 0, 10, ULLIMAQSU_FAULTS_SIZE},
+    {"part of a pattern, and nothing after it right", 40, 32, 11, 15, 9, ULLIMAQSU_PATTERNS_SIZE},
+    {"no patterns", 40, 32, 0, 0, 10, ULLIMAQSU_PATTERNS_SIZE},
+    {"a table too small", 40, 32, 12, 15, 10, ULLIMAQSU_BUFFER_SIZE},
+    {"a table too large", 40, 32, 12, 17, 10, ULLIMAQSU_BUFFER_SIZE},
+    {"a work memory too small", 40, 32, 12, 16, 9, ULLIMAQSU_BUFFER_SIZE},
+    {"a work memory too large", 40, 32, 12, 16, 11, ULLIMAQSU_BUFFER_SIZE},
 };
 
 static void test_dictionary(void) {
@@ -138,14 +143,14 @@ static const struct {
     uint32_t returned;
     uint64_t place;
 } compactions[] = {
-    {"compaction of example A", 4, 4, 16, 4, -1, 0, 0},
-    {"no faults", 0, 4, 0, 4, -1, 12, 0},
-    {"257 patterns", 1, 257, 257, 257, -1, 12, 0},
-    {"counts whose product is 0 in 64 bits", (uint64_t)1 << 32, (uint64_t)1 << 32, 0, 0, -1, 12, 0},
-    {"a table too small, and nothing after it right", 4, 4, 15, 3, 7, 12, 0},
-    {"an entry above 2, and too few marks", 4, 4, 16, 3, 7, 13, 7},
-    {"too few marks", 4, 4, 16, 3, -1, 10, 0},
-    {"too many marks", 4, 4, 16, 5, -1, 10, 0},
+    {"compaction of example A", 4, 4, 16, 4, -1, ULLIMAQSU_FINE, 0},
+    {"no faults", 0, 4, 0, 4, -1, ULLIMAQSU_TABLE_SIZE, 0},
+    {"257 patterns", 1, 257, 257, 257, -1, ULLIMAQSU_TABLE_SIZE, 0},
+    {"counts whose product is 0 in 64 bits", (uint64_t)1 << 32, (uint64_t)1 << 32, 0, 0, -1, ULLIMAQSU_TABLE_SIZE, 0},
+    {"a table too small, and nothing after it right", 4, 4, 15, 3, 7, ULLIMAQSU_TABLE_SIZE, 0},
+    {"an entry above 2, and too few marks", 4, 4, 16, 3, 7, ULLIMAQSU_TABLE_BYTE, 7},
+    {"too few marks", 4, 4, 16, 3, -1, ULLIMAQSU_BUFFER_SIZE, 0},
+    {"too many marks", 4, 4, 16, 5, -1, ULLIMAQSU_BUFFER_SIZE, 0},
 };
 
 static void test_compact(void) {
@@ -165,7 +170,7 @@ static void test_compact(void) {
 }
 
 /* Example A and the circuit whose output is always 0, for one of these faults, with other lengths. */
-static const uint8_t always_0[] = {INPUT, 2, 0, 0, 0, 0, 0, 0, 0, 3, 1, 0, 0, 1, 0, 0, 0};
+static const uint8_t always_0[] = {INPUT, NOT_OF(0, 0), LINE(ULLIMAQSU_AND, 1, 0, 1)};
 static const uint8_t line_3_at_1[] = {3, 0, 0, 1, 0, 0, 0, 0}, line_3_at_0[] = {3, 0, 0, 0, 0, 0, 0, 0}, line_2_at_0[] = {2, 0, 0, 0, 0, 0, 0, 0};
 static const struct {
     const char *name;
@@ -179,17 +184,17 @@ static const struct {
     uint64_t numbers[4];
     uint8_t found[3];
 } searches[] = {
-    {"A, line 3 stuck at 1", example_a, 40, line_3_at_1, 8, 4, 3, 10, 0, {0, 4, 0, 0}, {0, 0, 0}},
-    {"A, line 3 stuck at 1, budget 3", example_a, 40, line_3_at_1, 8, 3, 3, 10, 0, {2, 3, 0, 0}, {JUNK, JUNK, JUNK}},
-    {"A, line 3 stuck at 0", example_a, 40, line_3_at_0, 8, (uint64_t)-1, 3, 10, 0, {0, 14, 0, 0}, {1, 1, 0}},
-    {"always 0, stuck at 0", always_0, 24, line_2_at_0, 8, 3, 1, 6, 0, {1, 3, 0, 0}, {JUNK, JUNK, JUNK}},
-    {"always 0, stuck at 0, budget 2", always_0, 24, line_2_at_0, 8, 2, 1, 6, 0, {2, 2, 0, 0}, {JUNK, JUNK, JUNK}},
-    {"always 0, stuck at 0, budget 0", always_0, 24, line_2_at_0, 8, 0, 1, 6, 0, {2, 0, 0, 0}, {JUNK, JUNK, JUNK}},
-    {"no output, and nothing else right", example_a, 24, line_3_at_1, 7, 9, 2, 9, 5, {0, 0, 0, 0}, {JUNK, JUNK, JUNK}},
-    {"two faults", example_a, 40, faults, 16, 9, 3, 10, 6, {0, 0, 0, 0}, {JUNK, JUNK, JUNK}},
-    {"no such line, and no lent memory", always_0, 24, line_3_at_1, 8, 9, 0, 0, 7, {0, 0, 0, 0}, {JUNK, JUNK, JUNK}},
-    {"a test buffer too small", example_a, 40, line_3_at_1, 8, 9, 2, 10, 10, {0, 0, 0, 0}, {JUNK, JUNK, JUNK}},
-    {"a work memory too large", example_a, 40, line_3_at_1, 8, 9, 3, 11, 10, {0, 0, 0, 0}, {JUNK, JUNK, JUNK}},
+    {"A, line 3 stuck at 1", example_a, 40, line_3_at_1, 8, 4, 3, 10, ULLIMAQSU_FINE, {ULLIMAQSU_TEST, 4, 0, 0}, {0, 0, 0}},
+    {"A, line 3 stuck at 1, budget 3", example_a, 40, line_3_at_1, 8, 3, 3, 10, ULLIMAQSU_FINE, {ULLIMAQSU_GIVEN_UP, 3, 0, 0}, {JUNK, JUNK, JUNK}},
+    {"A, line 3 stuck at 0", example_a, 40, line_3_at_0, 8, (uint64_t)-1, 3, 10, ULLIMAQSU_FINE, {ULLIMAQSU_TEST, 14, 0, 0}, {1, 1, 0}},
+    {"always 0, stuck at 0", always_0, 24, line_2_at_0, 8, 3, 1, 6, ULLIMAQSU_FINE, {ULLIMAQSU_REDUNDANT, 3, 0, 0}, {JUNK, JUNK, JUNK}},
+    {"always 0, stuck at 0, budget 2", always_0, 24, line_2_at_0, 8, 2, 1, 6, ULLIMAQSU_FINE, {ULLIMAQSU_GIVEN_UP, 2, 0, 0}, {JUNK, JUNK, JUNK}},
+    {"always 0, stuck at 0, budget 0", always_0, 24, line_2_at_0, 8, 0, 1, 6, ULLIMAQSU_FINE, {ULLIMAQSU_GIVEN_UP, 0, 0, 0}, {JUNK, JUNK, JUNK}},
+    {"no output, and nothing else right", example_a, 24, line_3_at_1, 7, 9, 2, 9, ULLIMAQSU_NO_OUTPUT, {0, 0, 0, 0}, {JUNK, JUNK, JUNK}},
+    {"two faults", example_a, 40, faults, 16, 9, 3, 10, ULLIMAQSU_FAULTS_SIZE, {0, 0, 0, 0}, {JUNK, JUNK, JUNK}},
+    {"no such line, and no lent memory", always_0, 24, line_3_at_1, 8, 9, 0, 0, ULLIMAQSU_FAULT_LAYOUT, {0, 0, 0, 0}, {JUNK, JUNK, JUNK}},
+    {"a test buffer too small", example_a, 40, line_3_at_1, 8, 9, 2, 10, ULLIMAQSU_BUFFER_SIZE, {0, 0, 0, 0}, {JUNK, JUNK, JUNK}},
+    {"a work memory too large", example_a, 40, line_3_at_1, 8, 9, 3, 11, ULLIMAQSU_BUFFER_SIZE, {0, 0, 0, 0}, {JUNK, JUNK, JUNK}},
 };
 
 static void test_search(void) {
@@ -207,7 +212,7 @@ static void test_search(void) {
 }
 
 /* Line 0 input, 1 = NOT 0 output, line 1 stuck at 0, with other lengths. */
-static const uint8_t inverter[] = {INPUT, 2, 1, 0, 0, 0, 0, 0, 0}, line_1_at_0[] = {1, 0, 0, 0, 0, 0, 0, 0};
+static const uint8_t inverter[] = {INPUT, NOT_OF(1, 0)}, line_1_at_0[] = {1, 0, 0, 0, 0, 0, 0, 0};
 static const int32_t words_of_inverter[] = {
     -3, -1, 0, 3, 1, 0, -5, 0, -2, 1, 0, 2, -1, 0, -4, 5, 0, 4, -5, 0,
     -6, 3, 4, 0, -6, -3, -4, 0, 6, -3, 4, 0, 6, 3, -4, 0, 6, 0,
@@ -218,12 +223,12 @@ static const struct {
     uint32_t returned;
     uint64_t numbers[4];
 } clause_lists[] = {
-    {"clauses of an inverter", 16, 8, 38, 0, {38, 12, 6, 0}},
-    {"clauses of an inverter, and room to spare", 16, 8, 40, 0, {38, 12, 6, 0}},
-    {"37 words", 16, 8, 37, 11, {38, 0, 0, 0}},
-    {"no words", 16, 8, 0, 11, {38, 0, 0, 0}},
-    {"part of a circuit, and nothing else right", 15, 7, 0, 1, {0, 0, 0, 0}},
-    {"part of a fault, and no words", 16, 7, 0, 6, {0, 0, 0, 0}},
+    {"clauses of an inverter", 16, 8, 38, ULLIMAQSU_FINE, {38, 12, 6, 0}},
+    {"clauses of an inverter, and room to spare", 16, 8, 40, ULLIMAQSU_FINE, {38, 12, 6, 0}},
+    {"37 words", 16, 8, 37, ULLIMAQSU_NO_ROOM, {38, 0, 0, 0}},
+    {"no words", 16, 8, 0, ULLIMAQSU_NO_ROOM, {38, 0, 0, 0}},
+    {"part of a circuit, and nothing else right", 15, 7, 0, ULLIMAQSU_CIRCUIT_SIZE, {0, 0, 0, 0}},
+    {"part of a fault, and no words", 16, 7, 0, ULLIMAQSU_FAULTS_SIZE, {0, 0, 0, 0}},
 };
 
 static void test_clauses(void) {
@@ -242,7 +247,7 @@ static void test_clauses(void) {
 /* Texts in the bench notation. c17 has its gates before their sources and its inputs last, a comment, CR LF and tabs. */
 #define INPUTS_8(x) "INPUT(" x "0)\nINPUT(" x "1)\nINPUT(" x "2)\nINPUT(" x "3)\nINPUT(" x "4)\nINPUT(" x "5)\nINPUT(" x "6)\nINPUT(" x "7)\n"
 #define INPUTS_64 INPUTS_8("a") INPUTS_8("b") INPUTS_8("c") INPUTS_8("d") INPUTS_8("e") INPUTS_8("f") INPUTS_8("g") INPUTS_8("h")
-#define NAND_OF(output, a, b) 4, output, a, 0, b, 0, 0, 0
+#define NAND_OF(output, a, b) LINE(ULLIMAQSU_NAND, output, a, b)
 static const char c17[] =
     "# c17, six NANDs\r\nOUTPUT(22)\r\nOUTPUT(23)\r\n23 = NAND(16, 19)\r\n22\t=\tNAND(10,16)\n19=NAND(11,7)\n16=NAND(2,11)\n"
     "11=NAND(3,6)\n10=NAND(1,3)\n\nINPUT(1)\nINPUT(2)\n INPUT ( 3 ) # the third\nINPUT(6)\nOUTPUT(22)\nINPUT(7)";
@@ -254,17 +259,17 @@ static const struct {
     uint32_t returned;
     uint64_t number;
 } benches[] = {
-    {"c17", c17, sizeof c17 - 1, 16384, 0, 11},
-    {"input in small letters", "input(a)", 8, 16384, 14, 5},
-    {"a text that ends early, and a buffer too small", c17, sizeof c17 - 2, 16383, 14, sizeof c17 - 2},
-    {"a name defined nowhere", "INPUT(a)\nOUTPUT(b)", 18, 16384, 15, 16},
-    {"a name defined twice", "INPUT(a)\nINPUT(a)", 17, 0, 15, 15},
-    {"a gate behind a cycle", "INPUT(a)\nx=NOT(a)\ny=BUFF(z)\nz=OR(a,z)\nOUTPUT(y)", 47, 16384, 16, 1},
-    {"no text at all", 0, 0, 16384, 1, 0},
-    {"65 inputs, and no output", INPUTS_64 "INPUT(i)", 64 * 10 + 8, 16384, 4, 0},
-    {"no output, and no buffer", INPUTS_64, 64 * 10, 0, 5, 0},
-    {"a buffer too small", c17, sizeof c17 - 1, 16383, 10, 0},
-    {"a buffer too large", c17, sizeof c17 - 1, 16385, 10, 0},
+    {"c17", c17, sizeof c17 - 1, 16384, ULLIMAQSU_FINE, 11},
+    {"input in small letters", "input(a)", 8, 16384, ULLIMAQSU_BENCH_SYNTAX, 5},
+    {"a text that ends early, and a buffer too small", c17, sizeof c17 - 2, 16383, ULLIMAQSU_BENCH_SYNTAX, sizeof c17 - 2},
+    {"a name defined nowhere", "INPUT(a)\nOUTPUT(b)", 18, 16384, ULLIMAQSU_BENCH_NAME, 16},
+    {"a name defined twice", "INPUT(a)\nINPUT(a)", 17, 0, ULLIMAQSU_BENCH_NAME, 15},
+    {"a gate behind a cycle", "INPUT(a)\nx=NOT(a)\ny=BUFF(z)\nz=OR(a,z)\nOUTPUT(y)", 47, 16384, ULLIMAQSU_BENCH_CYCLE, 1},
+    {"no text at all", 0, 0, 16384, ULLIMAQSU_CIRCUIT_SIZE, 0},
+    {"65 inputs, and no output", INPUTS_64 "INPUT(i)", 64 * 10 + 8, 16384, ULLIMAQSU_MANY_INPUTS, 0},
+    {"no output, and no buffer", INPUTS_64, 64 * 10, 0, ULLIMAQSU_NO_OUTPUT, 0},
+    {"a buffer too small", c17, sizeof c17 - 1, 16383, ULLIMAQSU_BUFFER_SIZE, 0},
+    {"a buffer too large", c17, sizeof c17 - 1, 16385, ULLIMAQSU_BUFFER_SIZE, 0},
 };
 
 static void test_bench(void) {
@@ -276,7 +281,7 @@ static void test_bench(void) {
             fill(circuit, sizeof circuit), fill(area, sizeof area);
             uint32_t returned = ullimaqsu_bench((const uint8_t *)benches[i].text, benches[i].len, circuit, benches[i].circuit, area + 1, len);
             size_t read = returned ? 0 : sizeof records_of_c17;
-            expect(returned == (len == 32 ? benches[i].returned : 10), benches[i].name);
+            expect(returned == (len == 32 ? benches[i].returned : ULLIMAQSU_BUFFER_SIZE), benches[i].name);
             expect(len == 32 ? answers(area + 1, numbers) : stays(area + 1, 32), benches[i].name);
             expect(stays(area, 1) && stays(area + 33, 2), "the bytes around the answer area stay");
             expect(same(circuit, records_of_c17, read) && stays(circuit + read, sizeof circuit - read), "the records are written, and nothing else");

@@ -39,10 +39,27 @@ static unsigned long long number(int k) {
     return n;
 }
 
+/* What each refusal says, and what its place counts, if anything: the header's words. */
+static const struct {
+    uint32_t number;
+    const char *says, *counts;
+} refusals[] = {
+#define REFUSAL(name, number, says, counts) {name, says, counts},
+    ULLIMAQSU_REFUSALS(REFUSAL)
+#undef REFUSAL
+};
+
 /* Says so where a part refuses. */
 static int refused(const char *part, uint32_t refusal) {
-    if (refusal) printf("%s: refused %u at %llu\n", part, (unsigned)refusal, number(0));
-    return refusal != 0;
+    if (refusal == ULLIMAQSU_FINE) return 0;
+    printf("%s: refusal %u", part, (unsigned)refusal);
+    for (size_t i = 0; i < sizeof refusals / sizeof *refusals; i++) {
+        if (refusals[i].number != refusal) continue;
+        printf(": %s", refusals[i].says);
+        if (*refusals[i].counts) printf(" (%s %llu)", refusals[i].counts, number(0));
+    }
+    printf("\n");
+    return 1;
 }
 
 /* As much of a file as there is room for; an absent one is empty. */
@@ -82,12 +99,12 @@ static int print_test(struct file_of circuit, const uint8_t *fault, size_t lines
     printf("line %u site %u stuck %u: ", fault[0] + 256u * fault[1], (unsigned)fault[2], (unsigned)fault[3]);
     unsigned long long nodes = number(1);
     switch (number(0)) {
-    case 0:
+    case ULLIMAQSU_TEST:
         printf("test ");
         for (size_t i = 0; i < inputs; i++) printf("%c", "01X"[test[i]]);
         break;
-    case 1: printf("no test"); break;
-    default: printf("given up");
+    case ULLIMAQSU_REDUNDANT: printf("no test"); break;
+    case ULLIMAQSU_GIVEN_UP: printf("given up"); break;
     }
     printf(", %llu nodes\n", nodes);
     return 1;

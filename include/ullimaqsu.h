@@ -9,15 +9,15 @@
  *   What is read comes first, then lent memory, then the answer area.
  *   Numbers in records are little-endian, and so are the numbers of the answer.
  *
- *   Every entry returns 0, or the number of the refusal. The answer area is 32 bytes, four numbers of eight bytes each:
+ *   Every entry returns ULLIMAQSU_FINE, which is 0, or the number of the refusal. The answer area is 32 bytes, four numbers of eight bytes each:
  *       after 0           the numbers named at the entry, then zeros;
  *       after a refusal   the place of what is wrong, then zeros. A refusal writes nothing else.
- *   An area of another size returns 10 before every other check, and nothing at all is written.
+ *   An area of another size returns ULLIMAQSU_BUFFER_SIZE before every other check, and nothing at all is written.
  *
  * Circuit
  *
  *   1 to 2,048 records of 8 bytes, one a line; a line's number is its record's place, from 0. 1 to 64 lines are inputs.
- *       byte 0       kind: 0 input, 1 buffer, 2 NOT, 3 AND, 4 NAND, 5 OR, 6 NOR, 7 XOR, 8 XNOR
+ *       byte 0       its kind
  *       byte 1       1 if the line is an output, else 0
  *       bytes 2-3    first source, bytes 4-5 second source: lower than the line itself, or 0 where the kind has no such source
  *       bytes 6-7    zero
@@ -34,10 +34,7 @@
  * Pattern, values and table
  *
  *   A pattern has one byte for each input, in line order: 0, 1, or 2 for X. Values of lines are written in the same way.
- *   A table has one row for each pattern and, in the row, one byte for each fault:
- *       1 fail       at some output both circuits have known values and these differ: every filling of the X's detects the fault
- *       0 pass       at every output both are known and equal: no filling does
- *       2 unknown    otherwise
+ *   A table has one row for each pattern and, in the row, one byte for each fault, an entry: pass, fail or unknown.
  *
  * Text in the bench notation
  *
@@ -49,33 +46,7 @@
  *   A name is any 1 to 16 letters, digits or underscores, the words above among them. It is defined once, as an input or a gate, anywhere in
  *   the text. Spaces, tabs and CR may stand anywhere but inside a word.
  *
- * Refusals, in the order in which they are checked; the first that applies is given, with the lowest place
- *
- *   no.   when                                                               place
- *    1    circuit not a multiple of 8 bytes, empty, or above 2,048 records   0
- *    2    a circuit record breaks its layout                                 the line
- *    3    no input                                                           0
- *    4    more than 64 inputs                                                0
- *    5    no output                                                          0
- *    6    faults not a multiple of 8 bytes, empty, or above 256 records;     0
- *         for search and clauses not 8 bytes
- *    7    a fault record breaks its layout or names no line                  the record
- *    8    patterns not a multiple of the inputs, empty, or above 256         0
- *    9    a pattern byte above 2                                             the byte
- *   10    a lent buffer not of its exact size                                0
- *   11    the clauses do not fit the lent words                              the words needed
- *   12    a count of faults or patterns outside 1 to 256, or a table that    0
- *         is not of their product
- *   13    a table byte above 2                                               the byte
- *   14    a text not in the bench notation: no right text begins with the    the byte
- *         bytes up to this one, or it is byte 32,768, or the text ends early
- *         (the length)
- *   15    a name used and defined nowhere, or defined a second time          its first byte
- *   16    a gate that can't be placed: it depends on itself, or on one       the gate, from 0,
- *         that does                                                          in the text's order
- *
- *   The compactor checks 12 and 13 before the size of the marks. The bench reader checks 14 to 16 first, then 1, 4 and 5 on the records that
- *   it would write, then the size of its buffer.
+ * Kinds, entries, outcomes and refusals are numbers; each has a name below.
  */
 #ifndef ULLIMAQSU_H
 #define ULLIMAQSU_H
@@ -90,6 +61,65 @@ typedef __UINT32_TYPE__ uint32_t;
 typedef __INT32_TYPE__ int32_t;
 typedef __UINT64_TYPE__ uint64_t;
 #endif
+
+/* Refusals: name, number, what it says, and what its place counts ("" where the place is always 0). They are checked in this order, and the
+   first that applies is given, with the lowest place; but the compactor checks 12 and 13 before the size of the marks, and the bench reader
+   14 to 16 first, then 1, 4 and 5 on the records that it would write, then the size of its buffer.
+   14: the place is the first byte such that no right text begins with the bytes up to it, or byte 32,768, or the length of a text that ends
+   early. 15: the first byte of the name, where it is used or defined a second time. 16: gates alone are counted, from 0, in the text's order.
+   Nothing else in the repository has these words: what prints them takes them from here, as examples/front_end.c does. */
+#define ULLIMAQSU_REFUSALS(each) \
+    each(ULLIMAQSU_CIRCUIT_SIZE,    1, "the circuit is not a multiple of 8 bytes, empty, or above 2,048 records", "") \
+    each(ULLIMAQSU_CIRCUIT_LAYOUT,  2, "a circuit record breaks its layout", "line") \
+    each(ULLIMAQSU_NO_INPUT,        3, "the circuit has no input", "") \
+    each(ULLIMAQSU_MANY_INPUTS,     4, "the circuit has more than 64 inputs", "") \
+    each(ULLIMAQSU_NO_OUTPUT,       5, "the circuit has no output", "") \
+    each(ULLIMAQSU_FAULTS_SIZE,     6, "the faults are not a multiple of 8 bytes, empty, or above 256 records (search and clauses: not 8 bytes)", "") \
+    each(ULLIMAQSU_FAULT_LAYOUT,    7, "a fault record breaks its layout or names no line", "record") \
+    each(ULLIMAQSU_PATTERNS_SIZE,   8, "the patterns are not a multiple of the inputs, empty, or above 256", "") \
+    each(ULLIMAQSU_PATTERN_BYTE,    9, "a pattern byte is above 2", "byte") \
+    each(ULLIMAQSU_BUFFER_SIZE,    10, "a lent buffer has not its exact size", "") \
+    each(ULLIMAQSU_NO_ROOM,        11, "the clauses do not fit the lent words", "words needed:") \
+    each(ULLIMAQSU_TABLE_SIZE,     12, "a count of faults or patterns is outside 1 to 256, or the table is not of their product", "") \
+    each(ULLIMAQSU_TABLE_BYTE,     13, "a table byte is above 2", "byte") \
+    each(ULLIMAQSU_BENCH_SYNTAX,   14, "the text goes on or ends as no text in the bench notation does", "byte") \
+    each(ULLIMAQSU_BENCH_NAME,     15, "a name is used and defined nowhere, or defined a second time", "byte") \
+    each(ULLIMAQSU_BENCH_CYCLE,    16, "a gate depends on itself, or on one that does", "gate")
+
+/* What every entry returns. */
+enum ullimaqsu_refusal {
+    ULLIMAQSU_FINE = 0, /* nothing is refused */
+#define ULLIMAQSU_NAMED(name, number, says, counts) name = number,
+    ULLIMAQSU_REFUSALS(ULLIMAQSU_NAMED)
+#undef ULLIMAQSU_NAMED
+};
+
+/* How a search ends. */
+enum ullimaqsu_outcome {
+    ULLIMAQSU_TEST = 0,      /* there is a test */
+    ULLIMAQSU_REDUNDANT = 1, /* there is none */
+    ULLIMAQSU_GIVEN_UP = 2   /* the search would look at more nodes than the budget allows */
+};
+
+/* An entry of a table. */
+enum ullimaqsu_entry {
+    ULLIMAQSU_PASS = 0,   /* at every output both circuits have known values and these are equal: no filling of the X's detects the fault */
+    ULLIMAQSU_FAIL = 1,   /* at some output both are known and differ: every filling does */
+    ULLIMAQSU_UNKNOWN = 2 /* neither */
+};
+
+/* What a line is. An input has no source, a buffer and a NOT have one, the others two. */
+enum ullimaqsu_kind {
+    ULLIMAQSU_INPUT = 0,
+    ULLIMAQSU_BUFFER = 1,
+    ULLIMAQSU_NOT = 2,
+    ULLIMAQSU_AND = 3,
+    ULLIMAQSU_NAND = 4,
+    ULLIMAQSU_OR = 5,
+    ULLIMAQSU_NOR = 6,
+    ULLIMAQSU_XOR = 7,
+    ULLIMAQSU_XNOR = 8
+};
 
 #ifdef __cplusplus
 extern "C" {
@@ -127,7 +157,7 @@ uint32_t ullimaqsu_compact(uint64_t fault_count, uint64_t pattern_count,
    the search gives up exactly if without a budget it would look at more.
    The test buffer, exactly n bytes, is written only for a test. The work memory, exactly 2 N bytes, then holds the good and after them the
    faulty values of the last node looked at; with budget 0 it stays.
-   Answer: the outcome, 0 test, 1 redundant (there is no test), 2 given up; and the number of nodes looked at. */
+   Answer: the outcome, and the number of nodes looked at. */
 uint32_t ullimaqsu_search(const uint8_t *circuit, size_t circuit_len,
                           const uint8_t *fault, size_t fault_len,
                           uint64_t budget,

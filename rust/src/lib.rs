@@ -14,7 +14,7 @@ mod bridge;
 #[cfg(direct)]
 mod direct;
 
-pub use refusal::Refusal;
+pub use refusal::{refusals, Meaning, Refusal};
 
 use raw::{enter, Call};
 use refusal::answered;
@@ -27,15 +27,15 @@ pub struct Counts {
     pub outputs: u64,
 }
 
-/// How a search ended.
+/// How a search ended, with the header's numbers.
 #[derive(Clone, Copy, Debug, PartialEq, Eq)]
 pub enum Outcome {
     /// The test buffer holds a test.
-    Test,
+    Test = 0,
     /// There is no test.
-    Redundant,
+    Redundant = 1,
     /// The search would have looked at more nodes than the budget allows.
-    GivenUp,
+    GivenUp = 2,
 }
 
 /// How a search ended, and how many nodes it looked at.
@@ -58,8 +58,8 @@ pub struct Clauses {
 /// ```
 /// let not = [0, 0, 0, 0, 0, 0, 0, 0, 2, 1, 0, 0, 0, 0, 0, 0];
 /// assert_eq!(ullimaqsu::check(&not), Ok(ullimaqsu::Counts { lines: 2, inputs: 1, outputs: 1 }));
-/// let refusal = ullimaqsu::check(&not[8..]).unwrap_err();
-/// assert_eq!(refusal.to_string(), "refusal 2: a circuit record breaks its layout (line 0)");
+/// let refusal = ullimaqsu::check(&not[..8]).unwrap_err();
+/// assert_eq!(refusal.to_string(), "refusal 5: the circuit has no output");
 /// ```
 pub fn check(circuit: &[u8]) -> Result<Counts, Refusal> {
     let mut area = [0; 32];
@@ -119,12 +119,9 @@ pub fn compact(fault_count: u64, pattern_count: u64, table: &[u8], marks: &mut [
 pub fn search(circuit: &[u8], fault: &[u8], budget: u64, test: &mut [u8], work: &mut [u8]) -> Result<Search, Refusal> {
     let mut area = [0; 32];
     let returned = enter(Call::Search { circuit, fault, budget, test, work, answer: &mut area });
-    let [outcome, nodes, ..] = answered(returned, area)?;
-    let outcome = match outcome {
-        0 => Outcome::Test,
-        1 => Outcome::Redundant,
-        _ => Outcome::GivenUp,
-    };
+    let [number, nodes, ..] = answered(returned, area)?;
+    let outcomes = [Outcome::Test, Outcome::Redundant, Outcome::GivenUp];
+    let outcome = outcomes.into_iter().find(|&outcome| outcome as u64 == number).expect("a search ends in one of three ways");
     Ok(Search { outcome, nodes })
 }
 
@@ -161,7 +158,7 @@ pub const LARGEST_CIRCUIT: usize = 16_384;
 /// assert_eq!(bench(b"OUTPUT(y)\ny = NOT(a)\nINPUT(a)", &mut circuit), Ok(2));
 /// assert_eq!(circuit[..18], [0, 0, 0, 0, 0, 0, 0, 0, 2, 1, 0, 0, 0, 0, 0, 0, 9, 9]);
 /// let refusal = bench(b"OUTPUT(y)\ny = NOT(b)\nINPUT(a)", &mut circuit).unwrap_err();
-/// assert_eq!(refusal.to_string(), "refusal 15: a name is defined nowhere, or a second time (byte 18)");
+/// assert_eq!(refusal.to_string(), "refusal 15: a name is used and defined nowhere, or defined a second time (byte 18)");
 /// ```
 pub fn bench(text: &[u8], circuit: &mut [u8]) -> Result<u64, Refusal> {
     let mut area = [0; 32];

@@ -8,38 +8,36 @@ pub struct Refusal {
     pub place: u64,
 }
 
-impl Refusal {
-    /// What the number says, and what the place counts where it says something.
-    fn words(&self) -> (&'static str, Option<&'static str>) {
-        match self.number {
-            1 => ("the circuit is not a multiple of 8 bytes, empty, or above 2,048 records", None),
-            2 => ("a circuit record breaks its layout", Some("line")),
-            3 => ("the circuit has no input", None),
-            4 => ("the circuit has more than 64 inputs", None),
-            5 => ("the circuit has no output", None),
-            6 => ("the faults are not a multiple of 8 bytes, none, or above 256 records (one record where one fault is wanted)", None),
-            7 => ("a fault record breaks its layout or names no line", Some("record")),
-            8 => ("the patterns are not a multiple of the number of inputs, none, or above 256", None),
-            9 => ("a pattern byte is above 2", Some("byte")),
-            10 => ("a lent buffer has not its exact size", None),
-            11 => ("the clauses do not fit the lent words", Some("words needed:")),
-            12 => ("a count of faults or patterns is outside 1 to 256, or the table is not of their product", None),
-            13 => ("a table byte is above 2", Some("byte")),
-            14 => ("the text goes on or ends as no text in the bench notation does", Some("byte")),
-            15 => ("a name is defined nowhere, or a second time", Some("byte")),
-            16 => ("a gate depends on itself, or on one that does", Some("gate")),
-            _ => ("unknown", Some("place")),
-        }
-    }
+/// What the header says of a refusal. Its place counts something, or is always 0.
+#[derive(Clone, Copy, Debug, PartialEq, Eq)]
+pub struct Meaning {
+    pub name: &'static str,
+    pub number: u32,
+    pub says: &'static str,
+    pub counts: Option<&'static str>,
+}
+
+/// The refusals in order, from the table of the header, which alone has their names and words.
+pub fn refusals() -> impl Iterator<Item = Meaning> {
+    include_str!("../../include/ullimaqsu.h").lines().filter_map(meaning)
+}
+
+/// A row of the table: `each(NAME, NUMBER, "what it says", "what its place counts")`.
+fn meaning(line: &'static str) -> Option<Meaning> {
+    let (named, words) = line.trim_start().strip_prefix("each(")?.split_once('"')?;
+    let (name, number) = named.trim_end_matches([',', ' ']).split_once(',')?;
+    let (says, counts) = words.split_once("\", \"")?;
+    let counts = counts.split('"').next().filter(|counts| !counts.is_empty());
+    Some(Meaning { name, number: number.trim().parse().ok()?, says, counts })
 }
 
 impl fmt::Display for Refusal {
     fn fmt(&self, f: &mut fmt::Formatter) -> fmt::Result {
-        let (what, counted) = self.words();
-        write!(f, "refusal {}: {what}", self.number)?;
-        match counted {
-            Some(counted) => write!(f, " ({counted} {})", self.place),
-            None => Ok(()),
+        write!(f, "refusal {}: ", self.number)?;
+        match refusals().find(|meaning| meaning.number == self.number) {
+            Some(Meaning { says, counts: Some(counts), .. }) => write!(f, "{says} ({counts} {})", self.place),
+            Some(Meaning { says, counts: None, .. }) => write!(f, "{says}"),
+            None => write!(f, "unknown (place {})", self.place),
         }
     }
 }

@@ -194,7 +194,4 @@ fn bindings() {
     }
     assert_eq!((circuit[..8].to_vec(), &circuit[8..]), (vec![0, 1, 0, 0, 0, 0, 0, 0], &[9; LARGEST_CIRCUIT - 8][..]));
     assert_eq!(ullimaqsu::bench(b"INPUT(a)\nOUTPUT(a)", &mut circuit[1..]).unwrap_err().number, 10);
-    let words = |number, place| ullimaqsu::Refusal { number, place }.to_string();
-    assert_eq!(words(14, 5), "refusal 14: the text goes on or ends as no text in the bench notation does (byte 5)");
-    assert_eq!(words(16, 2), "refusal 16: a gate depends on itself, or on one that does (gate 2)");
 }

@@ -1,5 +1,5 @@
-//! `./ullimaqsu bench` on files: what it writes and says is the second program's, and its words about a refusal agree with the place, with
-//! the grammar and with the text.
+//! The program behind `./ullimaqsu bench`: what it writes and says is the second program's, and its words about a refusal agree with the
+//! place, with the grammar and with the text.
 #[path = "harness/directory.rs"]
 mod directory;
 #[path = "harness/x86.rs"]
@@ -9,18 +9,8 @@ use cases::{drawn, texts, Random, Tally};
 use directory::{root, Directory};
 use second::bench::{parse, Text};
 use second::Refusal;
-use std::path::Path;
-use std::process::Command;
 use std::{fs, thread};
 use x86::program;
-
-/// The names of the files in a directory, in order.
-fn names(directory: &Directory) -> Vec<String> {
-    let entries = fs::read_dir(&directory.0).expect("a directory");
-    let mut names: Vec<_> = entries.map(|entry| entry.expect("an entry").file_name().into_string().expect("text")).collect();
-    names.sort();
-    names
-}
 
 fn text(bytes: &[u8]) -> String {
     String::from_utf8(bytes.to_vec()).expect("text")
@@ -124,24 +114,31 @@ fn check_cycle(text: &[u8], gate: usize, words: &str) {
     assert!(itself || depends_on.contains(&names[0]), "{words}");
 }
 
+/// Refusals 1, 4 and 5 on the records: the header's words, and how many inputs and gates there are.
+fn check_records(text: &[u8], number: u32, words: &str) {
+    let Text { inputs, equations, .. } = Text::read(text).expect("right in syntax");
+    let meaning = ullimaqsu::refusals().find(|meaning| meaning.number == number).expect("named");
+    assert_eq!(words, format!("{} (inputs in the text: {}, gates: {})", meaning.says, inputs.len(), equations.len()));
+}
+
 /// Runs the reader on a text where records stand already, and holds all that it does to the second program. The number of the refusal.
 fn check(directory: &Directory, bytes: &[u8]) -> u32 {
     let (file, records) = (directory.write("text.bench", bytes), directory.write("old.rec", b"records of old"));
-    let output = program("build/bench").args([&file, &records]).output().expect("sh runs");
-    assert!(output.stderr.is_empty(), "{output:?}");
-    let said = text(&output.stdout);
+    let output = program("build/bench").args([&file, &records, &records]).output().expect("sh runs");
+    let (printed, said) = (text(&output.stdout), text(&output.stderr));
     let written = fs::read(&records).expect("records");
-    assert_eq!(names(directory), ["old.rec", "text.bench"]);
+    assert_eq!(directory.names(), ["old.rec", "text.bench"]);
     match second::bench(bytes, 16_384) {
         Ok(right) => {
             let counts = second::check(&right).expect("sound");
-            assert_eq!(said, format!("lines {}, inputs {}, outputs {}\n", counts.lines, counts.inputs, counts.outputs));
-            assert_eq!((output.status.code(), written), (Some(0), right));
+            assert_eq!(printed, format!("lines {}, inputs {}, outputs {}\n", counts.lines, counts.inputs, counts.outputs));
+            assert_eq!((output.status.code(), written, said.as_str()), (Some(0), right, ""));
             0
         }
         Err(Refusal { number, place: at }) => {
-            let (first, words) = said.strip_suffix('\n').and_then(|said| said.split_once('\n')).expect("two lines");
-            assert_eq!(first, format!("refused {number} {at}"));
+            assert_eq!(printed, format!("refused {number} {at}\n"));
+            let words = said.strip_prefix(&format!("ullimaqsu: {}: ", file.display())).expect("the file");
+            let words = words.strip_suffix('\n').expect("a line");
             assert_eq!((output.status.code(), &written[..]), (Some(1), &b"records of old"[..]));
             let byte = match number {
                 14 | 15 => Some(at),
@@ -156,7 +153,7 @@ fn check(directory: &Directory, bytes: &[u8]) -> u32 {
                 14 => check_syntax(bytes, at, words),
                 15 => check_name(bytes, at, words),
                 16 => check_cycle(bytes, at, words),
-                _ => assert!(words.starts_with("the text has "), "{words}"),
+                _ => check_records(bytes, number, words),
             }
             number
         }
@@ -217,44 +214,4 @@ fn examples() {
         files.filter(|path| path.extension().is_some_and(|end| end == "bench")).map(|path| fs::read(path).expect("a text")).collect();
     assert_eq!(texts.len(), 5);
     assert_eq!(check_all("examples", texts), [0]);
-}
-
-/// The command itself.
-fn command(arguments: &[&Path]) -> (Option<i32>, String, String) {
-    let output = Command::new(root().join("ullimaqsu")).arg("bench").args(arguments).output().expect("sh runs");
-    (output.status.code(), text(&output.stdout), text(&output.stderr))
-}
-
-#[test]
-fn commands() {
-    let directory = Directory::new("a command");
-    let c17 = fs::read(root().join("examples/bench/c17.bench")).expect("c17");
-    let records = fs::read(root().join("examples/c17/circuit.rec")).expect("c17");
-    let file = directory.write("c 17.bench", &c17);
-    let counts = "lines 11, inputs 5, outputs 2\n".to_string();
-
-    // beside the file, over what stands there
-    directory.write("circuit.rec", b"records of old");
-    assert_eq!(command(&[&file]), (Some(0), counts.clone(), String::new()));
-    assert_eq!(fs::read(directory.0.join("circuit.rec")).expect("records"), records);
-    // or elsewhere
-    assert_eq!(command(&[&file, &directory.0.join("other")]), (Some(0), counts, String::new()));
-    assert_eq!(fs::read(directory.0.join("other")).expect("records"), records);
-
-    // a refusal loses nothing
-    let wrong = directory.write("wrong.bench", b"INPUT(a)\noutput(a)\n");
-    let words = "line 2, column 7 (byte 15): after `output` there must be `=`, and here is `(`; only INPUT and OUTPUT, in capitals, are followed by `(`";
-    assert_eq!(command(&[&wrong]), (Some(1), "refused 14 15\n".to_string(), format!("ullimaqsu: {}: {words}\n", wrong.display())));
-    assert_eq!(fs::read(directory.0.join("circuit.rec")).expect("records"), records);
-    assert_eq!(command(&[&wrong, &directory.0.join("none")]).0, Some(1));
-
-    // nothing is run: no file, a directory, no directory to write to, the text itself as the place for the records, too many words
-    let (absent, nowhere) = (directory.0.join("absent"), directory.0.join("absent/circuit.rec"));
-    let several: [&[&Path]; 6] = [&[], &[&absent], &[&directory.0], &[&file, &nowhere], &[&file, &file], &[&file, &absent, &absent]];
-    for arguments in several {
-        let (status, printed, said) = command(arguments);
-        assert_eq!((status, printed.as_str(), said.lines().count()), (Some(2), "", 1), "{arguments:?}: {said}");
-    }
-    assert_eq!(fs::read(&file).expect("the text"), c17);
-    assert_eq!(names(&directory), ["c 17.bench", "circuit.rec", "other", "wrong.bench"]);
 }

@@ -199,7 +199,4 @@ fn bindings() {
         };
         assert_eq!(ullimaqsu::check(&circuit), said);
     }
-    let words = |number, place| ullimaqsu::Refusal { number, place }.to_string();
-    assert_eq!(words(2, 17), "refusal 2: a circuit record breaks its layout (line 17)");
-    assert_eq!(words(5, 0), "refusal 5: the circuit has no output");
 }

@@ -218,6 +218,6 @@ fn bindings() {
     let mut marks = [9; 2];
     assert_eq!(ullimaqsu::compact(3, 2, &[1, 2, 0, 1, 1, 1], &mut marks), Ok(()));
     assert_eq!(marks, [1, 1]);
-    let refused = ullimaqsu::compact(3, 2, &[1, 2, 0, 1, 1, 3], &mut marks).unwrap_err();
-    assert_eq!((refused.number, refused.to_string().as_str()), (13, "refusal 13: a table byte is above 2 (byte 5)"));
+    let refused = ullimaqsu::compact(3, 2, &[1, 2, 0, 1, 1, 3], &mut marks);
+    assert_eq!(refused, Err(ullimaqsu::Refusal { number: 13, place: 5 }));
 }

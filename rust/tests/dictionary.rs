@@ -264,5 +264,4 @@ fn bindings() {
     assert_eq!(work, [2, 1, 0, 2, 2, 0, 1, 0, 0, 0]);
     let refused = ullimaqsu::dictionary(&a, &[0, 0, 1, 0, 0, 0, 0, 0], &patterns, &mut table, &mut work);
     assert_eq!(refused, Err(ullimaqsu::Refusal { number: 7, place: 0 }));
-    assert_eq!(refused.unwrap_err().to_string(), "refusal 7: a fault record breaks its layout or names no line (record 0)");
 }

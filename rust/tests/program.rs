@@ -1,17 +1,23 @@
 //! The built dictionary program against the second program, in directories of every kind, and on the examples.
+#[path = "harness/command.rs"]
+mod command;
 #[path = "harness/directory.rs"]
 mod directory;
+#[path = "harness/unheard.rs"]
+mod unheard;
 #[path = "harness/x86.rs"]
 mod x86;
 
 use cases::circuits::{circuit, record, small, BUFFER};
 use cases::faults::{patterns, some};
 use cases::{damage, drawn, Random, Tally};
+use command::ullimaqsu;
 use directory::{root, Directory};
 use second::Files;
 use std::path::Path;
 use std::time::Instant;
 use std::{fs, thread};
+use unheard::unheard;
 use x86::program;
 
 /// What the program prints in a directory.
@@ -139,5 +145,28 @@ fn examples() {
         let file = |file| Some(fs::read(directory.join(file)).expect("a file"));
         let files = Files { circuit: file("circuit.rec"), faults: file("faults.rec"), patterns: file("patterns.rec") };
         assert_eq!(second::program(&files), output, "{name}");
+    }
+}
+
+/// `./ullimaqsu dictionary`: what the program prints, the files that are not there, and status 2 where nothing can be run or printed.
+#[test]
+fn commands() {
+    let dictionary = |directory| ullimaqsu(&[Path::new("dictionary"), directory]);
+    let c17 = root().join("examples/c17");
+    let output = fs::read_to_string(c17.join("output")).expect("output");
+    assert_eq!(dictionary(&c17), (Some(0), output, String::new()));
+
+    let directory = Directory::new("no faults");
+    directory.write("circuit.rec", &fs::read(c17.join("circuit.rec")).expect("c17"));
+    fs::create_dir(directory.0.join("patterns.rec")).expect("a directory");
+    let (status, printed, said) = dictionary(&directory.0);
+    assert_eq!((status, printed.as_str()), (Some(1), "refused 6 0\n"));
+    let path = |name| directory.0.join(name).display().to_string();
+    let about = [path("faults.rec: the faults"), format!("there is no file {}", path("faults.rec")), path("patterns.rec is a directory")];
+    assert_eq!(said.lines().count(), about.len());
+    assert!(said.lines().zip(&about).all(|(line, about)| line.starts_with(&format!("ullimaqsu: {about}"))), "{said}");
+
+    for said in unheard(&[Path::new("dictionary"), &c17]).into_iter().chain([dictionary(&directory.0.join("absent"))]) {
+        assert_eq!((said.0, said.1.as_str(), said.2.lines().count()), (Some(2), "", 1), "{said:?}");
     }
 }

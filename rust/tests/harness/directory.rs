@@ -21,6 +21,15 @@ impl Directory {
         fs::write(&path, bytes).expect("a file");
         path
     }
+
+    /// The names of all that stands in it, in order.
+    #[allow(dead_code)] // not every test asks
+    pub fn names(&self) -> Vec<String> {
+        let entries = fs::read_dir(&self.0).expect("a directory");
+        let mut names: Vec<_> = entries.map(|entry| entry.expect("an entry").file_name().into_string().expect("text")).collect();
+        names.sort();
+        names
+    }
 }
 
 impl Drop for Directory {

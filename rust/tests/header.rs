@@ -1,0 +1,149 @@
+//! The header's names, numbers and words, and all that must agree with them: the bindings, what the example in C and `./ullimaqsu` print, and
+//! the docs.
+#[path = "harness/command.rs"]
+mod command;
+#[path = "harness/directory.rs"]
+mod directory;
+#[path = "harness/x86.rs"]
+mod x86;
+
+use cases::circuits::{self, record, AND, INPUT, OR};
+use command::{run, ullimaqsu};
+use directory::{root, Directory};
+use second::{program, Entry, Files};
+use std::collections::BTreeMap;
+use std::fs;
+use std::path::Path;
+use ullimaqsu::{refusals, Meaning, Outcome, Refusal};
+
+fn read(name: &str) -> String {
+    fs::read_to_string(root().join(name)).expect("a text")
+}
+
+/// The names of the header and their numbers: those of the table, and those that an enumeration spells out.
+fn names() -> BTreeMap<String, u64> {
+    let header = read("include/ullimaqsu.h");
+    let spelt = header.lines().filter_map(|line| {
+        let (name, number) = line.trim_start().split_once(" = ")?;
+        let number = number.split(|letter: char| !letter.is_ascii_digit()).next()?;
+        Some((name.strip_prefix("ULLIMAQSU_")?.to_string(), number.parse().ok()?))
+    });
+    let table = refusals().map(|meaning| (meaning.name.trim_start_matches("ULLIMAQSU_").to_string(), meaning.number.into()));
+    spelt.chain(table).collect()
+}
+
+#[test]
+fn the_table_of_refusals() {
+    let rows = read("include/ullimaqsu.h").lines().filter(|line| line.trim_start().starts_with("each(ULLIMAQSU_")).count();
+    let all: Vec<Meaning> = refusals().collect();
+    assert_eq!((all.len(), all.first().map(|first| first.number)), (rows, Some(1)));
+    assert!(all.windows(2).all(|pair| pair[0].number < pair[1].number));
+    for Meaning { name, says, counts, .. } in &all {
+        assert!(name.starts_with("ULLIMAQSU_") && !name.contains(' ') && says.contains(' ') && !says.contains('"'), "{name}: {says}");
+        assert!(counts.is_none_or(|counts| !counts.contains('"') && counts.trim() == counts), "{name}: {counts:?}");
+    }
+    assert_eq!(Refusal { number: 13, place: 5 }.to_string(), "refusal 13: a table byte is above 2 (byte 5)");
+    assert_eq!(Refusal { number: 5, place: 0 }.to_string(), "refusal 5: the circuit has no output");
+    assert_eq!(Refusal { number: 99, place: 3 }.to_string(), "refusal 99: unknown (place 3)");
+}
+
+#[test]
+fn numbers_elsewhere() {
+    let names = names();
+    let number = |name: &str| names[name];
+    let outcomes = [("TEST", Outcome::Test), ("REDUNDANT", Outcome::Redundant), ("GIVEN_UP", Outcome::GivenUp)];
+    assert!(outcomes.iter().all(|&(name, outcome)| number(name) == outcome as u64));
+    let entries = [("PASS", Entry::Pass), ("FAIL", Entry::Fail), ("UNKNOWN", Entry::Unknown)];
+    assert!(entries.iter().all(|&(name, entry)| number(name) == entry as u64));
+    let kinds = [
+        ("INPUT", INPUT),
+        ("BUFFER", circuits::BUFFER),
+        ("NOT", circuits::NOT),
+        ("AND", AND),
+        ("NAND", circuits::NAND),
+        ("OR", OR),
+        ("NOR", circuits::NOR),
+        ("XOR", circuits::XOR),
+        ("XNOR", circuits::XNOR),
+    ];
+    assert!(kinds.iter().all(|&(name, kind)| number(name) == kind.into()));
+    let named = 1 + refusals().count() + outcomes.len() + entries.len() + kinds.len();
+    assert_eq!((number("FINE"), names.len()), (0, named), "each name stands once, and no other number has one");
+}
+
+/// Where the docs write a name the header has it, with the number that stands before it.
+#[test]
+fn names_in_the_docs() {
+    let names = names();
+    let mut numbered = 0;
+    for text in ["docs/INTERFACE.md", "README.md"].map(read) {
+        let mut before = "";
+        for word in text.split_whitespace() {
+            if let Some((_, rest)) = word.split_once("`ULLIMAQSU_") {
+                let name = rest.split(['`', '(']).next().expect("a beginning");
+                assert!(name == "REFUSALS" || names.contains_key(name), "{word}");
+                if let Ok(number) = before.parse() {
+                    assert_eq!(names.get(name), Some(&number), "{before} {word}");
+                    numbered += 1;
+                }
+            }
+            before = word;
+        }
+    }
+    assert!(numbered > 0, "numbers stand before names");
+}
+
+type Spoil = fn(&mut Vec<u8>);
+
+/// Example A, spoilt so that each refusal is given that files can have.
+fn refused_files() -> Vec<(&'static str, Files)> {
+    let inputs = record(INPUT, false, 0, 0).repeat(3);
+    let circuit = [&inputs[..], &record(AND, false, 0, 1), &record(OR, true, 3, 2)].concat();
+    let faults = [[3, 0, 0, 0, 0, 0, 0, 0], [0, 0, 0, 1, 0, 0, 0, 0]].concat();
+    let patterns = vec![1, 1, 0, 0, 1, 0];
+    let spoils: [(&str, Spoil); 8] = [
+        ("circuit", |bytes| bytes.truncate(7)),
+        ("circuit", |bytes| bytes[34] = 4),
+        ("circuit", |bytes| *bytes = record(INPUT, true, 0, 0).repeat(65)),
+        ("circuit", |bytes| bytes.truncate(24)),
+        ("faults", |bytes| bytes.clear()),
+        ("faults", |bytes| bytes[10] = 1),
+        ("patterns", |bytes| bytes.truncate(5)),
+        ("patterns", |bytes| bytes[4] = 3),
+    ];
+    let spoilt = |(name, spoil): (&'static str, Spoil)| {
+        let [mut circuit, mut faults, mut patterns] = [circuit.clone(), faults.clone(), patterns.clone()];
+        match name {
+            "circuit" => spoil(&mut circuit),
+            "faults" => spoil(&mut faults),
+            _ => spoil(&mut patterns),
+        }
+        (name, Files { circuit: Some(circuit), faults: Some(faults), patterns: Some(patterns) })
+    };
+    spoils.map(spoilt).into()
+}
+
+/// The example in C and the command say of each refusal what the header says, and the command also of which file.
+#[test]
+fn printed_words() {
+    let directory = Directory::new("refused");
+    let mut seen = vec![];
+    for (name, files) in refused_files() {
+        let paths = [("circuit", &files.circuit), ("faults", &files.faults), ("patterns", &files.patterns)]
+            .map(|(name, bytes)| directory.write(&format!("{name}.rec"), bytes.as_ref().expect("bytes")));
+        let refused = program(&files);
+        let numbers: Vec<u64> = refused.split_whitespace().skip(1).map(|number| number.parse().expect("a number")).collect();
+        let refusal = Refusal { number: numbers[0] as u32, place: numbers[1] };
+        let words = refusal.to_string();
+
+        let (status, printed, _) = run(x86::program("build/front_end").args(&paths));
+        let last = printed.lines().last().expect("a line");
+        assert_eq!((status, last.split_once(": ").expect("the part").1), (Some(1), words.as_str()));
+
+        let says = words.split_once(": ").expect("the number").1;
+        let line = format!("ullimaqsu: {}/{name}.rec: {says}\n", directory.0.display());
+        assert_eq!(ullimaqsu(&[Path::new("dictionary"), &directory.0]), (Some(1), refused, line));
+        seen.push(refusal.number);
+    }
+    assert_eq!(seen, [1, 2, 4, 5, 6, 7, 8, 9]);
+}
