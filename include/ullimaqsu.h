@@ -88,10 +88,10 @@ typedef __UINT64_TYPE__ uint64_t;
 
 /* What every entry returns. */
 enum ullimaqsu_refusal {
-    ULLIMAQSU_FINE = 0, /* nothing is refused */
 #define ULLIMAQSU_NAMED(name, number, says, counts) name = number,
     ULLIMAQSU_REFUSALS(ULLIMAQSU_NAMED)
 #undef ULLIMAQSU_NAMED
+    ULLIMAQSU_FINE = 0 /* nothing is refused */
 };
 
 /* How a search ends. */

@@ -14,7 +14,7 @@ use std::os::unix::fs::{symlink, FileTypeExt, OpenOptionsExt, PermissionsExt};
 use std::os::unix::net::UnixListener;
 use std::os::unix::process::ExitStatusExt;
 use std::path::{Path, PathBuf};
-use std::process::{Child, Command, Stdio};
+use std::process::{Child, Command, ExitStatus, Stdio};
 use std::time::{Duration, SystemTime};
 use std::{iter, thread};
 use unheard::{after, unheard};
@@ -281,6 +281,18 @@ fn writing_end(pipe: &Path, reader: &mut Child) -> File {
     }
 }
 
+/// How a process ends. One that goes on for a minute is stopped, so that the tests end too.
+fn end_of(process: &mut Child) -> ExitStatus {
+    for _ in 0..6000 {
+        match process.try_wait().expect("a process") {
+            Some(status) => return status,
+            None => thread::sleep(Duration::from_millis(10)),
+        }
+    }
+    process.kill().expect("a process");
+    panic!("it goes on");
+}
+
 /// While the reader waits for its text there is a file with a name of its own, which nobody else can read. A signal ends the reader, the file
 /// is gone, and what stood there stands there.
 #[test]
@@ -300,7 +312,7 @@ fn signals() {
         assert!(random.len() >= 10 && random != process.id().to_string(), "{new}");
         let id = process.id().to_string();
         assert!(Command::new("sh").args(["-c", "kill -s \"$1\" \"$2\"", "sh", signal, &id]).status().expect("it starts").success());
-        assert_eq!(process.wait().expect("it ends").signal(), Some(number), "{signal}");
+        assert_eq!(end_of(&mut process).signal(), Some(number), "{signal}");
         assert_eq!(directory.names(), ["out", "text"], "{signal}");
         assert_eq!(fs::read(&out).expect("a file"), OLD);
         assert_eq!(text.write(b"INPUT(a)").expect_err("nobody reads").kind(), ErrorKind::BrokenPipe);
