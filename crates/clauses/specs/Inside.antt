@@ -1,7 +1,7 @@
 -- What the functions inside part 5 owe each other; no reader of the promise needs it.
 -- Assumes nothing.
 use mathlib.Core.Path.{_≡_}
-use mathlib.Core.List.{List}
+use mathlib.Core.List.{List, _++_}
 use Prim.Native.Nat.{ℕ, _+_, _≤_}
 use lib.IntN.{ℤ}
 use lib.ListN.{length}
@@ -9,13 +9,14 @@ use Rattle.answers.specs.Rules.{Rule, refusal, unless}
 use Rattle.answers.specs.Answer.{answered}
 use Rattle.circuit.specs.Record.{outputsBefore}
 use Rattle.lists.specs.declared.Fault.{Fault}
+use Rattle.lists.specs.Faults.{faultAt, faultRules}
 use Rattle.cnf.specs.Lists.{gather}
 use Rattle.cnf.specs.Cnf.{Clauses, wordsOf}
-use Rattle.line_clauses.specs.Clauses.{clausesOf}
+use Rattle.line_clauses.specs.Clauses.{clausesOf, variablesOf}
 use Rattle.line_clauses.specs.Inside.{Circuit}
 use Rattle.clauses.specs.declared.Written.{Written}
 use Rattle.clauses.specs.declared.Written.the-variants.{Success, Refused}
-use Rattle.clauses.specs.Promise.{laidOn}
+use Rattle.clauses.specs.Promise.{roomRules, laidOn}
 
 -- an accepted circuit of n lines with so many outputs
 pub record Counted (c : List ℕ) (n outputs : ℕ) : Type 0 where
@@ -37,3 +38,16 @@ pub record WholeRoom (c : List ℕ) (f : Fault) (n outputs : ℕ) (w : List ℤ)
 pub record Answers (rules : List Rule) (cs : Clauses) (variables : ℕ) (w w′ : List ℤ) (r : Written) : Type 0 where
   pub answer : r ≡ answered Refused (refusal rules) (Success (length (wordsOf cs)) (length cs) variables)
   pub words : w′ ≡ unless (refusal rules) w (laidOn w (wordsOf cs))
+
+-- the rules left once the fault is read
+abbrev pub fitRules : List ℕ → Fault → ℕ → ℕ → List Rule
+fitRules c f n room = roomRules (length (wordsOf (clausesOf c f n))) room
+
+abbrev pub FitAnswers : List ℕ → Fault → ℕ → List ℤ → List ℤ → Written → Type 0
+FitAnswers c f n w w′ r = Answers (fitRules c f n (length w)) (clausesOf c f n) (variablesOf c n) w w′ r
+
+-- and those left once the circuit is accepted: the fault's come first
+abbrev pub RestAnswers : List ℕ → List ℕ → ℕ → List ℤ → List ℤ → Written → Type 0
+RestAnswers c fs n w w′ r =
+    let f = faultAt fs 0 in
+    Answers (faultRules 1 c fs ++ fitRules c f n (length w)) (clausesOf c f n) (variablesOf c n) w w′ r

@@ -6,10 +6,10 @@ use circuit::check;
 use lists::check_lists;
 use rows::fill_table;
 ghost use mathlib.Core.Path.{_≡_};
-ghost use lib.ListN.{length};
 ghost use Rattle.answers.specs.Rules.{refusal};
 ghost use Rattle.circuit.specs.Formed.{Known};
-ghost use Rattle.dictionary.specs.Dictionary.{restRules, Answered, Dictionary};
+ghost use Rattle.dictionary.specs.Dictionary.{restRules, Dictionary};
+ghost use Rattle.dictionary.specs.Owed.{RestAnswered};
 
 // Refusals 6 to 10.
 fn check_rest(
@@ -46,7 +46,8 @@ fn accepted(
     work: &mut [u8],
 ) -> Ruling
     requires { ⌜ Known (now circuit) n inputs ⌝ }
-    ensures { λ r. ⌜ Answered (restRules (now (circuit .entry)) n inputs (now (faults .entry)) (now (patterns .entry)) (length (now (table .entry))) (length (now (work .entry)))) (now (circuit .entry)) n inputs (now (faults .entry)) (now (patterns .entry)) (now (table .entry)) (now (work .entry)) r (now (table .exit)) (now (work .exit)) ⌝ }
+    ensures { λ r. ⌜ RestAnswered (now (circuit .entry)) n inputs (now (faults .entry)) (now (patterns .entry)) (now (table .entry)) (now (work .entry))
+        r (now (table .exit)) (now (work .exit)) ⌝ }
 {
     let v = check_rest(
         circuit,

@@ -149,7 +149,8 @@ pub extern "C" fn ullimaqsu_dictionary(
     work: &mut [u8],
     answer: &mut [u8],
 ) -> u32
-    ensures { λ r. ⌜ Made (now (circuit .entry)) (now (faults .entry)) (now (patterns .entry)) (now (table .entry)) (now (work .entry)) (now (answer .entry)) r (now (table .exit)) (now (work .exit)) (now (answer .exit)) ⌝ }
+    ensures { λ r. ⌜ Made (now (circuit .entry)) (now (faults .entry)) (now (patterns .entry)) (now (table .entry)) (now (work .entry)) (now (answer .entry))
+        r (now (table .exit)) (now (work .exit)) (now (answer .exit)) ⌝ }
 {
     if answer.len() != AREA {
         return OTHER_SIZE;
@@ -184,7 +185,8 @@ pub extern "C" fn ullimaqsu_search(
     work: &mut [u8],
     answer: &mut [u8],
 ) -> u32
-    ensures { λ r. ⌜ Found (now (circuit .entry)) (now (fault .entry)) budget (now (test .entry)) (now (work .entry)) (now (answer .entry)) r (now (test .exit)) (now (work .exit)) (now (answer .exit)) ⌝ }
+    ensures { λ r. ⌜ Found (now (circuit .entry)) (now (fault .entry)) budget (now (test .entry)) (now (work .entry)) (now (answer .entry))
+        r (now (test .exit)) (now (work .exit)) (now (answer .exit)) ⌝ }
 {
     if answer.len() != AREA {
         return OTHER_SIZE;

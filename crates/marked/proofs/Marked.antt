@@ -39,8 +39,15 @@ abbrev _and_ : {A B : Type 0} → A → B → A × B
 _and_ a b = (a, b)
 
 -- row by row; the one about all assignments by computing it for every set of true variables
+-- what is computed: rules; circuits and lists; the dictionary; the compactor; the listing; the search; clauses
 pub all-hold : AllHold marked
-unfolding countBelow firstNot said refusal recordsOk smallOk pinsOf notOf andOf orOf gateOf wordAt pinOk fieldOk lineOk layoutRules countRules checkOf faultOk faultRules patternRules stuckAt gateValue lineValue valuesTo differ agree entryBy entryAt rowTo tableTo tableOf outputOf tells lost lostPair lacks turn turns compacted sizesOk tableRules marksRules digits letterOf markOf linesTo countX firstX fill order upto found testIn verdictIn settled lookOf lentRules verdictFor testFor decodeFrom table gateClauses goodClauses faultyClauses differenceClauses clausesOf roomRules writtenOf onlySolution
+unfolding countBelow firstNot said refusal recordsOk smallOk lentRules
+    wordAt pinsOf notOf andOf orOf gateOf pinOk fieldOk lineOk layoutRules countRules checkOf faultOk faultRules patternRules
+    stuckAt gateValue lineValue valuesTo differ agree entryBy entryAt rowTo tableTo tableOf
+    tells lost lostPair lacks turn turns compacted sizesOk tableRules marksRules
+    digits letterOf markOf linesTo outputOf
+    countX firstX fill order upto found testIn verdictIn settled lookOf verdictFor testFor
+    decodeFrom table gateClauses goodClauses faultyClauses differenceClauses clausesOf roomRules writtenOf onlySolution
 all-hold =
     refl
     and (refl, refl)

@@ -51,7 +51,8 @@ fn run(
     work: &mut [u8],
 ) -> Verdict
     requires { ⌜ Runs (now circuit) fault n (now node) (length (now test)) (length (now work)) ⌝ }
-    ensures { λ r. ⌜ Ran (lookOf fault (now (circuit .entry)) n) (workOf fault (now (circuit .entry)) n) (now (node .entry)) budget (now (test .entry)) (now (work .entry)) r (now (test .exit)) (now (work .exit)) ⌝ }
+    ensures { λ r. ⌜ Ran (lookOf fault (now (circuit .entry)) n) (workOf fault (now (circuit .entry)) n) (now (node .entry)) budget
+        (now (test .entry)) (now (work .entry)) r (now (test .exit)) (now (work .exit)) ⌝ }
 {
     let found = side(circuit, fault, n, node, work, budget);
     put_test(found, node, test);
@@ -69,7 +70,8 @@ pub fn run_all_x(
     work: &mut [u8],
 ) -> Verdict
     requires { ⌜ (inputs ≤ 64) × Runs (now circuit) fault n (start inputs) (length (now test)) (length (now work)) ⌝ }
-    ensures { λ r. ⌜ Ran (lookOf fault (now (circuit .entry)) n) (workOf fault (now (circuit .entry)) n) (start inputs) budget (now (test .entry)) (now (work .entry)) r (now (test .exit)) (now (work .exit)) ⌝ }
+    ensures { λ r. ⌜ Ran (lookOf fault (now (circuit .entry)) n) (workOf fault (now (circuit .entry)) n) (start inputs) budget
+        (now (test .entry)) (now (work .entry)) r (now (test .exit)) (now (work .exit)) ⌝ }
 {
     let mut node = [2u8; 64];
     run(circuit, fault, n, &mut node[..inputs], budget, test, work)

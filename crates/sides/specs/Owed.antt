@@ -2,7 +2,7 @@
 -- Assumes nothing.
 use mathlib.Core.Path.{_≡_}
 use mathlib.Core.List.{List}
-use Prim.Native.Nat.{ℕ, _+_, _≤_, _<_}
+use Prim.Native.Nat.{ℕ, _+_, _<_}
 use Rattle.circuit.specs.Record.{inputsBefore}
 use Rattle.lists.specs.declared.Fault.{Fault}
 use Rattle.simulate.specs.Owed.{Shaped}

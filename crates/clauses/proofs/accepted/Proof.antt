@@ -28,7 +28,12 @@ same-length : tie.Need-same-length
 same-length c = search needs
 
 returns-2 : tie.Need-returns-2
-returns-2 c = first-fine _ _ (sym (c .before .before .before .before .before .before .check-faults .ensures) ∙ c .before .before .before .before .enum-told .given .1) (rw (c .before .before .before .read-fault .ensures) at (c .before .fitted .ensures))
+returns-2 c =
+    let read = c .before .before .before in
+    let told = read .before in
+    let checked = told .before .before in
+    first-fine _ _ (sym (checked .check-faults .ensures) ∙ told .enum-told .given .1)
+    (rw (read .read-fault .ensures) at (c .before .fitted .ensures))
 
 pub accepted-spec : {M : Type 1} → statement M
 accepted-spec =

@@ -45,7 +45,10 @@ put-digits-same-length : (t : ℕ) → put-digits-lts.Need-same-length (calls t)
 put-digits-same-length t c = search needs
 
 put-digits-returns-2 : (t : ℕ) → put-digits-lts.Need-returns-2 (calls t) (put-digits-at t) put-digits.Post
-put-digits-returns-2 t c = one-digit (c .before .before .before .before .before .if1 .left) (c .before .before .before .before .if2 .taken) (c .before .before .put-byte .ensures)
+put-digits-returns-2 t c =
+    let byte = c .before .before in
+    let last = byte .before .before in
+    one-digit (last .before .if1 .left) (last .if2 .taken) (byte .put-byte .ensures)
 
 put-digits-sub-put-digits : (t : ℕ) → put-digits-lts.Need-sub-put-digits (calls t) (put-digits-at t) put-digits.Post
 put-digits-sub-put-digits t c = search needs
@@ -60,14 +63,22 @@ put-digits-cast-put-byte-2 : (t : ℕ) → put-digits-lts.Need-cast-put-byte-2 (
 put-digits-cast-put-byte-2 t c = search needs
 
 put-digits-put-byte-requires-2 : (t : ℕ) → put-digits-lts.Need-put-byte-requires-2 (calls t) (put-digits-at t) put-digits.Post
-put-digits-put-byte-requires-2 t c κs = let p = c .before .before .before .put-digits .ensures in
-    omega (arith, p .next-is, put-long p, digits-short (c .before .before .before .before .before .before .before .before .args .f - 1) (c .before .before .before .before .before .before .before .before .args .n / 10), c .before .before .before .before .before .before .if1 .left)
+put-digits-put-byte-requires-2 t c κs =
+    let rest = c .before .before .before in
+    let some = rest .before .before .before in
+    let a = some .before .before .args in
+    let p = rest .put-digits .ensures in
+    omega (arith, p .next-is, put-long p, digits-short (a .f - 1) (a .n / 10), some .if1 .left)
 
 put-digits-same-length-2 : (t : ℕ) → put-digits-lts.Need-same-length-2 (calls t) (put-digits-at t) put-digits.Post
 put-digits-same-length-2 t c = search needs
 
 put-digits-returns-3 : (t : ℕ) → put-digits-lts.Need-returns-3 (calls t) (put-digits-at t) put-digits.Post
-put-digits-returns-3 t c = more-digits (c .before .before .before .before .before .before .before .before .before .if1 .left) (c .before .before .before .before .before .before .before .before .if2 .left) (c .before .before .before .before .before .before .put-digits .ensures) (c .before .before .put-byte2 .ensures)
+put-digits-returns-3 t c =
+    let byte = c .before .before in
+    let rest = byte .before .before .before .before in
+    let many = rest .before .before in
+    more-digits (many .before .if1 .left) (many .if2 .left) (rest .put-digits .ensures) (byte .put-byte2 .ensures)
 
 pub +put-digits-spec : {M : Type 1} → statement M
 +put-digits-spec = close μ-put-digits λ t. put-digits-lts.spec (calls t) (put-digits-at t)
