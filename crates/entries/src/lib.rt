@@ -13,7 +13,6 @@ use nodes::Verdict;
 use search::Searched;
 use search::search;
 ghost use mathlib.Core.Path.{_≡_};
-ghost use lib.ListN.{length};
 ghost use Rattle.answers.specs.Area.{refusedAt, told, done, Entered};
 ghost use Rattle.answers.specs.Area as answering;
 ghost use Rattle.circuit.specs.Check.{numbersOf};

@@ -7,7 +7,7 @@ use words::byte;
 use words::is_word;
 use words::same_word;
 ghost use mathlib.Core.Path.{_≡_};
-ghost use Prim.Native.Nat.{_+_, _*_, _-_, _<_, _≤_, _%_, min};
+ghost use Prim.Native.Nat.{_+_, _*_, _-_, _<_, _%_, min};
 ghost use lib.Dec.{ltb};
 ghost use lib.ListN.{length, getD};
 ghost use Rattle.ground.specs.Choose.{choose};
