@@ -9,7 +9,7 @@ use Rattle.answers.specs.Rules.{Rule, refusal, unless}
 use Rattle.answers.specs.Answer.{answered}
 use Rattle.circuit.specs.Record.{outputsBefore}
 use Rattle.lists.specs.declared.Fault.{Fault}
-use Rattle.cnf.specs.Lists.{gather}
+use Rattle.ground.specs.Lists.{gather}
 use Rattle.cnf.specs.Cnf.{Clauses, wordsOf}
 use Rattle.line_clauses.specs.Clauses.{clausesOf}
 use Rattle.line_clauses.specs.Inside.{Circuit}
