@@ -14,7 +14,7 @@ use Rattle.ground.specs.Below.{countBelow}
 use Rattle.circuit.specs.Record.{isOutput, outputsBefore}
 use Rattle.lists.specs.declared.Fault.{Fault}
 use Rattle.cnf.specs.declared.Size.{Size}
-use Rattle.cnf.specs.Lists.{gather}
+use Rattle.ground.specs.Lists.{gather}
 use Rattle.cnf.specs.Cnf.{Clauses}
 use Rattle.cnf.specs.Table.{table, gateClauses, sites}
 use Rattle.cnf.specs.Write.{sizeOf, Takes}

@@ -8,7 +8,7 @@ use native.Mathlib.Omega.{arith}
 use lib.IntN.{ℤ, pos}
 use lib.ListN.{length, length-append}
 use Rattle.lists.specs.declared.Fault.{Fault}
-use Rattle.cnf.specs.Lists.{gather}
+use Rattle.ground.specs.Lists.{gather}
 use Rattle.cnf.specs.Cnf.{Clauses, wordsOf}
 use Rattle.ground.specs.Put.{Put}
 use Rattle.cnf.specs.Write.{single}

@@ -10,7 +10,7 @@ use Rattle.answers.specs.Answer.{answered}
 use Rattle.circuit.specs.Record.{outputsBefore}
 use Rattle.lists.specs.declared.Fault.{Fault}
 use Rattle.lists.specs.Faults.{faultAt, faultRules}
-use Rattle.cnf.specs.Lists.{gather}
+use Rattle.ground.specs.Lists.{gather}
 use Rattle.cnf.specs.Cnf.{Clauses, wordsOf}
 use Rattle.line_clauses.specs.Clauses.{clausesOf, variablesOf}
 use Rattle.line_clauses.specs.Inside.{Circuit}

@@ -19,7 +19,7 @@ ghost use mathlib.Core.List.{[], _∷_, _++_};
 ghost use Prim.Native.Nat.{_+_, _≤_};
 ghost use lib.IntN.{ℤ};
 ghost use lib.ListN.{length};
-ghost use Rattle.cnf.specs.Lists.{gather};
+ghost use Rattle.ground.specs.Lists.{gather};
 ghost use Rattle.cnf.specs.Cnf.{wordsOf};
 ghost use Rattle.ground.specs.Put.{Put};
 ghost use Rattle.cnf.specs.Write.{single, Takes};

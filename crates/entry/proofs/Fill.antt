@@ -6,7 +6,6 @@ use mathlib.Core.Bool.{Bool, true, false}
 use mathlib.Core.List.{List}
 use Prim.Native.Nat.{ℕ, _<_}
 use native.Mathlib.Decide.{ℕ-discrete}
-use native.Mathlib.Nat.{le-refl}
 use native.Mathlib.Omega.{arith}
 use lib.ListN.{length, getD}
 use Rattle.ground.specs.Choose.{choose}
@@ -98,6 +97,6 @@ module _ (fault : Fault) (c p : List ℕ) (n : ℕ) where
   entry-decided small well full =
       known-decided agree Agree agree-says (λ a b d e. d .differ (e .equal)) (λ a b h. h) c (goodOf c p n) (faultyOf fault c p n) n
       (λ k l. (
-        values-known unforced unforced-keeps c p n well full n (le-refl n) k l,
-        values-known (stuckAt fault) (stuck-keeps fault small) c p n well full n (le-refl n) k l,
+        values-known unforced unforced-keeps c p n well full k,
+        values-known (stuckAt fault) (stuck-keeps fault small) c p n well full k,
       ))

@@ -3,18 +3,18 @@
 use mathlib.Core.Path.{_≡_, refl, sym, ap, _∙_}
 use mathlib.Core.Bool.{Bool, true, false, _||_, or-true, or-false, or-assoc, false≢true}
 use mathlib.Core.List.{List, [], _∷_, _++_}
-use Prim.Native.Nat.{ℕ, zero, suc, _+_, _≤_, _<_}
+use Prim.Native.Nat.{ℕ, zero, suc, _+_, _<_}
 use native.Mathlib.Decide.{ℕ-discrete}
 use native.Mathlib.Nat.{le-of-suc-le-suc, not-suc-le-zero}
 use native.Mathlib.Numerals.{add-one}
 use native.Mathlib.Omega.{arith}
 use lib.Dec.{eqb}
-use lib.ListN.{length, getD, take, set, length-append, List·getD-append}
-use lib.Seq.{take-suc-set, take-set-le, take-all, getD-at}
+use lib.ListN.{length, getD, take, set, length-append}
+use lib.Seq.{take-suc-set, take-set-le}
 use borrow.Author.Tests.{eq-eqb, ne-eqb}
 use Rattle.ground.specs.Choose.{choose, one}
 use Rattle.ground.specs.Below.{countBelow}
-use Rattle.ground.specs.Lists.{elem, indexIn, collect, table}
+use Rattle.ground.specs.Lists.{elem, indexIn, collect}
 use Rattle.ground.proofs.Tests.{neither}
 
 -- ---- one element more
@@ -94,37 +94,3 @@ collected-more {test} {f} {out} {d} {k} s room x e = record {
         ∙ ap (λ (l : List ℕ). l ++ (x ∷ [])) (s .are)
         ∙ ap (λ (y : ℕ). collect test f k ++ (y ∷ [])) (e q)
     go false q = let z : d + 0 ≡ d = omega arith in rw z (take-set-le d out d x (omega arith)) ∙ s .are
-
--- ---- tables
-
-pub table-length : (f : ℕ → ℕ) (n : ℕ) → length (table f n) ≡ n
-unfolding table
-table-length f zero = refl
-table-length f (suc n) = length-append (table f n) (f n ∷ []) ∙ omega (arith, table-length f n)
-
-pub table-get : (f : ℕ → ℕ) (n k : ℕ) → k < n → getD (table f n) k 0 ≡ f k
-unfolding table
-table-get f (suc n) k l = go (ℕ-discrete (length (table f n)) k) (table-get f n k)
-  where
-    go : Dec (length (table f n) ≡ k) → (k < n → getD (table f n) k 0 ≡ f k) → getD (table f n ++ (f n ∷ [])) k 0 ≡ f k
-    go (yes e) ih = getD-at (table f n) (f n) [] 0 k e ∙ ap f (sym (table-length f n) ∙ e)
-    go (no e) ih =
-        let m : k < length (table f n) = omega (arith, table-length f n) in
-        List·getD-append (table f n) (f n ∷ []) 0 k m ∙ ih (omega (arith, table-length f n))
-
--- a loop has written the first k
-pub record Tabled (f : ℕ → ℕ) (out : List ℕ) (k : ℕ) : Type 0 where
-  pub are : take k out ≡ table f k
-
-pub tabled-none : (f : ℕ → ℕ) (out : List ℕ) → Tabled f out 0
-unfolding table
-tabled-none f out = record { are = refl }
-
-pub tabled-more : {f : ℕ → ℕ} {out : List ℕ} {k : ℕ} → Tabled f out k → k < length out → (x : ℕ) → x ≡ f k → Tabled f (set out k x) (suc k)
-unfolding table
-tabled-more {f} {out} {k} s l x q = record {
-  are = take-suc-set out k x l ∙ ap (λ (m : List ℕ). m ++ (x ∷ [])) (s .are) ∙ ap (λ (y : ℕ). table f k ++ (y ∷ [])) q;
-}
-
-pub tabled-all : {f : ℕ → ℕ} {out : List ℕ} {k : ℕ} → Tabled f out k → length out ≤ k → out ≡ table f k
-tabled-all {f} {out} {k} s l = sym (take-all k out l) ∙ s .are

@@ -8,7 +8,7 @@ use Rattle.ground.specs.Choose.{choose}
 use Rattle.circuit.specs.Record.{kindAt, pinAt, isInput, isOutput, outputsBefore}
 use Rattle.lists.specs.declared.Fault.{Fault}
 use Rattle.lists.specs.Faults.{isAt}
-use Rattle.cnf.specs.Lists.{gather}
+use Rattle.ground.specs.Lists.{gather}
 use Rattle.cnf.specs.Cnf.{Clauses}
 use Rattle.cnf.specs.Table.{gateClauses, sites}
 

@@ -31,7 +31,6 @@ refused-short : (number place : ℕ) → length (refusedText number place) ≤ 5
 refused-short number place = simp length-append (omega (arith, digits-short 20 number, digits-short 20 place))
 
 lines-short : (faults : ℕ) (t marks : List ℕ) (p : ℕ) → faults ≤ 256 → length (linesTo faults t marks p) ≤ 280 * p
-unfolding linesTo
 lines-short faults t marks zero few = omega arith
 lines-short faults t marks (suc p) few =
     let row : List ℕ = take faults (drop (p * faults) t) in

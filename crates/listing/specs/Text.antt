@@ -1,10 +1,11 @@
 -- The text of the dictionary program, as bytes: 10 is the end of a line, 32 a space.
 -- Assumes nothing.
 use mathlib.Core.List.{List, [], _∷_, _++_, map}
-use Prim.Native.Nat.{ℕ, zero, suc, _*_}
+use Prim.Native.Nat.{ℕ, _*_}
 use lib.Dec.{eqb}
 use lib.ListN.{getD, take, drop}
 use Rattle.ground.specs.Choose.{choose}
+use Rattle.ground.specs.Lists.{gather}
 use Rattle.decimals.specs.Digits.{decimal}
 
 -- P pass, F fail, U unknown
@@ -20,9 +21,8 @@ abbrev pub lineOf : ℕ → ℕ → List ℕ → List ℕ
 lineOf p mark row = decimal p ++ ((32 ∷ markOf mark ∷ 32 ∷ []) ++ (map letterOf row ++ (10 ∷ [])))
 
 -- the lines of the first p patterns, of a table with so many faults
-unfoldable pub linesTo : ℕ → List ℕ → List ℕ → ℕ → List ℕ
-linesTo faults table marks zero = []
-linesTo faults table marks (suc p) = linesTo faults table marks p ++ lineOf p (getD marks p 0) (take faults (drop (p * faults) table))
+abbrev pub linesTo : ℕ → List ℕ → List ℕ → ℕ → List ℕ
+linesTo faults table marks p = gather (λ k. lineOf k (getD marks k 0) (take faults (drop (k * faults) table))) p
 
 -- `refused`, number, place, with single spaces
 abbrev pub refusedWord : List ℕ

@@ -2,6 +2,7 @@
 -- Assumes nothing.
 use mathlib.Core.Path.{refl}
 use Rattle.ground.specs.Below.{countBelow, firstNot}
+use Rattle.ground.specs.Lists.{grow}
 use Rattle.answers.specs.Rules.{said, refusal}
 use Rattle.answers.specs.Records.{recordsOk}
 use Rattle.answers.specs.Small.{smallOk}
@@ -12,14 +13,14 @@ use Rattle.circuit.specs.Layout.{pinOk, fieldOk, lineOk}
 use Rattle.circuit.specs.Check.{layoutRules, countRules, checkOf}
 use Rattle.lists.specs.Faults.{faultAt, faultOk, faultRules}
 use Rattle.lists.specs.Patterns.{patternRules}
-use Rattle.simulate.specs.Simulate.{stuckAt, gateValue, lineValue, valuesTo}
+use Rattle.simulate.specs.Simulate.{stuckAt, gateValue, lineValue}
 use Rattle.entry.specs.Entry.{differ, agree, entryBy, entryAt}
-use Rattle.rows.specs.Table.{rowTo, tableTo, tableOf}
+use Rattle.rows.specs.Table.{tableOf}
 use Rattle.needs.specs.Needs.{tells, lost, lostPair, lacks, turn, turns, compacted}
 use Rattle.tables.specs.Table.{sizesOk, tableRules}
 use Rattle.compact.specs.Compact.{marksRules}
 use Rattle.decimals.specs.Digits.{digits}
-use Rattle.listing.specs.Text.{letterOf, markOf, linesTo}
+use Rattle.listing.specs.Text.{letterOf, markOf}
 use Rattle.listing.specs.Listing.{outputOf}
 use Rattle.nodes.specs.Node.{countX, firstX, fill}
 use Rattle.nodes.specs.Order.{order, upto, found, testIn}
@@ -43,9 +44,9 @@ _and_ a b = (a, b)
 pub all-hold : AllHold marked
 unfolding countBelow firstNot said refusal recordsOk smallOk lentRules
     wordAt pinsOf notOf andOf orOf gateOf pinOk fieldOk lineOk layoutRules countRules checkOf faultOk faultRules patternRules
-    stuckAt gateValue lineValue valuesTo differ agree entryBy entryAt rowTo tableTo tableOf
+    stuckAt gateValue lineValue grow differ agree entryBy entryAt tableOf
     tells lost lostPair lacks turn turns compacted sizesOk tableRules marksRules
-    digits letterOf markOf linesTo outputOf
+    digits letterOf markOf outputOf
     countX firstX fill order upto found testIn verdictIn settled lookOf verdictFor testFor
     decodeFrom table gateClauses goodClauses faultyClauses differenceClauses clausesOf roomRules writtenOf onlySolution
 all-hold =

@@ -20,7 +20,7 @@ use Rattle.listing.specs.Listing.{outputOf}
 use Rattle.nodes.specs.declared.Verdict.{Verdict}
 use Rattle.search.specs.declared.Searched.the-variants as searched
 use Rattle.search.specs.Search.{searchRules, verdictFor, testFor}
-use Rattle.cnf.specs.Lists.{gather}
+use Rattle.ground.specs.Lists.{gather}
 use Rattle.cnf.specs.Cnf.{Assignment, Clauses, Satisfies}
 use Rattle.clauses.specs.declared.Written.{Written}
 use Rattle.line_clauses.specs.Clauses.{variablesOf}

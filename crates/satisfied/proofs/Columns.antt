@@ -3,16 +3,14 @@
 use mathlib.Core.Path.{_≡_, refl, sym, ap, _∙_}
 use mathlib.Core.Logic.{⊎-elim}
 use mathlib.Core.Bool.{Bool, true, false}
-use mathlib.Core.List.{List, []}
+use mathlib.Core.List.{List}
 use Prim.Native.Nat.{ℕ, zero, suc, _≤_, _<_}
 use native.Mathlib.Nat.{eq-or-lt-of-le, le-of-suc-le-suc, not-suc-le-zero, le-refl}
-use native.Mathlib.Numerals.{add-one}
 use native.Mathlib.Omega.{arith}
 use lib.Dec.{eqb, leb}
-use lib.ListN.{length, length-append, List·getD-append}
-use lib.Seq.{getD-at}
 use borrow.Author.Tests.{eqb-false}
 use Rattle.ground.specs.Choose.{choose}
+use Rattle.ground.proofs.Grow.{grow-at}
 use Rattle.gates.specs.Gate.{pinsOf}
 use Rattle.gates.specs.Boolean.{boolGate}
 use Rattle.gates.proofs.Laws.{bool-same}
@@ -80,25 +78,12 @@ module _ {c : List ℕ} {m n : ℕ} (w : WellFormed c m n) (F : Truths) (x : Vec
 -- ---- the truths are one
 
 module _ (F : Truths) (c : List ℕ) (x : Vector) where
-  truths-length : (k : ℕ) → length (truthsTo F c x k) ≡ k
-  unfolding truthsTo
-  truths-length zero = refl
-  truths-length (suc k) = simp (length-append, truths-length k, add-one)
-
-  truth-line : (n k : ℕ) → k < n → truthAt F c x n k ≡ lineTruth F c x (truthsTo F c x k) k
-  unfolding truthsTo
-  truth-line zero k l = absurd (not-suc-le-zero l)
-  truth-line (suc n) k l =
-      ⊎-elim (λ e. rw e (getD-at (truthsTo F c x n) _ [] false n (truths-length n)))
-      (λ m. List·getD-append (truthsTo F c x n) _ false k (rw (truths-length n) m) ∙ truth-line n k m)
-      (eq-or-lt-of-le (le-of-suc-le-suc l))
-
   pub truths-column : {m n : ℕ} → WellFormed c m n → Column F c x n (truthAt F c x n)
   unfolding follows lineTruth gateTruth
-  truths-column {m} {n} w = record { line = λ k l. truth-line n k l ∙ go k l (isInput c k) refl }
+  truths-column {m} {n} w = record { line = λ k l. grow-at (lineTruth F c x) false n k l ∙ go k l (isInput c k) refl }
     where
       go : (k : ℕ) → k < n → (t : Bool) → isInput c k ≡ t
           → F k 0 (choose t (x (inputsBefore c k)) (gateTruth F c (truthsTo F c x k) k))
           ≡ F k 0 (choose t (x (inputsBefore c k)) (boolGate (kindAt c k) (λ s. F k s (truthAt F c x n (pinAt c k s)))))
       go k l true e = refl
-      go k l false e = ap (F k 0) (gate-pins w l e _ _ (λ s a b. ap (F k s) (truth-line k (pinAt c k s) b ∙ sym (truth-line n (pinAt c k s) (omega arith)))))
+      go k l false e = ap (F k 0) (gate-pins w l e _ _ (λ s a b. ap (F k s) (grow-at (lineTruth F c x) false k (pinAt c k s) b ∙ sym (grow-at (lineTruth F c x) false n (pinAt c k s) (omega arith)))))

@@ -5,7 +5,6 @@ use mathlib.Core.Logic.{⊎-elim}
 use mathlib.Core.Bool.{Bool, true, false}
 use mathlib.Core.List.{List}
 use Prim.Native.Nat.{ℕ, _+_, _≤_, _<_}
-use native.Mathlib.Nat.{le-refl}
 use native.Mathlib.Omega.{arith}
 use lib.ListN.{length}
 use Rattle.ground.specs.Choose.{choose}
@@ -83,8 +82,8 @@ module _ (fault : Fault) (c : List ℕ) (n : ℕ) (s : Node) where
           let sized : WellFormed c (length s) n = rw (i .size) well in
           known-decided settled Settled settled-says apart (λ a b h. record { good-known = h .good-known; faulty-known = h .faulty-known; equal = h .equal }) c (goodOf c s n) (faultyOf fault c s n) n
           (λ k l. (
-            values-known unforced unforced-keeps c s n sized full n (le-refl n) k l,
-            values-known (stuckAt fault) (stuck-keeps fault (omega arith)) c s n sized full n (le-refl n) k l,
+            values-known unforced unforced-keeps c s n sized full k,
+            values-known (stuckAt fault) (stuck-keeps fault (omega arith)) c s n sized full k,
           ))
 
 -- what a search of an accepted circuit needs

@@ -11,6 +11,7 @@ use lib.ListN.{length, getD, take, set, length-set}
 use lib.Seq.{getD-take, take-suc-set, take-all, getD-set-other}
 use borrow.Author.Tests.{eqb-false}
 use Rattle.ground.specs.Choose.{choose}
+use Rattle.ground.specs.Lists.{grow}
 use Rattle.ground.proofs.Tests.{either}
 use Rattle.gates.specs.Gate.{lastKind}
 use Rattle.gates.proofs.Laws.{gate-same, two-pins}
@@ -61,7 +62,7 @@ pub settled-more : {f : Forcing} {c p vs : List ℕ} {k : ℕ}
     → k < length vs
     → Settled f c p vs k
     → Settled f c p (set vs k (lineIn f c vs k)) (k + 1)
-unfolding valuesTo
+unfolding grow
 settled-more {f} {c} {p} {vs} {k} low l s = record {
   done = rw (add-one, take-suc-set vs k (lineIn f c vs k) l, s .done, line-settled low l s);
   inputs = λ j a b e.
@@ -106,6 +107,6 @@ module _ {c vs₀ vs : List ℕ} {k start : ℕ} (so : SoFar c vs₀ start vs k)
 
 -- with the inputs' lines set, all lines simulated have the good values
 pub all-good : (c p vs₀ : List ℕ) {vs vs′ : List ℕ} → length vs ≡ length vs₀ → InputsFrom c p vs 0 → Simulates c vs 0 vs′ → vs′ ≡ goodOf c p (length vs₀)
-unfolding valuesTo
+unfolding grow
 all-good c p vs₀ long inputs simulated =
     simulated unforced p (λ l s v _. refl) (record { done = refl; inputs = inputs }) ∙ ap (goodOf c p) long

@@ -6,6 +6,7 @@ use Prim.Native.Nat.{ℕ, _≤_, _<_}
 use native.Mathlib.Omega.{arith}
 use lib.ListN.{getD}
 use borrow.Author.Tests.{ne-eqb}
+use Rattle.ground.proofs.Grow.{grow-at}
 use Rattle.gates.specs.Gate.{pinsOf}
 use Rattle.gates.proofs.Laws.{gate-same, two-pins}
 use Rattle.circuit.specs.Record.{kindAt, pinAt}
@@ -13,12 +14,11 @@ use Rattle.lists.specs.declared.Fault.{Fault}
 use Rattle.simulate.specs.Simulate.{Forcing, unforced, stuckAt, gateValue, lineValue, valuesTo}
 use Rattle.simulate.specs.Sites.{faultyAt, Gives, OnLine, OnPin}
 use Rattle.circuit.specs.Formed.{Lower}
-use Rattle.simulate.proofs.Values.{value-at}
 use Rattle.simulate.proofs.Below.{stuck-site, stuck-off, values-below}
 
 -- the value of a line is the same in every list that has it
 same-at : (f : Forcing) (c p : List ℕ) (m n k : ℕ) → k < m → k < n → getD (valuesTo f c p m) k 0 ≡ getD (valuesTo f c p n) k 0
-same-at f c p m n k a b = value-at f c p m k a ∙ sym (value-at f c p n k b)
+same-at f c p m n k a b = grow-at (lineValue f c p) 0 m k a ∙ sym (grow-at (lineValue f c p) 0 n k b)
 
 module _ (fault : Fault) (c p : List ℕ) (n : ℕ) (lower : (k : ℕ) → k < n → (kindAt c k ≡ 0 → ⊥) → Lower c k) (inside : fault .line < n) where
   -- the source of a pin that the gate has
@@ -29,7 +29,7 @@ module _ (fault : Fault) (c p : List ℕ) (n : ℕ) (lower : (k : ℕ) → k < n
   gives : (k : ℕ) → k < n → ((v : ℕ) → stuckAt fault k 0 v ≡ v) → Gives fault c p n k
   unfolding lineValue gateValue
   gives k l free ne =
-      value-at (stuckAt fault) c p n k l
+      grow-at (lineValue (stuckAt fault) c p) 0 n k l
       ∙ free _
       ∙ rw (ne-eqb (kindAt c k) 0 ne)
       (gate-same (kindAt c k) _ _
@@ -46,7 +46,7 @@ module _ (fault : Fault) (c p : List ℕ) (n : ℕ) (lower : (k : ℕ) → k < n
   }
     where
       itself : faultyAt fault c p n (fault .line) ≡ fault .value
-      itself = value-at (stuckAt fault) c p n (fault .line) inside ∙ stuck-site fault 0 _ (sym e)
+      itself = grow-at (lineValue (stuckAt fault) c p) 0 n (fault .line) inside ∙ stuck-site fault 0 _ (sym e)
 
   pub on-pin : 1 ≤ fault .site → OnPin fault c p n
   on-pin h = record {

@@ -1,9 +1,10 @@
 -- Simulation with three values of a circuit in which something may force values: nothing, or a fault.
 -- Assumes nothing.
-use mathlib.Core.List.{List, [], _∷_, _++_}
-use Prim.Native.Nat.{ℕ, zero, suc}
+use mathlib.Core.List.{List}
+use Prim.Native.Nat.{ℕ}
 use lib.ListN.{getD}
 use Rattle.ground.specs.Choose.{choose}
+use Rattle.ground.specs.Lists.{grow}
 use Rattle.gates.specs.Gate.{gateOf}
 use Rattle.circuit.specs.Record.{kindAt, pinAt, isInput, inputsBefore}
 use Rattle.lists.specs.declared.Fault.{Fault}
@@ -29,7 +30,6 @@ gateValue f c vs k = gateOf (kindAt c k) (λ s. f k s (getD vs (pinAt c k s) 0))
 unfoldable pub lineValue : Forcing → List ℕ → List ℕ → List ℕ → ℕ → ℕ
 lineValue f c p vs k = f k 0 (choose (isInput c k) (getD p (inputsBefore c k) 0) (gateValue f c vs k))
 
--- the values of the first k lines
-unfoldable pub valuesTo : Forcing → List ℕ → List ℕ → ℕ → List ℕ
-valuesTo f c p zero = []
-valuesTo f c p (suc k) = valuesTo f c p k ++ (lineValue f c p (valuesTo f c p k) k ∷ [])
+-- the values of the first n lines, each after those below it
+abbrev pub valuesTo : Forcing → List ℕ → List ℕ → ℕ → List ℕ
+valuesTo f c p n = grow (lineValue f c p) n
