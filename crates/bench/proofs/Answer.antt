@@ -16,8 +16,8 @@ use Rattle.answers.proofs.Answer.{numbers-told}
 use Rattle.circuit.specs.Formed.{Accepts}
 use Rattle.bench.specs.declared.Read.{Read}
 use Rattle.bench.specs.declared.Read.the-variants.{Records, Refused}
-use Rattle.bench.specs.Bench.{bufferRules, benchRules, recordsIn, readOf, numbersOf, Reads}
-use Rattle.bench.specs.Inside.{Answers, Whole}
+use Rattle.bench.specs.Promise.{bufferRules, benchRules, recordsIn, readOf, numbersOf, Reads}
+use Rattle.bench.specs.Owed.{Answers, Whole}
 
 module _ {records c : List ℕ} where
   -- a refusal ends it; where there is none, the rules after it decide

@@ -19,7 +19,7 @@ use Rattle.circuit.specs.declared.Checked.{Checked}
 use Rattle.circuit.specs.declared.Checked.the-variants.{Accepted, Refused}
 use Rattle.circuit.specs.Record.{kindAt, linesOf, inputsOf, outputsOf}
 use Rattle.circuit.specs.Layout.{Layout}
-use Rattle.circuit.specs.Check.{layoutRules, countRules, circuitRules, checkOf}
+use Rattle.circuit.specs.Promise.{layoutRules, countRules, circuitRules, checkOf}
 use Rattle.circuit.specs.Formed.{Lower, Good, Accepts, Known}
 use Rattle.circuit.proofs.Answer.{circuit-says, rulingOf, ruled}
 

@@ -1,6 +1,6 @@
 -- The promise of the check: reached from the two rulings, read in the paper's words, and met by one answer only.
 -- Assumes nothing.
-use mathlib.Core.Path.{_≡_, refl, sym, ap, _∙_}
+use mathlib.Core.Path.{_≡_, refl, ap, _∙_}
 use mathlib.Core.List.{List}
 use Prim.Native.Nat.{ℕ, _*_}
 use native.Mathlib.Nat.{add-zero}
@@ -18,7 +18,7 @@ use Rattle.answers.proofs.Records.{records-same}
 use Rattle.circuit.specs.declared.Checked.{Checked}
 use Rattle.circuit.specs.declared.Checked.the-variants.{Accepted, Refused}
 use Rattle.circuit.specs.Record.{linesOf, isInput, inputsOf, outputsOf, byteIs}
-use Rattle.circuit.specs.Check.{layoutRules, countRules, circuitRules, countedOf, checkOf, numbersOf, Checks}
+use Rattle.circuit.specs.Promise.{layoutRules, countRules, circuitRules, countedOf, checkOf, numbersOf, Checks}
 use Rattle.circuit.proofs.Lines.{layout-same}
 
 pub checks : (c : List ℕ) {r : Checked} → r ≡ checkOf c → Checks c r

@@ -10,7 +10,7 @@ use native.Mathlib.Nat.{mul-div-right, mul-mod-right}
 use native.Mathlib.Omega.{arith}
 use lib.Dec.{leb}
 use lib.ListN.{length}
-use borrow.Author.Tests.{leb-true, le-leb, lt-leb, le-ltb, eq-eqb}
+use borrow.Author.Tests.{leb-true, le-leb, le-ltb, eq-eqb}
 use Rattle.ground.specs.Choose.{choose}
 use Rattle.ground.specs.Below.{firstNot}
 use Rattle.ground.proofs.Tests.{both}
@@ -27,7 +27,7 @@ use Rattle.answers.proofs.Same.{le-same, and-same}
 use Rattle.answers.proofs.Records.{too-many-records}
 use Rattle.circuit.specs.Record.{kindAt, linesOf, isInput, inputsOf, outputsOf}
 use Rattle.circuit.specs.Layout.{lineOk, Layout}
-use Rattle.circuit.specs.Check.{layoutRules, countRules, circuitRules}
+use Rattle.circuit.specs.Promise.{layoutRules, countRules, circuitRules}
 use Rattle.circuit.specs.Sizes.{sizeRules}
 use Rattle.circuit.proofs.Lines.{layout-same}
 use Rattle.circuit.proofs.Accepted.{gate-pin}

@@ -8,7 +8,7 @@ use Rattle.answers.specs.declared.Ruling.{Ruling}
 use Rattle.answers.specs.Rules.{refusal}
 use Rattle.gates.specs.Gate.{lastKind}
 use Rattle.circuit.specs.Record.{kindAt, pinAt, linesOf, inputsBefore, inputsOf, outputsOf}
-use Rattle.circuit.specs.Check.{circuitRules}
+use Rattle.circuit.specs.Promise.{circuitRules}
 
 -- the sources of line k are lower than it
 abbrev pub Lower : List ℕ → ℕ → Type 0

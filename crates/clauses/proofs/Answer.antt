@@ -18,7 +18,7 @@ use Rattle.answers.proofs.Answer.{numbers-told, Ruled}
 use Rattle.answers.proofs.Records.{one-record}
 use Rattle.answers.proofs.Same.{le-same}
 use Rattle.circuit.specs.Record.{linesOf, inputsOf, isOutput, outputsBefore, Inside}
-use Rattle.circuit.specs.Check.{circuitRules}
+use Rattle.circuit.specs.Promise.{circuitRules}
 use Rattle.circuit.specs.Formed.{Accepts}
 use Rattle.circuit.proofs.Answer.{circuit-says}
 use Rattle.lists.specs.declared.Fault.{Fault}
@@ -32,7 +32,7 @@ use Rattle.clauses.specs.declared.Written.{Written}
 use Rattle.clauses.specs.declared.Written.the-variants.{Success, Refused}
 use Rattle.line_clauses.specs.Clauses.{clausesOf, variablesOf}
 use Rattle.clauses.specs.Promise.{roomRules, clausesFor, wordsFor, clauseRules, writtenOf, numbersOf, laidOn, Writes}
-use Rattle.clauses.specs.Inside.{Counted, WholeRoom, Answers}
+use Rattle.clauses.specs.Owed.{Counted, WholeRoom, Answers}
 
 -- ---- rule by rule
 

@@ -17,7 +17,7 @@ use Rattle.ground.proofs.Gather.{gather-mono}
 use Rattle.cnf.proofs.Decode.{words-append, words-gather}
 use Rattle.ground.proofs.Put.{put-none, put-one, put-long, put-then}
 use Rattle.line_clauses.specs.Clauses.{differenceVar, differenceClauses, differences}
-use Rattle.line_clauses.specs.Inside.{Circuit, LineRoom, DifferenceRoom}
+use Rattle.line_clauses.specs.Owed.{Circuit, LineRoom, DifferenceRoom}
 
 -- ---- the lines: the first k of n have been written
 

@@ -20,7 +20,7 @@ use Rattle.cnf.specs.Table.{table, gateClauses, sites}
 use Rattle.cnf.specs.Write.{sizeOf, Takes}
 use Rattle.cnf.proofs.Sizes.{size-append, Measure, in-words, in-clauses, measure-both}
 use Rattle.line_clauses.specs.Clauses.{differenceVar, goodVar, faultyVar, goodClauses, faultyClauses, differenceClauses, differences, clausesOf}
-use Rattle.line_clauses.specs.Inside.{LineTakes}
+use Rattle.line_clauses.specs.Owed.{LineTakes}
 
 -- ---- the loop: what the first k lines take
 

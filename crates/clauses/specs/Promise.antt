@@ -11,7 +11,7 @@ use Rattle.answers.specs.Rules.Rule.{whole}
 use Rattle.answers.specs.Area.{Numbers, success, refusedAt, told}
 use Rattle.answers.specs.Answer.{answered}
 use Rattle.circuit.specs.Record.{linesOf}
-use Rattle.circuit.specs.Check.{circuitRules}
+use Rattle.circuit.specs.Promise.{circuitRules}
 use Rattle.lists.specs.declared.Fault.{Fault}
 use Rattle.lists.specs.Faults.{faultAt, faultRules}
 use Rattle.cnf.specs.Cnf.{Clauses, wordsOf}

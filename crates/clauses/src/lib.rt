@@ -27,7 +27,7 @@ ghost use Rattle.line_clauses.specs.Clauses.{stuckLiteral, goodClauses, faultyC
 ghost use Rattle.clauses.specs.Promise.{laidOn, Writes};
 ghost use Rattle.circuit.specs.Record.{inputsOf};
 ghost use Rattle.circuit.specs.Formed.{Accepts};
-ghost use Rattle.clauses.specs.Inside.{Counted, LinesRoom, WholeRoom, FitAnswers, RestAnswers};
+ghost use Rattle.clauses.specs.Owed.{Counted, LinesRoom, WholeRoom, FitAnswers, RestAnswers};
 
 // What the writer answers.
 pub enum Written {

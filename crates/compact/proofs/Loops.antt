@@ -17,13 +17,13 @@ use Rattle.needs.proofs.Words.{meets-is}
 use Rattle.needs.proofs.Turns.{not-kept, kept-other, turn-drops, turn-keeps}
 use Rattle.needs.proofs.Sound.{all-kept, start-meets}
 use Rattle.counts.specs.Counted.{hit, Counted}
-use Rattle.counts.specs.Internal.{Moved, Row, Cells, Saw, neededOf}
+use Rattle.counts.specs.Owed.{Moved, Row, Cells, Saw, neededOf}
 use Rattle.counts.proofs.Moves.{Bytes}
 use Rattle.counts.proofs.Detected.{SeenTo, seen-none, seen-one, seen-all}
 use Rattle.counts.proofs.Sets.{counted-same, counted-in, counted-out, counted-none}
 use Rattle.counts.proofs.Decided.{decided}
 use Rattle.tables.specs.Table.{Sized}
-use Rattle.compact.specs.Internal.{Sizes, Zeros, AllCounted, Ready, Turned}
+use Rattle.compact.specs.Owed.{Sizes, Zeros, AllCounted, Ready, Turned}
 
 -- ---- a pattern's row of the table
 

@@ -14,8 +14,8 @@ use Rattle.needs.specs.Needs.{whole, compacted}
 use Rattle.needs.specs.Words.{Detected, LastToFirst, Sound}
 use Rattle.needs.proofs.Sound.{compacted-so, compacted-sound, none-detected}
 use Rattle.tables.specs.Table.{tableRules}
-use Rattle.compact.specs.Compact.{marksRules, Compacts}
-use Rattle.compact.specs.Internal.{Finishes}
+use Rattle.compact.specs.Promise.{marksRules, Compacts}
+use Rattle.compact.specs.Owed.{Finishes}
 
 module _ {F P : ℕ} {t m : List ℕ} where
   -- two results that the promise allows are equal

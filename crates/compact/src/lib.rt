@@ -7,8 +7,8 @@ ghost use lib.ListN.{length, replicate};
 ghost use Rattle.tables.specs.Entries.{entriesOf};
 ghost use Rattle.tables.specs.Table.{Sized};
 ghost use Rattle.needs.specs.Needs.{compacted};
-ghost use Rattle.compact.specs.Compact.{Compacts};
-ghost use Rattle.compact.specs.Internal.{Sizes, Zeros, AllCounted, Place, Ready, Turned, Finishes};
+ghost use Rattle.compact.specs.Promise.{Compacts};
+ghost use Rattle.compact.specs.Owed.{Sizes, Zeros, AllCounted, Place, Ready, Turned, Finishes};
 
 // Marks every pattern as kept.
 fn keep_all(marks: &mut [u8])

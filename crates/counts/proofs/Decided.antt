@@ -21,7 +21,7 @@ use Rattle.needs.proofs.Entries.{tells-other}
 use Rattle.needs.proofs.Sets.{same-detected, same-apart}
 use Rattle.needs.proofs.Turns.{not-kept, kept-other}
 use Rattle.counts.specs.Counted.{Counted, Seen}
-use Rattle.counts.specs.Internal.{soleOf, soleIn, soleAt, neededOf}
+use Rattle.counts.specs.Owed.{soleOf, soleIn, soleAt, neededOf}
 use Rattle.counts.proofs.Sets.{fault-cell, pair-cell, count-step}
 
 -- of at most 256 a count of 1 is told from every other

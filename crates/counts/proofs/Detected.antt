@@ -16,7 +16,7 @@ use Rattle.ground.proofs.Tests.{one-or}
 use Rattle.tables.specs.Entries.{entriesOf}
 use Rattle.needs.specs.Needs.{fails}
 use Rattle.counts.specs.Counted.{Seen}
-use Rattle.counts.specs.Internal.{Saw}
+use Rattle.counts.specs.Owed.{Saw}
 
 -- ---- the first i faults of a pattern are seen
 

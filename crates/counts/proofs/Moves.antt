@@ -17,7 +17,7 @@ use Rattle.ground.specs.Below.{anyBelow}
 use Rattle.ground.proofs.Tests.{both, never-both, one-either}
 use Rattle.ground.proofs.Below.{some-any}
 use Rattle.counts.specs.Counted.{hitRow, hitPair, hit}
-use Rattle.counts.specs.Internal.{Counts, Moved}
+use Rattle.counts.specs.Owed.{Counts, Moved}
 
 -- ---- one count
 

@@ -11,7 +11,7 @@ use borrow.Author.Tests.{eq-eqb, ne-eqb, le-leb, lt-leb}
 use Rattle.ground.specs.Choose.{one}
 use Rattle.ground.specs.Below.{anyBelow}
 use Rattle.ground.proofs.Tests.{one-and}
-use Rattle.counts.specs.Internal.{soleOf, soleIn, soleAt, neededOf}
+use Rattle.counts.specs.Owed.{soleOf, soleIn, soleAt, neededOf}
 
 pub sole-and : (count seen entry want : ℕ) {x y z : ℕ}
     → x ≡ one (eqb count 1)

@@ -15,7 +15,7 @@ use Rattle.tables.specs.Entries.{entriesOf}
 use Rattle.needs.specs.Needs.{Patterns, fails, tells}
 use Rattle.needs.proofs.Entries.{tells-other}
 use Rattle.counts.specs.Counted.{hitPair, hit, Counted}
-use Rattle.counts.specs.Internal.{Moved}
+use Rattle.counts.specs.Owed.{Moved}
 use Rattle.counts.proofs.Moves.{Bytes, row-outside, row-at, pair-outside}
 
 -- ---- what a cell says

@@ -7,7 +7,7 @@ ghost use lib.ListN.{length};
 ghost use Rattle.ground.specs.Choose.{one};
 ghost use Rattle.ground.specs.Below.{anyBelow};
 ghost use Rattle.counts.specs.Counted.{hitRow, hitPair, hit};
-ghost use Rattle.counts.specs.Internal.{Counts, Moved, Row, Cells, Saw, soleOf, soleIn, soleAt, neededOf};
+ghost use Rattle.counts.specs.Owed.{Counts, Moved, Row, Cells, Saw, soleOf, soleIn, soleAt, neededOf};
 
 // 1 where the two are the same, else 0.
 fn same(x: u8, y: u8) -> u8

@@ -11,14 +11,14 @@ use Rattle.answers.specs.declared.Ruling.the-variants.{Fine, Refused}
 use Rattle.answers.proofs.Rules.{after-refused, after-fine, both-fine, both-say}
 use Rattle.answers.proofs.Lent.{lent-says, lent-sizes}
 use Rattle.circuit.specs.Record.{linesOf, inputsOf}
-use Rattle.circuit.specs.Check.{circuitRules}
+use Rattle.circuit.specs.Promise.{circuitRules}
 use Rattle.circuit.specs.Formed.{Accepts, Known}
 use Rattle.lists.specs.Faults.{faultCount}
 use Rattle.lists.specs.Patterns.{patternCount}
 use Rattle.lists.specs.Both.{listRules}
 use Rattle.lists.proofs.Both.{lists-say, good-lists}
 use Rattle.rows.specs.Owed.{Ready, Filled}
-use Rattle.dictionary.specs.Dictionary.{restRules, dictionaryRules, Answered, Dictionary}
+use Rattle.dictionary.specs.Promise.{restRules, dictionaryRules, Answered, Dictionary}
 
 module _ (c : List ℕ) (n m : ℕ) (fs ps : List ℕ) where
   -- tests and words of the rules agree

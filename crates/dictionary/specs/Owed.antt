@@ -4,7 +4,7 @@ use mathlib.Core.List.{List}
 use Prim.Native.Nat.{ℕ}
 use lib.ListN.{length}
 use Rattle.answers.specs.declared.Ruling.{Ruling}
-use Rattle.dictionary.specs.Dictionary.{restRules, Answered}
+use Rattle.dictionary.specs.Promise.{restRules, Answered}
 
 -- the answer for an accepted circuit of n lines and m inputs
 abbrev pub RestAnswered : List ℕ → ℕ → ℕ → List ℕ → List ℕ → List ℕ → List ℕ → Ruling → List ℕ → List ℕ → Type 0

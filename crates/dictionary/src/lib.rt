@@ -8,7 +8,7 @@ use rows::fill_table;
 ghost use mathlib.Core.Path.{_≡_};
 ghost use Rattle.answers.specs.Rules.{refusal};
 ghost use Rattle.circuit.specs.Formed.{Known};
-ghost use Rattle.dictionary.specs.Dictionary.{restRules, Dictionary};
+ghost use Rattle.dictionary.specs.Promise.{restRules, Dictionary};
 ghost use Rattle.dictionary.specs.Owed.{RestAnswered};
 
 // Refusals 6 to 10.

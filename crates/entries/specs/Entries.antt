@@ -9,18 +9,18 @@ use lib.ListN.{length}
 use Rattle.answers.specs.Rules.{refusal, unless}
 use Rattle.answers.specs.Area.{Numbers, success, told, done, Entered, entered}
 use Rattle.circuit.specs.Record.{linesOf, inputsOf, outputsOf}
-use Rattle.circuit.specs.Check.{circuitRules}
+use Rattle.circuit.specs.Promise.{circuitRules}
 use Rattle.rows.specs.Table.{tableOf, workOf}
-use Rattle.dictionary.specs.Dictionary.{dictionaryRules}
+use Rattle.dictionary.specs.Promise.{dictionaryRules}
 use Rattle.entries.specs.declared.Reply.{Reply}
 use Rattle.tables.specs.Entries.{entriesOf}
 use Rattle.lists.specs.Faults.{faultAt}
 use Rattle.needs.specs.Needs as needs
-use Rattle.compact.specs.Compact.{compactRules}
-use Rattle.search.specs.Search.{searchRules, verdictFor, testFor, workFor, verdictNumbers}
+use Rattle.compact.specs.Promise.{compactRules}
+use Rattle.search.specs.Promise.{searchRules, verdictFor, testFor, workFor, verdictNumbers}
 use Rattle.line_clauses.specs.Clauses.{variablesOf}
-use Rattle.bench.specs.Bench.{benchRules, recordsIn}
-use Rattle.bench.specs.Bench as reading
+use Rattle.bench.specs.Promise.{benchRules, recordsIn}
+use Rattle.bench.specs.Promise as reading
 use Rattle.clauses.specs.Promise.{clauseRules, clausesFor, wordsFor, laidOn}
 
 -- a reply in the paper's numbers

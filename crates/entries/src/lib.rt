@@ -15,11 +15,11 @@ use search::search;
 ghost use mathlib.Core.Path.{_≡_};
 ghost use Rattle.answers.specs.Area.{refusedAt, told, done, Entered};
 ghost use Rattle.answers.specs.Area as answering;
-ghost use Rattle.circuit.specs.Check.{numbersOf};
-ghost use Rattle.search.specs.Search.{verdictNumbers};
-ghost use Rattle.search.specs.Search as searching;
+ghost use Rattle.circuit.specs.Promise.{numbersOf};
+ghost use Rattle.search.specs.Promise.{verdictNumbers};
+ghost use Rattle.search.specs.Promise as searching;
 ghost use Rattle.clauses.specs.Promise as writing;
-ghost use Rattle.bench.specs.Bench as reading;
+ghost use Rattle.bench.specs.Promise as reading;
 ghost use Rattle.entries.specs.Entries.{numbersIn, checkNumbers, Made, Compacted, Found, Laid, Taken};
 
 // The size of the answer area, and the refusal of any other.

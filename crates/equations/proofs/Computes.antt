@@ -11,7 +11,7 @@ use Rattle.answers.proofs.Rules.{all-hold}
 use Rattle.gates.specs.Gate.{gateOf}
 use Rattle.gates.specs.Boolean.{boolGate}
 use Rattle.circuit.specs.declared.Checked.the-variants.{Accepted}
-use Rattle.circuit.specs.Check.{circuitRules, checkOf}
+use Rattle.circuit.specs.Promise.{circuitRules, checkOf}
 use Rattle.simulate.specs.Work.{goodOf}
 use Rattle.simulate.specs.Boolean.{Vector, good, truthAt}
 use Rattle.syntax.proofs.Says.{right-text}
@@ -24,7 +24,7 @@ use Rattle.netlist.specs.Sizes.{netSizes}
 use Rattle.circuit.specs.Sizes.{sizeRules}
 use Rattle.netlist.proofs.Values.{solution3, unique3, solution2, unique2}
 use Rattle.bench.specs.Text.{formsIn, defsIn, usesIn, netIn}
-use Rattle.bench.specs.Bench.{benchRules, recordsIn}
+use Rattle.bench.specs.Promise.{benchRules, recordsIn}
 use Rattle.equations.specs.Numbers.{nameOf, numberOf, lineFor}
 use Rattle.equations.specs.Computes.{sizeIn, outputsIn, OneSolution, Computes}
 use Rattle.equations.proofs.Tables.{inputs-are}

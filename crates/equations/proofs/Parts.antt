@@ -1,23 +1,17 @@
 -- The rules of the reader part by part: nothing is refused exactly if no part refuses, and each part has its own numbers.
 -- Assumes nothing.
-use mathlib.Core.Path.{_≡_, refl, _∙_}
-use mathlib.Core.Bool.{Bool, true, false}
-use mathlib.Core.List.{List, [], _∷_}
+use mathlib.Core.Path.{_≡_, _∙_}
+use mathlib.Core.List.{List}
 use Prim.Native.Nat.{ℕ}
-use lib.Dec.{ltb}
-use Rattle.ground.specs.Choose.{choose}
-use Rattle.ground.specs.Below.{firstNot}
-use Rattle.answers.specs.declared.Ruling.{Ruling}
-use Rattle.answers.specs.declared.Ruling.the-variants.{Fine, Refused}
-use Rattle.answers.specs.Rules.{Rule, said, orElse, refusal, numberOf}
-use Rattle.answers.specs.Rules.Rule.{whole, each}
-use Rattle.answers.proofs.Rules.{not-fine, after-fine, both-fine}
-use Rattle.circuit.specs.Check.{circuitRules}
+use Rattle.answers.specs.declared.Ruling.the-variants.{Fine}
+use Rattle.answers.specs.Rules.{refusal}
+use Rattle.answers.proofs.Rules.{after-fine, both-fine}
+use Rattle.circuit.specs.Promise.{circuitRules}
 use Rattle.syntax.specs.Syntax.{syntaxRules}
 use Rattle.names.specs.Names.{nameRules}
 use Rattle.order.specs.Order.{cycleRules}
 use Rattle.bench.specs.Text.{defsIn, usesIn, netIn}
-use Rattle.bench.specs.Bench.{bufferRules, benchRules, recordsIn}
+use Rattle.bench.specs.Promise.{bufferRules, benchRules, recordsIn}
 
 pub record Parts (t : List ℕ) (room : ℕ) : Type 0 where
   pub syntax : refusal (syntaxRules t) ≡ Fine

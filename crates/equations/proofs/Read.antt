@@ -4,7 +4,6 @@ use mathlib.Core.Path.{_≡_, refl, sym, ap, _∙_, subst}
 use mathlib.Core.Logic.{_↔_}
 use mathlib.Core.List.{List}
 use Prim.Native.Nat.{ℕ, _*_}
-use native.Mathlib.Omega.{arith}
 use lib.ListN.{length, take, drop}
 use lib.Seq.{take-at}
 use Rattle.answers.specs.declared.Ruling.{Ruling}
@@ -16,8 +15,8 @@ use Rattle.netlist.proofs.Fields.{net-long, net-lines}
 use Rattle.bench.specs.declared.Read.{Read}
 use Rattle.bench.specs.declared.Read.the-variants.{Records, Refused}
 use Rattle.bench.specs.Text.{netIn}
-use Rattle.bench.specs.Bench.{bufferBytes, benchRules, recordsIn, readOf, laidOn, Reads}
-use Rattle.bench.proofs.Wording.{rulingOf, ruled}
+use Rattle.bench.specs.Promise.{bufferBytes, benchRules, recordsIn, readOf, laidOn, Reads}
+use Rattle.bench.proofs.Says.{rulingOf, ruled}
 use Rattle.equations.specs.Right.{TextCycle}
 use Rattle.equations.specs.Placing.{FirstLeft}
 use Rattle.equations.specs.Computes.{sizeIn, Acceptable, Computes}

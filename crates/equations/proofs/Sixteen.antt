@@ -9,7 +9,7 @@ use Rattle.answers.specs.declared.Ruling.{Ruling}
 use Rattle.answers.specs.declared.Ruling.the-variants.{Fine, Refused}
 use Rattle.answers.specs.Rules.{refusal}
 use Rattle.answers.proofs.Rules.{after-refused, after-fine}
-use Rattle.circuit.specs.Check.{circuitRules}
+use Rattle.circuit.specs.Promise.{circuitRules}
 use Rattle.circuit.proofs.Sizes.{refused-small}
 use Rattle.syntax.specs.Syntax.{syntaxRules}
 use Rattle.syntax.proofs.Says.{right-text}
@@ -18,7 +18,7 @@ use Rattle.order.specs.Order.{cycleRules}
 use Rattle.order.proofs.Says.{refused-left, left-refused}
 use Rattle.order.proofs.Cycle.{cycle-refused, refused-cycle}
 use Rattle.bench.specs.Text.{defsIn, usesIn, netIn}
-use Rattle.bench.specs.Bench.{bufferRules, recordRules, netRules, benchRules, recordsIn}
+use Rattle.bench.specs.Promise.{bufferRules, recordRules, netRules, benchRules, recordsIn}
 use Rattle.equations.specs.Right.{TextCycle}
 use Rattle.equations.specs.Placing.{FirstLeft}
 use Rattle.equations.proofs.Cycles.{net-cycle, text-cycle}

@@ -19,7 +19,7 @@ use Rattle.ground.proofs.Put.{put-as}
 use Rattle.cnf.proofs.Gate.{gate-sites, no-clauses}
 use Rattle.lists.specs.Faults.{isAt}
 use Rattle.line_clauses.specs.Clauses.{goodVar, faultySite, goodClauses, faultyClauses, differenceClauses}
-use Rattle.line_clauses.specs.Inside.{Line, GateLine}
+use Rattle.line_clauses.specs.Owed.{Line, GateLine}
 
 -- ---- what is known of a line
 

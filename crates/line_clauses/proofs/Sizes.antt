@@ -17,7 +17,7 @@ use Rattle.cnf.specs.Write.{sizeOf, Takes}
 use Rattle.cnf.proofs.Sizes.{size-append, gate-size, gate-length, few}
 use Rattle.lists.specs.Faults.{isAt}
 use Rattle.line_clauses.specs.Clauses.{faultySite, goodVar, faultyVar, stuckVar, bufferClauses, goodClauses, faultyClauses}
-use Rattle.line_clauses.specs.Inside.{faultyKind, LineTakes}
+use Rattle.line_clauses.specs.Owed.{faultyKind, LineTakes}
 
 -- clauses that take what a row of the table does
 record Row (kind : ℕ) (cs : Clauses) : Type 0 where

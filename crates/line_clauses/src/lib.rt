@@ -12,7 +12,7 @@ ghost use Rattle.cnf.specs.Cnf.{wordsOf};
 ghost use Rattle.ground.specs.Put.{Put};
 ghost use Rattle.lists.specs.Faults.{isAt};
 ghost use Rattle.line_clauses.specs.Clauses.{faultySite, goodClauses, faultyClauses, differenceClauses};
-ghost use Rattle.line_clauses.specs.Inside.{Line, GateLine, faultyKind, LineTakes, LineRoom, DifferenceRoom};
+ghost use Rattle.line_clauses.specs.Owed.{Line, GateLine, faultyKind, LineTakes, LineRoom, DifferenceRoom};
 
 // The fault is at site s of line k.
 fn is_at(fault: Fault, k: usize, s: u8) -> bool

@@ -12,20 +12,20 @@ use Rattle.answers.specs.Lent.{lentRules}
 use Rattle.answers.proofs.Rules.{after-refused, after-fine, both-fine, fine}
 use Rattle.answers.proofs.Lent.{lent-fine}
 use Rattle.circuit.specs.Record.{linesOf, inputsOf}
-use Rattle.circuit.specs.Check.{circuitRules}
+use Rattle.circuit.specs.Promise.{circuitRules}
 use Rattle.lists.specs.Faults.{faultCount}
 use Rattle.lists.specs.Patterns.{patternCount}
 use Rattle.lists.specs.Both.{listRules}
 use Rattle.lists.proofs.Both.{good-lists, lists-few}
 use Rattle.rows.specs.Table.{tableOf}
 use Rattle.rows.proofs.Entries.{made}
-use Rattle.dictionary.specs.Dictionary.{restRules, dictionaryRules, Dictionary}
+use Rattle.dictionary.specs.Promise.{restRules, dictionaryRules, Dictionary}
 use Rattle.tables.specs.Entries.{entriesOf}
 use Rattle.needs.specs.Needs as needs
 use Rattle.tables.specs.Table.{tableRules, Sized}
-use Rattle.compact.specs.Compact.{marksRules, compactRules, Compacts}
-use Rattle.compact.proofs.Refusals.{compact-says}
-use Rattle.listing.specs.Listing.{programRules, dictionaryOf}
+use Rattle.compact.specs.Promise.{marksRules, compactRules, Compacts}
+use Rattle.compact.proofs.Says.{compact-says}
+use Rattle.listing.specs.Promise.{programRules, dictionaryOf}
 use Rattle.listing.specs.Owed.{Full, Counted, Sizes, Tabled}
 use Rattle.listing.proofs.Small.{table-small}
 

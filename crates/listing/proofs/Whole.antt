@@ -12,7 +12,7 @@ use Rattle.answers.specs.declared.Ruling.{Ruling}
 use Rattle.answers.specs.declared.Ruling.the-variants.{Fine, Refused}
 use Rattle.answers.specs.Rules.{refusal, unless}
 use Rattle.answers.proofs.Rules.{after-refused}
-use Rattle.circuit.specs.Check.{circuitRules}
+use Rattle.circuit.specs.Promise.{circuitRules}
 use Rattle.circuit.specs.Formed.{Known}
 use Rattle.circuit.specs.Record.{inputsOf}
 use Rattle.lists.specs.Faults.{faultCount}
@@ -21,7 +21,7 @@ use Rattle.lists.specs.Both.{listRules}
 use Rattle.tables.specs.Entries.{entriesOf}
 use Rattle.needs.specs.Needs as needs
 use Rattle.listing.specs.Text.{lineOf, linesTo, refusedText}
-use Rattle.listing.specs.Listing.{programRules, tableText, dictionaryOf, outputOf, Listed}
+use Rattle.listing.specs.Promise.{programRules, tableText, dictionaryOf, outputOf, Listed}
 use Rattle.listing.specs.Owed.{Counted, Sized, Sizes, Tabled, Lists}
 use Rattle.decimals.proofs.Digits.{digits-short}
 use Rattle.listing.proofs.Pieces.{line-short}

@@ -12,7 +12,7 @@ use Rattle.circuit.specs.Record.{linesOf, inputsOf}
 use Rattle.lists.specs.Faults.{faultCount}
 use Rattle.lists.specs.Patterns.{patternCount}
 use Rattle.tables.specs.Table as tables
-use Rattle.listing.specs.Listing.{programRules, dictionaryOf, outputOf}
+use Rattle.listing.specs.Promise.{programRules, dictionaryOf, outputOf}
 
 -- a table of so many faults and patterns, a mark for each pattern, and 280 bytes for each line
 pub record Room (table marks out : List ℕ) (faults patterns : ℕ) : Type 0 where

@@ -12,7 +12,7 @@ ghost use Prim.Native.Nat.{_+_, _*_, _≤_, _<_};
 ghost use lib.ListN.{length};
 ghost use Rattle.ground.specs.Put.{Put};
 ghost use Rattle.listing.specs.Text.{letterOf, markOf, lineOf, linesTo, refusedWord, refusedText};
-ghost use Rattle.listing.specs.Listing.{tableText, Listed};
+ghost use Rattle.listing.specs.Promise.{tableText, Listed};
 ghost use Rattle.circuit.specs.Formed.{Known};
 ghost use Rattle.listing.specs.Owed.{Room, Full, Sizes, Tabled, Sized, Counted, Lists};
 

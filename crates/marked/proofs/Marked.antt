@@ -10,7 +10,7 @@ use Rattle.gates.specs.Gate.{pinsOf, notOf, andOf, orOf, gateOf}
 use Rattle.circuit.specs.Record.{wordAt}
 use Rattle.answers.specs.Lent.{lentRules}
 use Rattle.circuit.specs.Layout.{pinOk, fieldOk, lineOk}
-use Rattle.circuit.specs.Check.{layoutRules, countRules, checkOf}
+use Rattle.circuit.specs.Promise.{layoutRules, countRules, checkOf}
 use Rattle.lists.specs.Faults.{faultAt, faultOk, faultRules}
 use Rattle.lists.specs.Patterns.{patternRules}
 use Rattle.simulate.specs.Simulate.{stuckAt, gateValue, lineValue}
@@ -18,15 +18,15 @@ use Rattle.entry.specs.Entry.{differ, agree, entryBy, entryAt}
 use Rattle.rows.specs.Table.{tableOf}
 use Rattle.needs.specs.Needs.{tells, lost, lostPair, lacks, turn, turns, compacted}
 use Rattle.tables.specs.Table.{sizesOk, tableRules}
-use Rattle.compact.specs.Compact.{marksRules}
+use Rattle.compact.specs.Promise.{marksRules}
 use Rattle.decimals.specs.Digits.{digits}
 use Rattle.listing.specs.Text.{letterOf, markOf}
-use Rattle.listing.specs.Listing.{outputOf}
+use Rattle.listing.specs.Promise.{outputOf}
 use Rattle.nodes.specs.Node.{countX, firstX, fill}
 use Rattle.nodes.specs.Order.{order, upto, found, testIn}
 use Rattle.nodes.specs.Budget.{verdictIn}
 use Rattle.sides.specs.Look.{settled, lookOf}
-use Rattle.search.specs.Search.{verdictFor, testFor}
+use Rattle.search.specs.Promise.{verdictFor, testFor}
 use Rattle.cnf.specs.Cnf.{decodeFrom}
 use Rattle.cnf.specs.Table.{table, gateClauses}
 use Rattle.line_clauses.specs.Clauses.{goodClauses, faultyClauses, differenceClauses, clausesOf}

@@ -11,15 +11,15 @@ use Rattle.answers.specs.Answer.{answered}
 use Rattle.answers.specs.Rules.{refusal, unless}
 use Rattle.circuit.specs.declared.Checked.{Checked}
 use Rattle.circuit.specs.Record.{linesOf, inputsOf}
-use Rattle.circuit.specs.Check.{checkOf}
+use Rattle.circuit.specs.Promise.{checkOf}
 use Rattle.lists.specs.Faults.{faultAt}
 use Rattle.tables.specs.Entries.{entriesOf}
 use Rattle.needs.specs.Needs as needs
-use Rattle.compact.specs.Compact.{compactRules}
-use Rattle.listing.specs.Listing.{outputOf}
+use Rattle.compact.specs.Promise.{compactRules}
+use Rattle.listing.specs.Promise.{outputOf}
 use Rattle.nodes.specs.declared.Verdict.{Verdict}
 use Rattle.search.specs.declared.Searched.the-variants as searched
-use Rattle.search.specs.Search.{searchRules, verdictFor, testFor}
+use Rattle.search.specs.Promise.{searchRules, verdictFor, testFor}
 use Rattle.ground.specs.Lists.{gather}
 use Rattle.cnf.specs.Cnf.{Assignment, Clauses, Satisfies}
 use Rattle.clauses.specs.declared.Written.{Written}

@@ -14,7 +14,7 @@ use Rattle.answers.specs.Rules.{refusal}
 use Rattle.answers.proofs.Rules.{both-fine}
 use Rattle.gates.specs.Gate.{Refines}
 use Rattle.circuit.specs.Record.{linesOf, inputsOf}
-use Rattle.circuit.specs.Check.{circuitRules}
+use Rattle.circuit.specs.Promise.{circuitRules}
 use Rattle.circuit.specs.Formed.{WellFormed}
 use Rattle.circuit.proofs.Accepted.{good}
 use Rattle.lists.specs.declared.Fault.{Fault}
@@ -34,8 +34,8 @@ use Rattle.entry.specs.Entry.{agree, entryAt}
 use Rattle.entry.specs.Words.{Agree}
 use Rattle.entry.proofs.Words.{agree-says, fail-some, pass-every}
 use Rattle.entry.proofs.Fill.{entry-fail, entry-pass, entry-decided}
-use Rattle.dictionary.specs.Dictionary.{restRules, Dictionary}
-use Rattle.dictionary.proofs.Wording.{in-words}
+use Rattle.dictionary.specs.Promise.{restRules, Dictionary}
+use Rattle.dictionary.proofs.Says.{in-words}
 use Rattle.meaning.specs.Entries.{Means}
 
 module _ (fault : Fault) (small : fault .value ≤ 1) (c p : List ℕ) (n : ℕ) (well : WellFormed c (length p) n) where

@@ -1,6 +1,6 @@
 -- "Not told apart" is no equivalence, by the rows FUP and FFF.
 -- Assumes nothing.
-use mathlib.Core.Path.{_≡_, refl, sym}
+use mathlib.Core.Path.{refl, sym}
 use mathlib.Core.Logic.{Equivalence}
 use mathlib.Core.Bool.{true≢false}
 use mathlib.Core.List.{[], _∷_}

@@ -18,7 +18,7 @@ use Rattle.records.specs.Net.{Net, gatesOf, sizeOf, placedOf, lineOf, numberOn,
 use Rattle.records.proofs.Stands.{input-kind}
 use Rattle.netlist.specs.Solved.{Right}
 use Rattle.netlist.proofs.Numbers.{order-gate, line-inside, number-line}
-use Rattle.netlist.proofs.Sources.{kind-gate, pin-before}
+use Rattle.netlist.proofs.Sources.{kind-gate}
 use Rattle.netlist.proofs.Fields.{net-lines, net-kind, net-out}
 
 -- a test that holds at the first m numbers, and at none of the next

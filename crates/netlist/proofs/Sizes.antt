@@ -13,7 +13,7 @@ use Rattle.answers.specs.declared.Ruling.{Ruling}
 use Rattle.answers.proofs.Rules.{applies, refused, fine}
 use Rattle.circuit.specs.declared.Checked.the-variants.{Accepted, Refused}
 use Rattle.circuit.specs.Record.{outputsOf}
-use Rattle.circuit.specs.Check.{circuitRules, checkOf}
+use Rattle.circuit.specs.Promise.{circuitRules, checkOf}
 use Rattle.circuit.specs.Sizes.{sizeRules}
 use Rattle.circuit.proofs.Sizes.{sizes-say, sizes-decide, same-sizes}
 use Rattle.records.specs.Net.{Net, sizeOf, recordsOf}

@@ -12,7 +12,7 @@ use Rattle.nodes.specs.declared.Verdict.the-variants.{Test, Redundant, G
 use Rattle.nodes.specs.Node.{Node, FirstX}
 use Rattle.nodes.specs.Order.{Look, nodes, upto, trail, found, testIn, testOf, lastOr}
 use Rattle.nodes.specs.Budget.{nodesOf, memoryIn, memoryOf, testBy}
-use Rattle.nodes.specs.Side.{Left, Sided}
+use Rattle.nodes.specs.Owed.{Left, Sided}
 use Rattle.nodes.proofs.Verdicts.{Counted, Says, says, said, within}
 use Rattle.nodes.proofs.Memory.{leaves, leaves-none, leaves-next, leaves-first, leaves-second}
 use Rattle.nodes.proofs.Trail.{Trail, some-node, fail-trail, left-trail, side, sides-trail, first-trail, second-trail}

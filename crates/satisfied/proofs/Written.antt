@@ -11,7 +11,7 @@ use Rattle.answers.specs.Rules.{refusal}
 use Rattle.answers.proofs.Rules.{both-fine}
 use Rattle.answers.proofs.Answer.{was-ruled}
 use Rattle.circuit.specs.Record.{linesOf}
-use Rattle.circuit.specs.Check.{circuitRules}
+use Rattle.circuit.specs.Promise.{circuitRules}
 use Rattle.circuit.proofs.Accepted as Accepted
 use Rattle.lists.specs.declared.Fault.{Fault}
 use Rattle.lists.specs.Faults.{faultAt}

@@ -13,7 +13,7 @@ use Rattle.answers.proofs.Lent.{lent-says, lent-sizes}
 use Rattle.answers.proofs.Answer as answer
 use Rattle.answers.proofs.Answer.{numbers-told, Ruled}
 use Rattle.circuit.specs.Record.{linesOf, inputsOf, Inside}
-use Rattle.circuit.specs.Check.{circuitRules}
+use Rattle.circuit.specs.Promise.{circuitRules}
 use Rattle.circuit.specs.Formed.{Accepts, Known}
 use Rattle.circuit.proofs.Answer.{circuit-says}
 use Rattle.lists.specs.declared.Fault.{Fault}
@@ -28,7 +28,7 @@ use Rattle.search.specs.declared.Searched.{Searched}
 use Rattle.search.specs.declared.Searched.the-variants as searched
 use Rattle.sides.specs.Look.{lookOf, workOf}
 use Rattle.sides.proofs.Look.{prepared}
-use Rattle.search.specs.Search.{restRules, searchRules, verdictFor, testFor, workFor, numbersOf, Searches}
+use Rattle.search.specs.Promise.{restRules, searchRules, verdictFor, testFor, workFor, numbersOf, Searches}
 use Rattle.search.specs.Owed.{Runs, Ran, Answers}
 
 -- ---- the rules in words

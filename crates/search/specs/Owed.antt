@@ -16,7 +16,7 @@ use Rattle.nodes.specs.Budget.{verdictOf, testBy, memoryOf}
 use Rattle.search.specs.declared.Searched.{Searched}
 use Rattle.search.specs.declared.Searched.the-variants as searched
 use Rattle.sides.specs.Owed.{Prepared}
-use Rattle.search.specs.Search.{restRules, verdictFor, testFor, workFor}
+use Rattle.search.specs.Promise.{restRules, verdictFor, testFor, workFor}
 
 -- what a search from s on needs, and leaves
 pub record Runs (c : List ℕ) (fault : Fault) (n : ℕ) (s : Node) (test room : ℕ) : Type 0 where

@@ -17,7 +17,7 @@ ghost use Rattle.circuit.specs.Formed.{Known};
 ghost use Rattle.nodes.specs.Node.{start};
 ghost use Rattle.nodes.specs.Budget.{testBy};
 ghost use Rattle.sides.specs.Look.{lookOf, workOf};
-ghost use Rattle.search.specs.Search.{restRules, Searches};
+ghost use Rattle.search.specs.Promise.{restRules, Searches};
 ghost use Rattle.search.specs.Owed.{Runs, Ran, Answers};
 
 // What the search answers: a verdict, or the number of a refusal and its place.

@@ -11,7 +11,7 @@ use Rattle.answers.specs.Rules.{refusal}
 use Rattle.answers.proofs.Rules.{both-fine}
 use Rattle.answers.proofs.Answer.{was-ruled}
 use Rattle.circuit.specs.Record.{linesOf, inputsOf}
-use Rattle.circuit.specs.Check.{circuitRules}
+use Rattle.circuit.specs.Promise.{circuitRules}
 use Rattle.circuit.proofs.Accepted.{good}
 use Rattle.lists.specs.Faults.{faultAt, faultRules}
 use Rattle.lists.proofs.Faults.{good-faults}
@@ -27,7 +27,7 @@ use Rattle.nodes.proofs.Node.{start-is}
 use Rattle.nodes.proofs.Walk.{answers}
 use Rattle.nodes.proofs.Budget as budget
 use Rattle.search.specs.declared.Searched.the-variants as searched
-use Rattle.search.specs.Search.{restRules, searchRules, look, verdictFor, testFor, workFor, Searches}
+use Rattle.search.specs.Promise.{restRules, searchRules, look, verdictFor, testFor, workFor, Searches}
 use Rattle.search.proofs.Answer.{ruled}
 use Rattle.verdicts.specs.Meaning.{Faithful}
 use Rattle.verdicts.specs.Told.{Tells, allNodes, works}

@@ -9,7 +9,7 @@ use Rattle.simulate.specs.Boolean.{Vector, Detects}
 use Rattle.nodes.specs.Node.{Node, start}
 use Rattle.nodes.specs.Order.{trail}
 use Rattle.sides.specs.Look.{workOf}
-use Rattle.search.specs.Search.{look}
+use Rattle.search.specs.Promise.{look}
 
 -- the vector x tells good from faulty, in the Boolean meaning
 abbrev pub Tells : List ℕ → Fault → Vector → Type 0

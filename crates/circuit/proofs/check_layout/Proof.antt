@@ -3,7 +3,7 @@
 use mathlib.Core.Path.{refl, sym, _∙_}
 use borrow.Author.Tests.{not-true, not-false}
 use borrow.Author.Needs.{needs}
-use Rattle.circuit.specs.Check.{layoutRules}
+use Rattle.circuit.specs.Promise.{layoutRules}
 use Rattle.answers.proofs.Places.{whole-broken, place-broken, none-broken}
 use Rattle.circuit.proofs.check_layout.Statement.{statement}
 use Rattle.circuit.proofs.check_layout.Tie as tie

@@ -7,7 +7,7 @@ use borrow.Author.Needs.{needs}
 use lib.ListN.{length}
 use Rattle.ground.specs.Below.{anyBelow}
 use Rattle.counts.specs.Counted.{hitPair}
-use Rattle.counts.specs.Internal.{Moved}
+use Rattle.counts.specs.Owed.{Moved}
 use Rattle.counts.proofs.Moves.{moved-none, pairs-next, faults-next}
 use Rattle.counts.proofs.count_pattern.Statement.{statement}
 use Rattle.counts.proofs.count_pattern.Tie as tie

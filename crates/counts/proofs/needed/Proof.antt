@@ -3,7 +3,7 @@
 use Prim.Native.Nat.{_-_}
 use borrow.Author.Needs.{needs}
 use Rattle.ground.proofs.Below.{None, none-yet, found, none-more, not-found}
-use Rattle.counts.specs.Internal.{soleAt}
+use Rattle.counts.specs.Owed.{soleAt}
 use Rattle.counts.proofs.Only.{needed-fault, needed-pair}
 use Rattle.counts.proofs.needed.Statement.{statement}
 use Rattle.counts.proofs.needed.Tie as tie

@@ -5,7 +5,7 @@ use borrow.Author.Needs.{needs}
 use lib.ListN.{length}
 use Rattle.answers.specs.declared.Ruling.the-variants.{Fine}
 use Rattle.answers.specs.Rules.{refusal}
-use Rattle.search.specs.Search.{restRules}
+use Rattle.search.specs.Promise.{restRules}
 use Rattle.search.proofs.Answer.{fault-inside, runs, rest-refused, rest-fine}
 use Rattle.search.proofs.accepted.Statement.{statement}
 use Rattle.search.proofs.accepted.Tie as tie

@@ -13,7 +13,7 @@ use Rattle.nodes.specs.declared.Verdict.{Verdict}
 use Rattle.nodes.specs.declared.Verdict.the-variants.{Redundant}
 use Rattle.nodes.specs.Node.{Node, IsNode, countX}
 use Rattle.nodes.specs.Order.{Look}
-use Rattle.nodes.specs.Side.{Sided}
+use Rattle.nodes.specs.Owed.{Sided}
 use Rattle.nodes.proofs.Node.{found-first, fewer, set-again, restored, set-is}
 use Rattle.nodes.proofs.Ways.{Open, from-node, fits, spent, failed, passed, first-test, first-spent, second-test, second-none, second-spent}
 use Rattle.sides.specs.Look.{lookOf, workOf}

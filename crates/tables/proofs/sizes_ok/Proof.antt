@@ -4,7 +4,7 @@ use mathlib.Core.Path.{sym, _∙_}
 use native.Mathlib.Nat.{mul-le-mul-right}
 use native.Mathlib.Omega.{arith}
 use Rattle.tables.specs.Table.{sizesOk}
-use Rattle.tables.proofs.Refusals.{in-range}
+use Rattle.tables.proofs.Says.{in-range}
 use borrow.Author.Needs.{needs}
 use borrow.Author.Tests.{not-true, not-false}
 use Rattle.tables.proofs.sizes_ok.Statement.{statement}

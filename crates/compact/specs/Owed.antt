@@ -11,7 +11,7 @@ use Rattle.tables.specs.Entries.{entriesOf}
 use Rattle.needs.specs.Needs.{whole, kept, turn, compacted}
 use Rattle.needs.specs.Words.{Meets}
 use Rattle.counts.specs.Counted.{Counted, Seen}
-use Rattle.compact.specs.Compact.{marksRules}
+use Rattle.compact.specs.Promise.{marksRules}
 
 pub record Sizes (c s t : List ℕ) (F P : ℕ) : Type 0 where
   pub few-faults : F ≤ 256

@@ -9,7 +9,7 @@ use Rattle.answers.specs.Lent.{lentRules}
 use Rattle.answers.specs.Answer.{answered}
 use Rattle.answers.specs.Area.{Numbers, success, refusedAt, told}
 use Rattle.circuit.specs.Record.{linesOf, inputsOf}
-use Rattle.circuit.specs.Check.{circuitRules}
+use Rattle.circuit.specs.Promise.{circuitRules}
 use Rattle.lists.specs.declared.Fault.{Fault}
 use Rattle.lists.specs.Faults.{faultAt, faultRules}
 use Rattle.nodes.specs.declared.Verdict.{Verdict}

@@ -1,17 +1,17 @@
 -- The reader's refusals in the paper's words: a refusal is the first that applies, with the lowest place, and where one applies it is given.
 -- Assumes nothing.
 use mathlib.Core.Path.{_≡_, refl, _∙_}
-use mathlib.Core.List.{List, _++_}
+use mathlib.Core.List.{List}
 use Prim.Native.Nat.{ℕ}
 use lib.ListN.{length}
 use Rattle.answers.specs.declared.Ruling.{Ruling}
-use Rattle.answers.specs.Rules.{refusal, Applies, AllHold, AllSay}
+use Rattle.answers.specs.Rules.{Applies, AllHold, AllSay}
 use Rattle.answers.proofs.Rules.{fine, both-say}
 use Rattle.answers.proofs.Answer as answer
 use Rattle.answers.proofs.Answer.{Ruled}
 use Rattle.answers.proofs.Same.{eq-same}
 use Rattle.circuit.specs.Record.{linesOf}
-use Rattle.circuit.specs.Check.{circuitRules}
+use Rattle.circuit.specs.Promise.{circuitRules}
 use Rattle.circuit.proofs.Answer.{circuit-says}
 use Rattle.syntax.specs.Syntax.{syntaxRules}
 use Rattle.syntax.proofs.Says.{syntax-says}
@@ -22,7 +22,7 @@ use Rattle.order.proofs.Says.{cycle-says}
 use Rattle.bench.specs.declared.Read.{Read}
 use Rattle.bench.specs.declared.Read.the-variants.{Records, Refused}
 use Rattle.bench.specs.Text.{defsIn, usesIn, netIn}
-use Rattle.bench.specs.Bench.{bufferRules, netRules, benchRules, recordsIn, readOf, Reads}
+use Rattle.bench.specs.Promise.{bufferRules, benchRules, recordsIn, readOf, Reads}
 
 buffer-says : (room : ℕ) → AllSay (bufferRules room)
 unfolding bufferRules AllSay

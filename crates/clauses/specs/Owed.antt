@@ -13,7 +13,7 @@ use Rattle.lists.specs.Faults.{faultAt, faultRules}
 use Rattle.ground.specs.Lists.{gather}
 use Rattle.cnf.specs.Cnf.{Clauses, wordsOf}
 use Rattle.line_clauses.specs.Clauses.{clausesOf, variablesOf}
-use Rattle.line_clauses.specs.Inside.{Circuit}
+use Rattle.line_clauses.specs.Owed.{Circuit}
 use Rattle.clauses.specs.declared.Written.{Written}
 use Rattle.clauses.specs.declared.Written.the-variants.{Success, Refused}
 use Rattle.clauses.specs.Promise.{roomRules, laidOn}

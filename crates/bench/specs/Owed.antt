@@ -14,7 +14,7 @@ use Rattle.records.specs.Net.{Net, gatesOf, placedOf, recordsOf}
 use Rattle.records.specs.Owed.{Numbers}
 use Rattle.bench.specs.declared.Read.{Read}
 use Rattle.bench.specs.Text.{formsIn, defsIn, outsIn, firstsIn, secondsIn, usesIn, netIn}
-use Rattle.bench.specs.Bench.{recordRules, netRules, recordsIn, laidOn}
+use Rattle.bench.specs.Promise.{recordRules, netRules, recordsIn, laidOn}
 use Rattle.answers.specs.Answer.{answered}
 use Rattle.bench.specs.declared.Read.the-variants.{Records, Refused}
 

@@ -11,12 +11,12 @@ use Rattle.answers.specs.Area.{told, done}
 use Rattle.answers.proofs.Rules as rules
 use Rattle.answers.proofs.Rules.{applies, refused, not-fine, both-say}
 use Rattle.circuit.specs.Record.{linesOf, inputsOf}
-use Rattle.circuit.specs.Check.{circuitRules}
+use Rattle.circuit.specs.Promise.{circuitRules}
 use Rattle.circuit.proofs.Answer.{circuit-says}
 use Rattle.rows.specs.Table.{tableOf, workOf}
 use Rattle.rows.specs.Words.{Made}
 use Rattle.rows.proofs.Entries.{made, one-made}
-use Rattle.dictionary.specs.Dictionary.{dictionaryRules, Dictionary}
+use Rattle.dictionary.specs.Promise.{dictionaryRules, Dictionary}
 use Rattle.dictionary.specs.Words.{InWords}
 use Rattle.dictionary.proofs.Answer.{rest-say}
 

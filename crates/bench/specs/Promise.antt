@@ -9,7 +9,7 @@ use Rattle.answers.specs.Lent.{exact}
 use Rattle.answers.specs.Answer.{answered}
 use Rattle.answers.specs.Area.{Numbers, success, refusedAt, told}
 use Rattle.circuit.specs.Record.{linesOf}
-use Rattle.circuit.specs.Check.{circuitRules}
+use Rattle.circuit.specs.Promise.{circuitRules}
 use Rattle.syntax.specs.Syntax.{syntaxRules}
 use Rattle.names.specs.Names.{nameRules}
 use Rattle.order.specs.Order.{cycleRules}

@@ -11,8 +11,8 @@ use Rattle.answers.proofs.Rules as rules
 use Rattle.answers.proofs.Rules.{both-say}
 use Rattle.answers.proofs.Same.{eq-same}
 use Rattle.tables.specs.Table.{tableRules}
-use Rattle.tables.proofs.Refusals.{table-says}
-use Rattle.compact.specs.Compact.{marksRules, compactRules, Compacts}
+use Rattle.tables.proofs.Says.{table-says}
+use Rattle.compact.specs.Promise.{marksRules, compactRules, Compacts}
 
 pub marks-say : (P : ℕ) (m : List ℕ) → AllSay (marksRules P m)
 unfolding marksRules AllSay
