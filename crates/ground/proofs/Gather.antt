@@ -1,10 +1,10 @@
--- Lists gathered piece by piece: how long they are, what stands at a place where the pieces have one width, and what holds at each.
+-- Lists gathered piece by piece: how long they are, what stands at a place, and what holds at each.
 -- Assumes nothing.
 use mathlib.Core.Path.{_≡_, refl, _∙_}
 use mathlib.Core.Logic.{⊎-elim}
 use mathlib.Core.List.{List, [], _∷_, _++_}
 use Prim.Native.Nat.{ℕ, zero, suc, _+_, _*_, _≤_, _<_}
-use native.Mathlib.Nat.{eq-or-lt-of-le, le-of-suc-le-suc, not-suc-le-zero, suc-mul, zero-mul, mul-le-mul-right}
+use native.Mathlib.Nat.{eq-or-lt-of-le, le-of-suc-le-suc, not-suc-le-zero, suc-mul, zero-mul}
 use native.Mathlib.Omega.{arith}
 use lib.ListN.{length, getD, length-append, List·getD-append}
 use lib.Seq.{getD-append-add}
@@ -19,6 +19,16 @@ module _ {A : Type 0} (piece : ℕ → List A) where
       (λ (l : k < suc n). let ih : length (gather piece k) ≤ length (gather piece n) = gather-mono k n (omega arith) in simp length-append (omega arith))
       (eq-or-lt-of-le h)
 
+  -- place j of piece i stands after the pieces below it
+  pub gather-place : (d : A) (n i j : ℕ) → i < n → j < length (piece i) → getD (gather piece n) (length (gather piece i) + j) d ≡ getD (piece i) j d
+  gather-place d zero i j h g = absurd (not-suc-le-zero h)
+  gather-place d (suc n) i j h g =
+      ⊎-elim (λ (e : i ≡ n). rw e (getD-append-add (gather piece n) (piece n) j d))
+      (λ l.
+      let inside : length (gather piece i) + j < length (gather piece n) = omega (arith, gather-mono (suc i) n l, length-append (gather piece i) (piece i)) in
+      List·getD-append (gather piece n) (piece n) d (length (gather piece i) + j) inside ∙ gather-place d n i j l g)
+      (eq-or-lt-of-le (le-of-suc-le-suc h))
+
   pub gather-same : (other : ℕ → List A) (n : ℕ) → ((k : ℕ) → k < n → piece k ≡ other k) → gather piece n ≡ gather other n
   gather-same other zero same = refl
   gather-same other (suc n) same = rw (gather-same other n (λ k l. same k (omega arith)), same n (omega arith))
@@ -30,16 +40,8 @@ module _ {A : Type 0} (piece : ℕ → List A) where
     gather-length zero = rw zero-mul
     gather-length (suc n) = simp (length-append, gather-length n, wide, suc-mul)
 
-    -- place j of piece i
     pub gather-at : (d : A) (n i j : ℕ) → i < n → j < width → getD (gather piece n) (i * width + j) d ≡ getD (piece i) j d
-    gather-at d zero i j h g = absurd (not-suc-le-zero h)
-    gather-at d (suc n) i j h g =
-        ⊎-elim (λ (e : i ≡ n). rw (e, ← gather-length n) (getD-append-add (gather piece n) (piece n) j d))
-        (λ l.
-        let inside : suc i * width ≤ n * width = mul-le-mul-right width l in
-        List·getD-append (gather piece n) (piece n) d (i * width + j) (omega (arith, gather-length n, suc-mul i width))
-        ∙ gather-at d n i j l g)
-        (eq-or-lt-of-le (le-of-suc-le-suc h))
+    gather-at d n i j h g = rw (← gather-length i) (gather-place d n i j h (rw (wide i) g))
 
 -- ---- what holds at each place, and outside, where d stands
 

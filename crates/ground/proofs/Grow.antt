@@ -26,6 +26,9 @@ module _ {A : Type 0} (f : List A → ℕ → A) where
       (λ l. List·getD-append (grow f n) _ d k (rw (grow-length n) l) ∙ grow-at d n k l)
       (eq-or-lt-of-le (le-of-suc-le-suc h))
 
+  pub grow-meet : (d : A) (m n k : ℕ) → k < m → k < n → getD (grow f m) k d ≡ getD (grow f n) k d
+  grow-meet d m n k a b = grow-at d m k a ∙ sym (grow-at d n k b)
+
   pub grow-front : (k n : ℕ) → k ≤ n → take k (grow f n) ≡ grow f k
   unfolding grow
   grow-front k zero h = let e : k ≡ 0 = omega arith in rw e

@@ -2,7 +2,7 @@
 -- Assumes nothing.
 use mathlib.Core.Path.{_≡_, refl, sym, ap, _∙_}
 use mathlib.Core.Bool.{Bool, true, false, _||_, or-true, or-false, or-assoc, false≢true}
-use mathlib.Core.List.{List, [], _∷_, _++_}
+use mathlib.Core.List.{List, [], _∷_, _++_, append-nil}
 use Prim.Native.Nat.{ℕ, zero, suc, _+_, _<_}
 use native.Mathlib.Decide.{ℕ-discrete}
 use native.Mathlib.Nat.{le-of-suc-le-suc, not-suc-le-zero}
@@ -63,12 +63,11 @@ index-at (y ∷ l) (suc i) h e =
 pub collect-length : (test : ℕ → Bool) (f : ℕ → ℕ) (n : ℕ) → length (collect test f n) ≡ countBelow n test
 unfolding collect countBelow
 collect-length test f zero = refl
-collect-length test f (suc n) = go (test n) (collect-length test f n)
+collect-length test f (suc n) = length-append (collect test f n) _ ∙ rw (collect-length test f n, long (test n))
   where
-    go : (b : Bool) → length (collect test f n) ≡ countBelow n test
-        → length (choose b (collect test f n ++ (f n ∷ [])) (collect test f n)) ≡ countBelow n test + one b
-    go true ih = length-append (collect test f n) (f n ∷ []) ∙ ap (λ (x : ℕ). x + 1) ih
-    go false ih = omega (arith, ih)
+    long : (b : Bool) → length (choose b (f n ∷ []) []) ≡ one b
+    long true = refl
+    long false = refl
 
 -- a loop has looked at the numbers below k and written d of them to the front of out
 pub record Collected (test : ℕ → Bool) (f : ℕ → ℕ) (out : List ℕ) (d k : ℕ) : Type 0 where
@@ -88,9 +87,9 @@ collected-more {test} {f} {out} {d} {k} s room x e = record {
   are = go (test k) refl;
 }
   where
-    go : (b : Bool) → test k ≡ b → take (d + one b) (set out d x) ≡ choose b (collect test f k ++ (f k ∷ [])) (collect test f k)
+    go : (b : Bool) → test k ≡ b → take (d + one b) (set out d x) ≡ collect test f k ++ choose b (f k ∷ []) []
     go true q =
         rw (add-one d) (take-suc-set out d x room)
         ∙ ap (λ (l : List ℕ). l ++ (x ∷ [])) (s .are)
         ∙ ap (λ (y : ℕ). collect test f k ++ (y ∷ [])) (e q)
-    go false q = let z : d + 0 ≡ d = omega arith in rw z (take-set-le d out d x (omega arith)) ∙ s .are
+    go false q = let z : d + 0 ≡ d = omega arith in rw (z, append-nil) (take-set-le d out d x (omega arith) ∙ s .are)

@@ -16,11 +16,6 @@ unfoldable pub indexIn : List ℕ → ℕ → ℕ
 indexIn [] x = 0
 indexIn (y ∷ l) x = choose (eqb y x) 0 (suc (indexIn l x))
 
--- f k for each number k below n that passes the test, in order
-unfoldable pub collect : (ℕ → Bool) → (ℕ → ℕ) → ℕ → List ℕ
-collect test f zero = []
-collect test f (suc n) = choose (test n) (collect test f n ++ (f n ∷ [])) (collect test f n)
-
 -- grown place by place to n places: what comes to place k may look at the list below it
 unfoldable pub grow : {A : Type 0} → (List A → ℕ → A) → ℕ → List A
 grow f zero = []
@@ -34,3 +29,7 @@ table f n = grow (λ _ k. f k) n
 abbrev pub gather : {A : Type 0} → (ℕ → List A) → ℕ → List A
 gather piece zero = []
 gather piece (suc n) = gather piece n ++ piece n
+
+-- f k for each number k below n that passes the test, in order
+unfoldable pub collect : (ℕ → Bool) → (ℕ → ℕ) → ℕ → List ℕ
+collect test f n = gather (λ k. choose (test k) (f k ∷ []) []) n

@@ -1,7 +1,7 @@
 -- Values of a circuit's lines by any gate rule: an input's line has its input, a gate's what the rule gives of its sources.
 -- They are what a list holds that is built line by line.
 -- Assumes nothing.
-use mathlib.Core.Path.{_≡_, sym, _∙_}
+use mathlib.Core.Path.{_≡_, _∙_}
 use mathlib.Core.Bool.{true, false}
 use mathlib.Core.List.{List}
 use Prim.Native.Nat.{ℕ, _≤_, _<_}
@@ -10,7 +10,7 @@ use lib.ListN.{getD}
 use borrow.Author.Tests.{eqb-false}
 use Rattle.ground.specs.Choose.{choose}
 use Rattle.ground.specs.Lists.{grow}
-use Rattle.ground.proofs.Grow.{grow-at}
+use Rattle.ground.proofs.Grow.{grow-at, grow-meet}
 use Rattle.gates.specs.Gate.{lastKind}
 use Rattle.gates.proofs.Laws.{AtPins, two-pins}
 use Rattle.circuit.specs.Record.{kindAt, pinAt, isInput, inputsBefore}
@@ -41,5 +41,5 @@ module _ {A : Type 0} (gate : ℕ → (ℕ → A) → A) (c : List ℕ) (inputs 
         (own (kindAt c k) _ _ some (layout k l .kind)
         (λ s a b.
         let lower = layout k l .pin s a (omega (arith, two-pins (kindAt c k))) .has b in
-        grow-at (lineBy gate c inputs d) d k (pinAt c k s) lower ∙ sym (grow-at (lineBy gate c inputs d) d n (pinAt c k s) (omega arith))));
+        grow-meet (lineBy gate c inputs d) d k n (pinAt c k s) lower (omega arith)));
   }

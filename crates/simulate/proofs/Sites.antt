@@ -6,19 +6,15 @@ use Prim.Native.Nat.{ℕ, _≤_, _<_}
 use native.Mathlib.Omega.{arith}
 use lib.ListN.{getD}
 use borrow.Author.Tests.{ne-eqb}
-use Rattle.ground.proofs.Grow.{grow-at}
+use Rattle.ground.proofs.Grow.{grow-at, grow-meet}
 use Rattle.gates.specs.Gate.{pinsOf}
 use Rattle.gates.proofs.Laws.{gate-same, two-pins}
 use Rattle.circuit.specs.Record.{kindAt, pinAt}
 use Rattle.lists.specs.declared.Fault.{Fault}
-use Rattle.simulate.specs.Simulate.{Forcing, unforced, stuckAt, gateValue, lineValue, valuesTo}
+use Rattle.simulate.specs.Simulate.{unforced, stuckAt, gateValue, lineValue}
 use Rattle.simulate.specs.Sites.{faultyAt, Gives, OnLine, OnPin}
 use Rattle.circuit.specs.Formed.{Lower}
 use Rattle.simulate.proofs.Below.{stuck-site, stuck-off, values-below}
-
--- the value of a line is the same in every list that has it
-same-at : (f : Forcing) (c p : List ℕ) (m n k : ℕ) → k < m → k < n → getD (valuesTo f c p m) k 0 ≡ getD (valuesTo f c p n) k 0
-same-at f c p m n k a b = grow-at (lineValue f c p) 0 m k a ∙ sym (grow-at (lineValue f c p) 0 n k b)
 
 module _ (fault : Fault) (c p : List ℕ) (n : ℕ) (lower : (k : ℕ) → k < n → (kindAt c k ≡ 0 → ⊥) → Lower c k) (inside : fault .line < n) where
   -- the source of a pin that the gate has
@@ -35,7 +31,7 @@ module _ (fault : Fault) (c p : List ℕ) (n : ℕ) (lower : (k : ℕ) → k < n
       (gate-same (kindAt c k) _ _
       (λ s a b.
       let below = source-below k l ne s a b in
-      ap (stuckAt fault k s) (same-at (stuckAt fault) c p k n (pinAt c k s) below (omega arith))))
+      ap (stuckAt fault k s) (grow-meet (lineValue (stuckAt fault) c p) 0 k n (pinAt c k s) below (omega arith))))
 
   pub on-line : fault .site ≡ 0 → OnLine fault c p n
   unfolding lineValue
@@ -54,7 +50,7 @@ module _ (fault : Fault) (c p : List ℕ) (n : ℕ) (lower : (k : ℕ) → k < n
     alone = λ k s. stuck-off fault k s _;
     gates = λ k l. gives k l (λ v. stuck-off fault k 0 v (λ _ e. omega arith));
     below = λ k l.
-        same-at (stuckAt fault) c p n (fault .line) k (omega arith) l
+        grow-meet (lineValue (stuckAt fault) c p) 0 n (fault .line) k (omega arith) l
         ∙ ap (λ (vs : List ℕ). getD vs k 0) (values-below fault c p (fault .line) (omega arith))
-        ∙ same-at unforced c p (fault .line) n k l (omega arith);
+        ∙ grow-meet (lineValue unforced c p) 0 (fault .line) n k l (omega arith);
   }
