@@ -149,7 +149,9 @@ module _ {c : List ℕ} {m n : ℕ} (w : WellFormed c m n) {k : ℕ} (l : k < n)
   faulty-variables f = go (isAt f k 0) refl (isInput c k) refl
     where
       go : (s : Bool) → isAt f k 0 ≡ s → (t : Bool) → isInput c k ≡ t
-          → variablesTo (variablesOf c n) (choose s (bufferClauses (faultyVar k) (stuckVar n)) (choose t (bufferClauses (faultyVar k) (goodVar k)) (gateClauses (kindAt c k) (faultySite c f n k)))) ≡ true
+          → variablesTo (variablesOf c n)
+          (choose s (bufferClauses (faultyVar k) (stuckVar n)) (choose t (bufferClauses (faultyVar k) (goodVar k)) (gateClauses (kindAt c k) (faultySite c f n k))))
+          ≡ true
       go true e t q = buffer-variables (omega arith) (omega arith) (omega arith) (omega arith)
       go false e true q = buffer-variables (omega arith) (omega arith) (omega arith) (omega arith)
       go false e false q = faulty-gate-variables q f e
@@ -161,5 +163,6 @@ module _ {c : List ℕ} {m n : ℕ} (w : WellFormed c m n) {k : ℕ} (l : k < n)
       go : (t : Bool) → isOutput c k ≡ t → variablesTo (variablesOf c n) (choose t (gateClauses 7 (sites (differenceVar n (outputsBefore c k)) (goodVar k) (faultyVar k))) []) ≡ true
       go true o =
           let h : outputsBefore c k < outputsBefore c n = count-below (isOutput c) k n l o in
-          gate-variables (variablesOf c n) 7 (sites (differenceVar n (outputsBefore c k)) (goodVar k) (faultyVar k)) (omega arith) (omega arith, omega arith) (up (omega arith) (omega arith)) (up (omega arith) (omega arith))
+          gate-variables (variablesOf c n) 7 (sites (differenceVar n (outputsBefore c k)) (goodVar k) (faultyVar k))
+          (omega arith) (omega arith, omega arith) (up (omega arith) (omega arith)) (up (omega arith) (omega arith))
       go false o = refl
