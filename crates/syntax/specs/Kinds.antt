@@ -5,7 +5,7 @@ use mathlib.Core.Logic.{_⊎_}
 use mathlib.Core.List.{List, [], _∷_, map}
 use Prim.Native.Nat.{ℕ, suc}
 use Prim.Native.Char.{code}
-use Prim.Native.String.{String, [] as ε}
+use Prim.Native.String.{String, [] as ε, _∷_ as _then_}
 use lib.Dec.{eqb}
 use Rattle.ground.specs.Choose.{choose}
 use Rattle.ground.specs.Lists.{table}
