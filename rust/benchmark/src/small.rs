@@ -15,9 +15,12 @@ fn files(name: &str) -> Files {
     Files { circuit, faults, patterns }
 }
 
+/// A part on an example, given its name, its files and its text.
+type Part = fn(&str, &Files, &[u8]) -> Row;
+
 pub fn rows() -> impl Iterator<Item = Row> {
     let examples = [("example A", files("a"), A.to_vec()), ("c17", files("c17"), example("bench/c17.bench"))];
-    let parts: [fn(&str, &Files, &[u8]) -> Row; 6] = [
+    let parts: [Part; 6] = [
         |name, files, _| parts::check(&format!("check: {name}"), files),
         |name, files, _| parts::dictionary(&format!("dictionary: {name}"), files),
         |name, files, _| parts::compact(&format!("compactor: {name}"), files.fault_count(), &files.table()),
