@@ -1,6 +1,7 @@
 //! The compactor against the second program, which runs the definition: every mark and the answer, byte by byte.
 //!
-//! Each accepted call clears room for 65,536 pairs, which takes half a millisecond over the bridge: so there are only thousands of them.
+//! An accepted call with 16 faults or more clears room for 65,536 pairs, which takes half a millisecond over the bridge: so there are only
+//! thousands of them.
 mod harness;
 
 use cases::tables::{of_density, small, table, DENSITIES};
