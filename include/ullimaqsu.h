@@ -67,7 +67,7 @@ typedef __UINT64_TYPE__ uint64_t;
    14 to 16 first, then 1, 4 and 5 on the records that it would write, then the size of its buffer.
    14: the place is the first byte such that no right text begins with the bytes up to it, or byte 32,768, or the length of a text that ends
    early. 15: the first byte of the name, where it is used or defined a second time. 16: gates alone are counted, from 0, in the text's order.
-   Nothing else in the repository has these words: what prints them takes them from here, as examples/front_end.c does. */
+   What prints these words takes them from here, as examples/front_end.c does. */
 #define ULLIMAQSU_REFUSALS(each) \
     each(ULLIMAQSU_CIRCUIT_SIZE,    1, "the circuit is not a multiple of 8 bytes, empty, or above 2,048 records", "") \
     each(ULLIMAQSU_CIRCUIT_LAYOUT,  2, "a circuit record breaks its layout", "line") \

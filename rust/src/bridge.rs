@@ -1,9 +1,13 @@
 //! Calls over the bridge, `build/serve`, an x86-64 program under the kit's emulator. Each thread has a bridge of its own, which ends with
 //! the thread.
 mod batch;
+mod parameter;
+#[cfg(test)]
+mod tests;
 
 use crate::raw::Call;
 use batch::Batch;
+pub use parameter::Parameter;
 use std::cell::RefCell;
 use std::io::{self, Read, Write};
 use std::process::{Child, ChildStdin, ChildStdout, Command, Stdio};
@@ -11,8 +15,8 @@ use std::process::{Child, ChildStdin, ChildStdout, Command, Stdio};
 /// A batch is sent once it has this many bytes.
 const ENOUGH: usize = 1 << 20;
 
-/// The bridge has room for this many.
-const MOST: usize = 8 << 20;
+/// An entry by its name, and its parameters in order.
+pub type Named<'a> = (&'static str, Vec<&'a mut dyn Parameter>);
 
 struct Bridge {
     process: Child,
@@ -41,22 +45,21 @@ impl Bridge {
         self.from.read_exact(&mut batch.bytes)
     }
 
-    fn run(&mut self, mut calls: &mut [Call]) -> Vec<u32> {
+    fn run(&mut self, mut calls: &mut [Named]) -> io::Result<Vec<u32>> {
         let mut returned = Vec::with_capacity(calls.len());
         while !calls.is_empty() {
             let mut batch = Batch::default();
             let mut count = 0;
             while count < calls.len() && batch.bytes.len() < ENOUGH {
-                batch.put_call(&mut calls[count]);
+                batch.put_call(&calls[count]);
                 count += 1;
             }
-            assert!(batch.bytes.len() <= MOST, "a call is too large for the bridge");
-            self.exchange(&mut batch).expect("the bridge answers, if .ci/link has built it");
+            self.exchange(&mut batch)?;
             let (sent, rest) = calls.split_at_mut(count);
             returned.extend(sent.iter_mut().map(|call| batch.take_call(call)));
             calls = rest;
         }
-        returned
+        Ok(returned)
     }
 }
 
@@ -76,5 +79,6 @@ pub fn enter(call: &mut Call) -> u32 {
 }
 
 pub fn enter_all(calls: &mut [Call]) -> Vec<u32> {
-    BRIDGE.with(|bridge| bridge.borrow_mut().run(calls))
+    let mut named: Vec<_> = calls.iter_mut().map(Call::named).collect();
+    BRIDGE.with(|bridge| bridge.borrow_mut().run(&mut named)).expect("the bridge answers, if .ci/link has built it")
 }

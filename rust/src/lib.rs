@@ -6,10 +6,11 @@
 //! On x86-64 the archive is linked. Elsewhere each thread that calls starts the bridge, an x86-64 program under the kit's emulator:
 //! right for tests, and slow.
 
+mod entries;
 pub mod raw;
 mod refusal;
 
-#[cfg(not(direct))]
+#[cfg(any(not(direct), test))]
 mod bridge;
 #[cfg(direct)]
 mod direct;

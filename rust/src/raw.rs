@@ -2,19 +2,31 @@
 
 #[cfg(not(direct))]
 use crate::bridge as way;
+#[cfg(any(not(direct), test))]
+use crate::bridge::{Named, Parameter};
 #[cfg(direct)]
 use crate::direct as way;
 
-/// A call of an entry. The fields stand in the order of the entry's parameters.
-#[derive(Debug)]
-pub enum Call<'a> {
-    Check { circuit: &'a [u8], answer: &'a mut [u8] },
-    Dictionary { circuit: &'a [u8], faults: &'a [u8], patterns: &'a [u8], table: &'a mut [u8], work: &'a mut [u8], answer: &'a mut [u8] },
-    Compact { fault_count: u64, pattern_count: u64, table: &'a [u8], marks: &'a mut [u8], answer: &'a mut [u8] },
-    Search { circuit: &'a [u8], fault: &'a [u8], budget: u64, test: &'a mut [u8], work: &'a mut [u8], answer: &'a mut [u8] },
-    Clauses { circuit: &'a [u8], fault: &'a [u8], words: &'a mut [i32], answer: &'a mut [u8] },
-    Bench { text: &'a [u8], circuit: &'a mut [u8], answer: &'a mut [u8] },
+macro_rules! calls {
+    ($($name:ident = $entry:ident($($field:ident: $(&[$read:ty])? $(&mut [$lent:ty])? $($number:ident)?),*);)*) => {
+        /// A call of an entry. The fields stand in the order of the entry's parameters.
+        #[derive(Debug)]
+        pub enum Call<'a> {
+            $($name { $($field: $(&'a [$read])? $(&'a mut [$lent])? $($number)?),* },)*
+        }
+
+        #[cfg(any(not(direct), test))]
+        impl Call<'_> {
+            /// The call as it goes over the bridge.
+            pub(crate) fn named(&mut self) -> Named<'_> {
+                match self {
+                    $(Call::$name { $($field),* } => (stringify!($entry), vec![$($field as &mut dyn Parameter),*]),)*
+                }
+            }
+        }
+    };
 }
+crate::entries!(calls);
 
 /// Calls the entry, and gives what it returns: 0, or the number of the refusal.
 pub fn enter(mut call: Call) -> u32 {

@@ -6,38 +6,15 @@ mod simulated;
 mod wrong;
 
 use cases::{damage, drawn, texts, Random};
-use harness::{compare, first_defect_is_told, wrong_programs_are_seen, Case, Defect};
+use harness::{compare, first_defect_is_told, wrong_programs_are_seen, Bench, Case, Defect};
 use second::bench::{placed, Placed, Text};
 use second::entries::{self, Seen};
 use second::values::byte;
 use second::Value;
 use simulated::simulated;
-use ullimaqsu::raw::Call;
 use ullimaqsu::{Counts, LARGEST_CIRCUIT};
 
-#[derive(Clone, Debug)]
-struct Bench {
-    text: Vec<u8>,
-    circuit: Vec<u8>,
-    answer: Vec<u8>,
-}
-
 impl Case for Bench {
-    type Element = u8;
-    const GUARD: u8 = 0xa5;
-
-    fn read(&self) -> Vec<&[u8]> {
-        vec![&self.text]
-    }
-    fn lent(&self) -> Vec<&[u8]> {
-        vec![&self.circuit]
-    }
-    fn answer(&self) -> &[u8] {
-        &self.answer
-    }
-    fn call<'a>(&self, read: Vec<&'a [u8]>, mut lent: Vec<&'a mut [u8]>, answer: &'a mut [u8]) -> Call<'a> {
-        Call::Bench { text: read[0], circuit: lent.remove(0), answer }
-    }
     fn second(&self) -> Seen {
         entries::bench(&self.text, &self.circuit, &self.answer)
     }

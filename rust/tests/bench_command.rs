@@ -71,6 +71,10 @@ fn commands() {
     assert!(has_records(&beside));
     assert_eq!(bench(&[&wrong, &directory.0.join("none")]).0, Some(1));
 
+    // a directory that is not there gets no file of its name
+    let missing = directory.0.join("missing/");
+    stopped(bench(&[&file, &missing]), &format!("there is no directory {}", missing.display()));
+
     // nothing is run: too few words, too many
     stopped(bench(&[]), "--help");
     stopped(bench(&[&file, &other, &other]), "--help");

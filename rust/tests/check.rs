@@ -5,34 +5,12 @@ mod harness;
 
 use cases::circuits::{circuit, record, small, AND, BUFFER, INPUT, NOT, OR};
 use cases::{damage, drawn, Random};
-use harness::{compare, first_defect_is_told, library, wrong_programs_are_seen, Case, Defect};
+use harness::{compare, first_defect_is_told, library, wrong_programs_are_seen, Case, Check, Defect};
 use second::entries::{self, Seen};
 use second::{Counts, Refusal};
 use std::ops::Range;
-use ullimaqsu::raw::Call;
-
-#[derive(Clone, Debug)]
-struct Check {
-    circuit: Vec<u8>,
-    answer: Vec<u8>,
-}
 
 impl Case for Check {
-    type Element = u8;
-    const GUARD: u8 = 0xa5;
-
-    fn read(&self) -> Vec<&[u8]> {
-        vec![&self.circuit]
-    }
-    fn lent(&self) -> Vec<&[u8]> {
-        vec![]
-    }
-    fn answer(&self) -> &[u8] {
-        &self.answer
-    }
-    fn call<'a>(&self, read: Vec<&'a [u8]>, _: Vec<&'a mut [u8]>, answer: &'a mut [u8]) -> Call<'a> {
-        Call::Check { circuit: read[0], answer }
-    }
     fn second(&self) -> Seen {
         entries::check(&self.circuit, &self.answer)
     }
@@ -158,7 +136,7 @@ const WRONG: [Wrong; 12] = [
 fn wrong_programs() {
     let cases: Vec<_> = with_areas(drawn(4, 20_000, damaged).chain(every_byte()).chain(boundaries())).collect();
     let with_area = |check: fn(&[u8]) -> Result<Counts, Refusal>| {
-        move |case: &Check| entries::seen(&case.answer, &[], check(&case.circuit).map(|counts| (counts.numbers(), vec![])))
+        move |case: &Check| entries::seen(&case.answer, vec![], check(&case.circuit).map(|counts| (counts.numbers(), vec![])))
     };
     wrong_programs_are_seen(&cases, WRONG.map(|(name, check)| (name, with_area(check))));
     wrong_programs_are_seen(&cases, [("takes any area", |case: &Check| entries::check(&case.circuit, &[0; 32]))]);

@@ -4,38 +4,13 @@ mod harness;
 use cases::circuits::{circuit, record, small, AND, INPUT, NOT, XOR};
 use cases::faults::{self, some};
 use cases::{damage, drawn, Random};
-use harness::{compare, first_defect_is_told, wrong_programs_are_seen, Case, Defect};
+use harness::{compare, first_defect_is_told, wrong_programs_are_seen, Case, Clauses, Defect};
 use second::clauses::{clauses_of, words, Clause};
 use second::entries::{self, Seen};
 use second::{Circuit, Fault};
-use ullimaqsu::raw::Call;
-
-#[derive(Clone, Debug)]
-struct Clauses {
-    circuit: Vec<u8>,
-    fault: Vec<u8>,
-    words: Vec<i32>,
-    answer: Vec<u8>,
-}
 
 impl Case for Clauses {
-    type Element = i32;
-    const GUARD: i32 = 0x5a5a_a5a5;
-
-    fn read(&self) -> Vec<&[u8]> {
-        vec![&self.circuit, &self.fault]
-    }
-    fn lent(&self) -> Vec<&[i32]> {
-        vec![&self.words]
-    }
-    fn answer(&self) -> &[u8] {
-        &self.answer
-    }
-    fn call<'a>(&self, read: Vec<&'a [u8]>, lent: Vec<&'a mut [i32]>, answer: &'a mut [u8]) -> Call<'a> {
-        let ([circuit, fault], [words]) = (read.try_into().expect("two"), lent.try_into().expect("one"));
-        Call::Clauses { circuit, fault, words, answer }
-    }
-    fn second(&self) -> Seen<i32> {
+    fn second(&self) -> Seen {
         entries::clauses(&self.circuit, &self.fault, &self.words, &self.answer)
     }
 }
@@ -131,7 +106,7 @@ fn two_defects_at_once() {
 }
 
 /// Another list of clauses, and otherwise what the second program says.
-fn by(case: &Clauses, change: impl Fn(&Circuit, Fault, &mut Vec<Clause>)) -> Seen<i32> {
+fn by(case: &Clauses, change: impl Fn(&Circuit, Fault, &mut Vec<Clause>)) -> Seen {
     let mut seen = case.second();
     if seen.returned == 0 {
         let circuit = Circuit::read(&case.circuit).expect("sound");
@@ -139,16 +114,16 @@ fn by(case: &Clauses, change: impl Fn(&Circuit, Fault, &mut Vec<Clause>)) -> See
         let mut clauses = clauses_of(&circuit, fault);
         change(&circuit, fault, &mut clauses);
         let words = words(&clauses);
-        seen.lent[0] = [&words[..], &case.words[words.len().min(case.words.len())..]].concat();
+        seen.lent[0] = [&words[..], &case.words[words.len().min(case.words.len())..]].concat().into();
     }
     seen
 }
 
-type Wrong = (&'static str, fn(&Clauses) -> Seen<i32>);
+type Wrong = (&'static str, fn(&Clauses) -> Seen);
 
 /// Programs that are wrong in one way each.
 const WRONG: [Wrong; 9] = [
-    ("leaves the words alone", |case| Seen { lent: vec![case.words.clone()], ..case.second() }),
+    ("leaves the words alone", |case| Seen { lent: vec![case.words.clone().into()], ..case.second() }),
     ("always writes the same list", |case| by(case, |_, _, clauses| *clauses = vec![vec![-3, -1], vec![3, 1]])),
     ("negates the stuck value", |case| {
         by(case, |circuit, _, clauses| {
@@ -181,7 +156,7 @@ const WRONG: [Wrong; 9] = [
         let mut seen = case.second();
         if seen.returned == 0 {
             let written = needed(&case.circuit, &case.fault);
-            seen.lent[0][written..].fill(0);
+            seen.lent[0].i32()[written..].fill(0);
         }
         seen
     }),

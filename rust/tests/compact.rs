@@ -1,42 +1,17 @@
 //! The compactor against the second program, which runs the definition: every mark and the answer, byte by byte.
 //!
-//! Each accepted call clears room for 65,536 pairs, which takes half a millisecond over the bridge: so there are only thousands of them.
+//! An accepted call with 16 faults or more clears room for 65,536 pairs, which takes half a millisecond over the bridge: so there are only
+//! thousands of them.
 mod harness;
 
 use cases::tables::{of_density, small, table, DENSITIES};
 use cases::{damage, drawn, Random};
-use harness::{compare, first_defect_is_told, wrong_programs_are_seen, Case, Defect};
+use harness::{compare, first_defect_is_told, wrong_programs_are_seen, Case, Compact, Defect};
 use second::compact::{kept, needs, Need, Row};
 use second::entries::{self, Seen};
 use second::Entry;
-use ullimaqsu::raw::Call;
-
-#[derive(Clone, Debug)]
-struct Compact {
-    fault_count: u64,
-    pattern_count: u64,
-    table: Vec<u8>,
-    marks: Vec<u8>,
-    answer: Vec<u8>,
-}
 
 impl Case for Compact {
-    type Element = u8;
-    const GUARD: u8 = 0xa5;
-
-    fn read(&self) -> Vec<&[u8]> {
-        vec![&self.table]
-    }
-    fn lent(&self) -> Vec<&[u8]> {
-        vec![&self.marks]
-    }
-    fn answer(&self) -> &[u8] {
-        &self.answer
-    }
-    fn call<'a>(&self, read: Vec<&'a [u8]>, lent: Vec<&'a mut [u8]>, answer: &'a mut [u8]) -> Call<'a> {
-        let ([table], [marks]) = (read.try_into().expect("one"), lent.try_into().expect("one"));
-        Call::Compact { fault_count: self.fault_count, pattern_count: self.pattern_count, table, marks, answer }
-    }
     fn second(&self) -> Seen {
         entries::compact(self.fault_count, self.pattern_count, &self.table, &self.marks, &self.answer)
     }
@@ -147,7 +122,7 @@ fn by(case: &Compact, choose: fn(&[Row]) -> Vec<usize>) -> Seen {
         let entry = |&byte: &u8| [Entry::Pass, Entry::Fail, Entry::Unknown][usize::from(byte)];
         let rows: Vec<Row> = case.table.chunks_exact(case.fault_count as usize).map(|row| row.iter().map(entry).collect()).collect();
         let kept = choose(&rows);
-        seen.lent[0] = (0..rows.len()).map(|pattern| u8::from(kept.contains(&pattern))).collect();
+        *seen.lent[0].u8() = (0..rows.len()).map(|pattern| u8::from(kept.contains(&pattern))).collect();
     }
     seen
 }

@@ -4,39 +4,11 @@ mod harness;
 use cases::circuits::{circuit, record, small, sources, AND, INPUT, OR};
 use cases::faults::{every, inputs, patterns, some};
 use cases::{damage, drawn, Random};
-use harness::{compare, first_defect_is_told, wrong_programs_are_seen, Case, Defect};
+use harness::{compare, first_defect_is_told, wrong_programs_are_seen, Case, Defect, Dictionary};
 use second::entries::{self, Seen};
 use second::{Circuit, Entry, Fault, Value};
-use ullimaqsu::raw::Call;
-
-#[derive(Clone, Debug)]
-struct Dictionary {
-    circuit: Vec<u8>,
-    faults: Vec<u8>,
-    patterns: Vec<u8>,
-    table: Vec<u8>,
-    work: Vec<u8>,
-    answer: Vec<u8>,
-}
 
 impl Case for Dictionary {
-    type Element = u8;
-    const GUARD: u8 = 0xa5;
-
-    fn read(&self) -> Vec<&[u8]> {
-        vec![&self.circuit, &self.faults, &self.patterns]
-    }
-    fn lent(&self) -> Vec<&[u8]> {
-        vec![&self.table, &self.work]
-    }
-    fn answer(&self) -> &[u8] {
-        &self.answer
-    }
-    fn call<'a>(&self, read: Vec<&'a [u8]>, lent: Vec<&'a mut [u8]>, answer: &'a mut [u8]) -> Call<'a> {
-        let [circuit, faults, patterns] = read.try_into().expect("three");
-        let [table, work] = lent.try_into().expect("two");
-        Call::Dictionary { circuit, faults, patterns, table, work, answer }
-    }
     fn second(&self) -> Seen {
         entries::dictionary(&self.circuit, &self.faults, &self.patterns, &self.table, &self.work, &self.answer)
     }
@@ -159,7 +131,7 @@ fn by(case: &Dictionary, entry: fn(&[(Value, Value)]) -> Entry) -> Seen {
             let (good, faulty) = (circuit.values(pattern, None), circuit.values(pattern, Some(fault)));
             entry(&circuit.outputs().map(|line| (good[line], faulty[line])).collect::<Vec<_>>()) as u8
         };
-        seen.lent[0] = patterns.iter().flat_map(|pattern| faults.iter().map(|&fault| of(pattern, fault))).collect();
+        *seen.lent[0].u8() = patterns.iter().flat_map(|pattern| faults.iter().map(|&fault| of(pattern, fault))).collect();
     }
     seen
 }
@@ -220,7 +192,7 @@ const WRONG: [Wrong; 9] = [
             case.faults.chunks_exact_mut(8).filter(two_pins).for_each(|fault| fault[2] = 3 - fault[2])
         })
     }),
-    ("puts each row at the next one's place", |case| then(case, |case, seen| seen.lent[0].rotate_right(case.faults.len() / 8))),
+    ("puts each row at the next one's place", |case| then(case, |case, seen| seen.lent[0].u8().rotate_right(case.faults.len() / 8))),
     ("leaves the work of the first fault", |case| {
         then(case, |case, seen| {
             let mut first = case.clone();
@@ -239,7 +211,7 @@ const WRONG: [Wrong; 9] = [
     ("writes the table though something is refused", |case| {
         let mut seen = case.second();
         if seen.returned == 10 && case.answer.len() == 32 {
-            seen.lent[0].fill(2);
+            seen.lent[0].u8().fill(2);
         }
         seen
     }),

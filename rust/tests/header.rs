@@ -93,6 +93,48 @@ fn names_in_the_docs() {
     assert!(numbered > 0, "numbers stand before names");
 }
 
+macro_rules! rows {
+    ($($name:ident = $entry:ident $parameters:tt;)*) => { [$(concat!(stringify!($entry), stringify!($parameters))),*] };
+}
+
+fn element(in_c: &str) -> &str {
+    match in_c {
+        "uint8_t" => "u8",
+        "int32_t" => "i32",
+        "uint32_t" => "u32",
+        "uint64_t" => "u64",
+        "double" => "f64",
+        other => panic!("{other} is no element"),
+    }
+}
+
+/// A declaration, from the entry's name on, as the row of the table has it, without blanks.
+fn row(declaration: &str) -> String {
+    let (entry, rest) = declaration.split_once('(').expect("parameters");
+    let mut in_c = rest.split_once(");").expect("their end").0.split(',').map(str::trim);
+    let mut row = vec![];
+    while let Some(parameter) = in_c.next() {
+        let (of, name) = parameter.rsplit_once(' ').expect("a type and a name");
+        let Some(name) = name.strip_prefix('*') else {
+            row.push(format!("{name}:{}", element(of)));
+            continue;
+        };
+        assert_eq!(in_c.next(), Some(&*format!("size_t {name}_len")), "{entry}: a slice has its length");
+        row.push(match of.strip_prefix("const ") {
+            Some(of) => format!("{name}:&[{}]", element(of)),
+            None => format!("{name}:&mut[{}]", element(of)),
+        });
+    }
+    format!("{entry}({})", row.join(","))
+}
+
+/// The table of entries in Rust says what the header declares: nothing else would tell the linker.
+#[test]
+fn declarations() {
+    let declared: Vec<String> = read("include/ullimaqsu.h").split("\nuint32_t ").skip(1).map(row).collect();
+    assert_eq!(ullimaqsu::entries!(rows).map(|row| row.replace([' ', '\n'], "")).to_vec(), declared);
+}
+
 type Spoil = fn(&mut Vec<u8>);
 
 /// Example A, spoilt so that each refusal is given that files can have.

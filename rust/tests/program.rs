@@ -14,6 +14,7 @@ use cases::{damage, drawn, Random, Tally};
 use command::ullimaqsu;
 use directory::{root, Directory};
 use second::Files;
+use std::os::unix::fs::symlink;
 use std::path::Path;
 use std::time::Instant;
 use std::{fs, thread};
@@ -148,7 +149,12 @@ fn examples() {
     }
 }
 
-/// `./ullimaqsu dictionary`: what the program prints, the files that are not there, and status 2 where nothing can be run or printed.
+/// What the command gives where it stops: status 2, and one line that says why.
+fn stopped(why: String) -> (Option<i32>, String, String) {
+    (Some(2), String::new(), format!("ullimaqsu: {why}\n"))
+}
+
+/// `./ullimaqsu dictionary`: what the program prints, the files that are not there, and status 2 where nothing can be read, run or printed.
 #[test]
 fn commands() {
     let dictionary = |directory| ullimaqsu(&[Path::new("dictionary"), directory]);
@@ -158,13 +164,24 @@ fn commands() {
 
     let directory = Directory::new("no faults");
     directory.write("circuit.rec", &fs::read(c17.join("circuit.rec")).expect("c17"));
-    fs::create_dir(directory.0.join("patterns.rec")).expect("a directory");
     let (status, printed, said) = dictionary(&directory.0);
     assert_eq!((status, printed.as_str()), (Some(1), "refused 6 0\n"));
     let path = |name| directory.0.join(name).display().to_string();
-    let about = [path("faults.rec: the faults"), format!("there is no file {}", path("faults.rec")), path("patterns.rec is a directory")];
+    let absent = |name| format!("there is no file {}", path(name));
+    let about = [path("faults.rec: the faults"), absent("faults.rec"), absent("patterns.rec")];
     assert_eq!(said.lines().count(), about.len());
     assert!(said.lines().zip(&about).all(|(line, about)| line.starts_with(&format!("ullimaqsu: {about}"))), "{said}");
+
+    // nothing is run on a file that can't be read to its end: a directory, a device, and one whose reading fails
+    let patterns = directory.0.join("patterns.rec");
+    fs::create_dir(&patterns).expect("a directory");
+    assert_eq!(dictionary(&directory.0), stopped(path("patterns.rec is a directory")));
+    fs::remove_dir(&patterns).expect("the directory");
+    for (target, why) in [("/dev/zero", "patterns.rec is no regular file"), ("/proc/self/mem", "patterns.rec can't be read")] {
+        symlink(target, &patterns).expect("a link");
+        assert_eq!(dictionary(&directory.0), stopped(path(why)));
+        fs::remove_file(&patterns).expect("the link");
+    }
 
     for said in unheard(&[Path::new("dictionary"), &c17]).into_iter().chain([dictionary(&directory.0.join("absent"))]) {
         assert_eq!((said.0, said.1.as_str(), said.2.lines().count()), (Some(2), "", 1), "{said:?}");

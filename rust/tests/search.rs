@@ -6,23 +6,12 @@ mod wrong;
 use cases::circuits::{circuit, record, AND, INPUT, NOT, XOR};
 use cases::faults::{self, some};
 use cases::{damage, drawn, Random};
-use harness::{compare, first_defect_is_told, library, wrong_programs_are_seen, Case, Defect};
+use harness::{compare, first_defect_is_told, library, wrong_programs_are_seen, Case, Defect, Search};
 use second::entries::{self, Seen};
 use second::search::search_circuit;
 use second::values::byte;
 use second::{Circuit, Entry, Fault, Pattern};
-use ullimaqsu::raw::Call;
 use ullimaqsu::Outcome;
-
-#[derive(Clone, Debug)]
-struct Search {
-    circuit: Vec<u8>,
-    fault: Vec<u8>,
-    budget: u64,
-    test: Vec<u8>,
-    work: Vec<u8>,
-    answer: Vec<u8>,
-}
 
 /// Verdicts are counted with these numbers.
 const TEST: u32 = 100;
@@ -30,23 +19,6 @@ const REDUNDANT: u32 = 101;
 const GIVEN_UP: u32 = 102;
 
 impl Case for Search {
-    type Element = u8;
-    const GUARD: u8 = 0xa5;
-
-    fn read(&self) -> Vec<&[u8]> {
-        vec![&self.circuit, &self.fault]
-    }
-    fn lent(&self) -> Vec<&[u8]> {
-        vec![&self.test, &self.work]
-    }
-    fn answer(&self) -> &[u8] {
-        &self.answer
-    }
-    fn call<'a>(&self, read: Vec<&'a [u8]>, lent: Vec<&'a mut [u8]>, answer: &'a mut [u8]) -> Call<'a> {
-        let [circuit, fault] = read.try_into().expect("two");
-        let [test, work] = lent.try_into().expect("two");
-        Call::Search { circuit, fault, budget: self.budget, test, work, answer }
-    }
     fn second(&self) -> Seen {
         entries::search(&self.circuit, &self.fault, self.budget, &self.test, &self.work, &self.answer)
     }
@@ -161,13 +133,14 @@ fn vectors(inputs: usize) -> impl Iterator<Item = Pattern> {
 fn verdicts_and_all_vectors() {
     let cases: Vec<_> = drawn(5, 3_000, few_inputs).collect();
     let mut found = [0; 2];
-    for (case, seen) in cases.iter().zip(library(&cases)) {
+    for (case, mut seen) in cases.iter().zip(library(&cases)) {
         let (circuit, fault) = case.parts();
         let inputs = case.test.len();
         let detecting: Vec<_> = vectors(inputs).filter(|vector| circuit.entry(vector, fault) == Entry::Fail).collect();
         assert_eq!(Search::counted(&seen), if detecting.is_empty() { REDUNDANT } else { TEST }, "{case:?}");
         if !detecting.is_empty() {
-            let fills = |vector: &Pattern| vector.iter().zip(&seen.lent[0]).all(|(value, &test)| test == 2 || byte(value) == test);
+            let test = seen.lent[0].u8();
+            let fills = |vector: &Pattern| vector.iter().zip(&*test).all(|(value, &test)| test == 2 || byte(value) == test);
             assert!(vectors(inputs).filter(fills).all(|vector| detecting.contains(&vector)), "{case:?}");
         }
         let nodes = u64::from_le_bytes(seen.answer[8..16].try_into().expect("eight bytes"));

@@ -10,7 +10,7 @@ use Rattle.nodes.specs.Budget.{Decided}
 use Rattle.nodes.specs.declared.Verdict.{Verdict}
 use Rattle.nodes.specs.declared.Verdict.the-variants.{Redundant}
 use Rattle.search.specs.declared.Searched.the-variants as searched
-use Rattle.search.specs.Search.{Searches}
+use Rattle.search.specs.Promise.{Searches}
 use Rattle.clauses.specs.declared.Written.the-variants.{Success}
 use Rattle.clauses.specs.Promise.{Writes}
 use Rattle.satisfied.specs.Satisfied.{Unsatisfiable}

@@ -1,7 +1,7 @@
 -- Whole records of a width, 1 to `most`: what the test says, and when it holds.
 -- Assumes nothing.
 use mathlib.Core.Path.{_≡_, refl}
-use mathlib.Core.Bool.{true}
+use mathlib.Core.Bool.{Bool, true, false}
 use Prim.Native.Nat.{ℕ, zero, suc, _*_, _≤_, _<_, _/_, _%_}
 use native.Mathlib.Nat.{div-add-mod, mul-div-right, mul-mod-right, div-zero}
 use native.Mathlib.Omega.{arith}
@@ -34,6 +34,13 @@ records-same width most bytes w = record {
   holds = records width most bytes;
   tests = λ r. rw (r .multiple) (records-hold width most (bytes / width) w (r .some) (r .few));
 }
+
+pub too-many-records : (width most bytes : ℕ) → most < bytes / width → recordsOk width most bytes ≡ false
+too-many-records width most bytes l = go (recordsOk width most bytes) refl
+  where
+    go : (b : Bool) → recordsOk width most bytes ≡ b → b ≡ false
+    go true e = absurd (omega (arith, records width most bytes e .few))
+    go false e = refl
 
 -- a width of 0 has no records: then the test fails, and so do the words
 pub any-width : (width most bytes : ℕ) → Same (recordsOk width most bytes) (Records width most bytes)

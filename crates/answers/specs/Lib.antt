@@ -2,3 +2,5 @@ pub mod Rules
 pub mod Records
 pub mod Small
 pub mod Area
+pub mod Answer
+pub mod Lent

@@ -4,7 +4,9 @@ ghost use Prim.Native.Nat.{_+_, _≤_, _<_};
 ghost use lib.ListN.{length};
 ghost use lib.Seq.{sets};
 ghost use Rattle.ground.specs.Below.{firstNot};
+ghost use Rattle.answers.specs.Rules.{refusal};
 ghost use Rattle.answers.specs.Small.{smallOk};
+ghost use Rattle.answers.specs.Lent.{lentRules};
 ghost use Rattle.answers.specs.Records.{recordsOk};
 ghost use Rattle.answers.specs.Area.{le, areaOf};
 
@@ -42,6 +44,19 @@ pub fn first_big(bytes: &[u8]) -> usize
         i += 1;
     }
     bytes.len()
+}
+
+// Refusal 10 for two lent buffers: each has its size.
+pub fn check_lent(size: usize, lent: usize, size2: usize, lent2: usize) -> Ruling
+    ensures { λ r. ⌜ r ≡ refusal (lentRules size lent size2 lent2) ⌝ }
+{
+    if lent != size {
+        return Ruling::Refused(10, 0);
+    }
+    if lent2 != size2 {
+        return Ruling::Refused(10, 0);
+    }
+    Ruling::Fine
 }
 
 // Writes w as eight little-endian bytes from byte `at` on.

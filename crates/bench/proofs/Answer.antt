@@ -11,13 +11,13 @@ use lib.Seq.{take-length}
 use borrow.Author.Tests.{eq-eqb, ne-eqb}
 use Rattle.answers.specs.declared.Ruling.{Ruling}
 use Rattle.answers.specs.Rules.{Rule, said, refusal}
-use Rattle.answers.specs.Area.{success, told}
 use Rattle.answers.proofs.Rules.{after-refused, after-fine}
+use Rattle.answers.proofs.Answer.{numbers-told}
 use Rattle.circuit.specs.Formed.{Accepts}
 use Rattle.bench.specs.declared.Read.{Read}
 use Rattle.bench.specs.declared.Read.the-variants.{Records, Refused}
-use Rattle.bench.specs.Bench.{bufferRules, benchRules, recordsIn, answered, readOf, numbersOf, Reads}
-use Rattle.bench.specs.Inside.{Answers, Whole}
+use Rattle.bench.specs.Promise.{bufferRules, benchRules, recordsIn, readOf, numbersOf, Reads}
+use Rattle.bench.specs.Owed.{Answers, Whole}
 
 module _ {records c : List ℕ} where
   -- a refusal ends it; where there is none, the rules after it decide
@@ -45,17 +45,11 @@ whole {records} a = record { lines = a .lines; fits = omega (arith, a .good .wel
 
 -- ---- the promise
 
--- the numbers of an answer are those of its ruling
-answered-numbers : (v : Ruling) (n : ℕ) → numbersOf (answered v n) ≡ told v (success n 0 0)
-unfolding numbersOf
-answered-numbers Ruling.Fine n = refl
-answered-numbers (Ruling.Refused x y) n = refl
-
 pub reads : {t c c′ : List ℕ} {r : Read} → Answers (benchRules t (length c)) (recordsIn t) c c′ r → Reads t c c′ r
-unfolding readOf
+unfolding readOf numbersOf
 reads {t} {c} p = record {
   answer = p .answer;
-  numbers = ap numbersOf (p .answer) ∙ answered-numbers (refusal (benchRules t (length c))) _;
+  numbers = ap numbersOf (p .answer) ∙ numbers-told numbersOf (λ x y. refl) (refusal (benchRules t (length c))) _;
   circuit = p .circuit;
 }
 

@@ -2,4 +2,4 @@ pub mod Answer
 pub mod Steps
 pub mod Numbers
 pub mod Nets
-pub mod Wording
+pub mod Says

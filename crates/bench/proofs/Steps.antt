@@ -18,7 +18,7 @@ use Rattle.answers.specs.Rules.{refusal}
 use Rattle.names.specs.Names.{nameRules}
 use Rattle.names.specs.Owed as names
 use Rattle.bench.specs.Text.{formsIn, defsIn, usesIn, netIn}
-use Rattle.bench.specs.Inside.{Lined, Told, Defined, Used, Named}
+use Rattle.bench.specs.Owed.{Lined, Told, Defined, Used, Named}
 
 -- ---- words, forms
 

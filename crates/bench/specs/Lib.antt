@@ -1,3 +1,3 @@
 pub mod Text
-pub mod Bench
-pub mod Inside
+pub mod Promise
+pub mod Owed

@@ -17,8 +17,8 @@ ghost use lib.ListN.{length};
 ghost use Rattle.words.specs.Owed.{Room};
 ghost use Rattle.statements.specs.Tables.{gatesIn};
 ghost use Rattle.bench.specs.Text.{netIn};
-ghost use Rattle.bench.specs.Bench.{Reads};
-ghost use Rattle.bench.specs.Inside.{AnswersNet, AnswersText, Named, Defined, Used, Told, Lined};
+ghost use Rattle.bench.specs.Promise.{Reads};
+ghost use Rattle.bench.specs.Owed.{AnswersNet, AnswersText, Named, Defined, Used, Told, Lined};
 
 // What the reader answers.
 pub enum Read {

@@ -10,8 +10,8 @@ ghost use mathlib.Core.Path.{_≡_};
 ghost use lib.ListN.{length};
 ghost use Rattle.records.specs.Net.{recordsOf};
 ghost use Rattle.records.specs.Owed.{netOf, Fits};
-ghost use Rattle.bench.specs.Bench.{bufferRules};
-ghost use Rattle.bench.specs.Inside.{Answers, AnswersRecords, AnswersNet, Whole, Ordered, Resolved};
+ghost use Rattle.bench.specs.Promise.{bufferRules};
+ghost use Rattle.bench.specs.Owed.{Answers, AnswersRecords, AnswersNet, Whole, Ordered, Resolved};
 
 // ---- from the records to the lent buffer
 

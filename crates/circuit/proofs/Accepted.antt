@@ -1,6 +1,6 @@
 -- What is not refused is well formed: the law that callers use.
 -- Assumes nothing.
-use mathlib.Core.Path.{_≡_, refl}
+use mathlib.Core.Path.{_≡_, refl, _∙_}
 use mathlib.Core.Logic.{⊎-elim}
 use mathlib.Core.Bool.{Bool, true, false}
 use mathlib.Core.List.{List}
@@ -13,16 +13,18 @@ use Rattle.ground.proofs.Tests.{either}
 use Rattle.answers.specs.declared.Ruling.{Ruling}
 use Rattle.answers.specs.Rules.{refusal, AllHold}
 use Rattle.answers.proofs.Rules.{all-hold}
+use Rattle.answers.proofs.Answer.{was-ruled}
 use Rattle.gates.specs.Gate.{pinsOf}
 use Rattle.circuit.specs.declared.Checked.{Checked}
+use Rattle.circuit.specs.declared.Checked.the-variants.{Accepted, Refused}
 use Rattle.circuit.specs.Record.{kindAt, linesOf, inputsOf, outputsOf}
 use Rattle.circuit.specs.Layout.{Layout}
-use Rattle.circuit.specs.Check.{layoutRules, countRules, circuitRules, answered, checkOf}
-use Rattle.circuit.specs.Formed.{Lower, Good, Accepts}
-use Rattle.circuit.proofs.Answer.{circuit-says, refused-ruling}
+use Rattle.circuit.specs.Promise.{layoutRules, countRules, circuitRules, checkOf}
+use Rattle.circuit.specs.Formed.{Lower, Good, Accepts, Known}
+use Rattle.circuit.proofs.Answer.{circuit-says, rulingOf, ruled}
 
 -- a gate has a first pin
-gate-pin : (kind : ℕ) → (kind ≡ 0 → ⊥) → 1 ≤ pinsOf kind
+pub gate-pin : (kind : ℕ) → (kind ≡ 0 → ⊥) → 1 ≤ pinsOf kind
 unfolding pinsOf
 gate-pin kind ne = rw (ne-eqb kind 0 ne) (go (leb kind 2))
   where
@@ -56,14 +58,20 @@ good c e =
 
 -- what the check's answer says
 module _ (c : List ℕ) where
-  pub accepts : (n m o : ℕ) → Checked.Accepted n m o ≡ checkOf c → Accepts c n m o
+  was : {r : Checked} → r ≡ checkOf c → refusal (circuitRules c) ≡ rulingOf r
   unfolding checkOf
-  accepts n m o e = go (refusal (circuitRules c)) refl e
-    where
-      go : (v : Ruling) → refusal (circuitRules c) ≡ v → Checked.Accepted n m o ≡ answered v (linesOf c) (inputsOf c) (outputsOf c) → Accepts c n m o
-      go Ruling.Fine q e = record { lines = cc; inputs = cc; outputs = cc; fine = q; good = good c q }
-      go (Ruling.Refused x y) q e = let z : _≡_ {A = ℕ} 0 1 = cc in absurd (omega arith)
+  was e = was-ruled (ruled (linesOf c) (inputsOf c) (outputsOf c)) e refl
 
-  pub refuses : (x y : ℕ) → Checked.Refused x y ≡ checkOf c → refusal (circuitRules c) ≡ Ruling.Refused x y
+  pub accepts : (n m o : ℕ) → Accepted n m o ≡ checkOf c → Accepts c n m o
   unfolding checkOf
-  refuses x y e = refused-ruling (refusal (circuitRules c)) (linesOf c) (inputsOf c) (outputsOf c) x y e
+  accepts n m o e =
+      let q : refusal (circuitRules c) ≡ Ruling.Fine = was e in
+      let so : Accepted n m o ≡ Accepted (linesOf c) (inputsOf c) (outputsOf c) = e ∙ rw q in
+      record { lines = cc; inputs = cc; outputs = cc; fine = q; good = good c q }
+
+  pub refuses : (x y : ℕ) → Refused x y ≡ checkOf c → refusal (circuitRules c) ≡ Ruling.Refused x y
+  refuses x y e = was e
+
+-- where the number of outputs does not matter
+pub known : {c : List ℕ} {n m o : ℕ} → Accepts c n m o → Known c n m
+known a = rw (a .outputs) at a

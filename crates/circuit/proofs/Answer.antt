@@ -1,6 +1,6 @@
 -- The promise of the check: reached from the two rulings, read in the paper's words, and met by one answer only.
 -- Assumes nothing.
-use mathlib.Core.Path.{_≡_, refl, sym, ap, _∙_}
+use mathlib.Core.Path.{_≡_, refl, ap, _∙_}
 use mathlib.Core.List.{List}
 use Prim.Native.Nat.{ℕ, _*_}
 use native.Mathlib.Nat.{add-zero}
@@ -10,27 +10,22 @@ use Rattle.ground.specs.Below.{countBelow}
 use Rattle.ground.proofs.Counting.{count-same}
 use Rattle.answers.specs.declared.Ruling.{Ruling}
 use Rattle.answers.specs.Rules.{refusal, Applies, AllSay}
-use Rattle.answers.specs.Area.{success, told}
-use Rattle.answers.proofs.Rules.{applies, refused, after-refused, after-fine, both-say}
+use Rattle.answers.proofs.Rules.{after-refused, after-fine, both-say}
+use Rattle.answers.proofs.Answer as answer
+use Rattle.answers.proofs.Answer.{numbers-told, Ruled}
 use Rattle.answers.proofs.Same.{le-same}
 use Rattle.answers.proofs.Records.{records-same}
 use Rattle.circuit.specs.declared.Checked.{Checked}
-use Rattle.circuit.specs.declared.Checked.the-variants.{Refused}
+use Rattle.circuit.specs.declared.Checked.the-variants.{Accepted, Refused}
 use Rattle.circuit.specs.Record.{linesOf, isInput, inputsOf, outputsOf, byteIs}
-use Rattle.circuit.specs.Check.{layoutRules, countRules, circuitRules, answered, countedOf, checkOf, numbersOf, Checks}
+use Rattle.circuit.specs.Promise.{layoutRules, countRules, circuitRules, countedOf, checkOf, numbersOf, Checks}
 use Rattle.circuit.proofs.Lines.{layout-same}
 
--- the numbers of an answer are those of its ruling
-answered-numbers : (v : Ruling) (n m o : ℕ) → numbersOf (answered v n m o) ≡ told v (success n m o)
-unfolding numbersOf
-answered-numbers Ruling.Fine n m o = refl
-answered-numbers (Ruling.Refused x y) n m o = refl
-
 pub checks : (c : List ℕ) {r : Checked} → r ≡ checkOf c → Checks c r
-unfolding checkOf
+unfolding checkOf numbersOf
 checks c e = record {
   answer = e;
-  numbers = ap numbersOf e ∙ answered-numbers (refusal (circuitRules c)) (linesOf c) (inputsOf c) (outputsOf c);
+  numbers = ap numbersOf e ∙ numbers-told numbersOf (λ m k. refl) (refusal (circuitRules c)) (Accepted (linesOf c) (inputsOf c) (outputsOf c));
 }
 
 pub layout-refused : (c : List ℕ) (x y : ℕ) → refusal (layoutRules c) ≡ Ruling.Refused x y → Refused x y ≡ checkOf c
@@ -67,18 +62,21 @@ counts-say m o = (le-same 1 m, (le-same m 64, (le-same 1 o, tt)))
 pub circuit-says : (c : List ℕ) → AllSay (circuitRules c)
 circuit-says c = both-say (layoutRules c) _ (layout-says c) (counts-say (inputsOf c) (outputsOf c))
 
-pub refused-ruling : (v : Ruling) (n m o x y : ℕ) → Refused x y ≡ answered v n m o → v ≡ Ruling.Refused x y
-refused-ruling Ruling.Fine n m o x y e = let z : _≡_ {A = ℕ} 0 1 = cc in absurd (omega arith)
-refused-ruling (Ruling.Refused u w) n m o x y e = cc
+-- what was ruled, by the answer
+abbrev pub rulingOf : Checked → Ruling
+rulingOf (Accepted n m o) = Ruling.Fine
+rulingOf (Refused number place) = Ruling.Refused number place
+
+pub ruled : (n m o : ℕ) → Ruled Refused rulingOf (Accepted n m o)
+ruled n m o = record { refuses = λ x y. refl; accepts = refl }
 
 module _ (c : List ℕ) {r : Checked} (p : Checks c r) (number place : ℕ) where
   -- a refusal is the first that applies, with the lowest place
   pub refused-applies : r ≡ Refused number place → Applies (circuitRules c) number place
   unfolding checkOf
-  refused-applies e =
-      applies (circuitRules c) (circuit-says c) number place (refused-ruling (refusal (circuitRules c)) (linesOf c) (inputsOf c) (outputsOf c) number place (sym e ∙ p .answer))
+  refused-applies = answer.refused-applies (ruled (linesOf c) (inputsOf c) (outputsOf c)) (circuitRules c) (circuit-says c) (p .answer) number place
 
   -- and where one applies, it is given
   pub applies-refused : Applies (circuitRules c) number place → r ≡ Refused number place
   unfolding checkOf
-  applies-refused a = p .answer ∙ rw (refused (circuitRules c) (circuit-says c) number place a)
+  applies-refused = answer.applies-refused (ruled (linesOf c) (inputsOf c) (outputsOf c)) (circuitRules c) (circuit-says c) (p .answer) number place

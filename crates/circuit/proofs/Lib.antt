@@ -1,3 +1,4 @@
 pub mod Lines
 pub mod Answer
 pub mod Accepted
+pub mod Sizes

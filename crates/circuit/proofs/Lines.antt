@@ -3,17 +3,18 @@
 use mathlib.Core.Path.{_≡_, refl}
 use mathlib.Core.Bool.{Bool, true, false}
 use mathlib.Core.List.{List}
-use Prim.Native.Nat.{ℕ, zero, suc, _≤_}
+use Prim.Native.Nat.{ℕ, zero, suc, _≤_, _<_}
 use native.Mathlib.Omega.{arith}
 use lib.Dec.{eqb, leb, ltb}
 use borrow.Author.Tests.{eqb-true, leb-true, ltb-true, leb-false, eq-eqb, le-leb, lt-ltb}
 use Rattle.ground.specs.Choose.{choose}
-use Rattle.ground.proofs.Tests.{both, and-both}
+use Rattle.ground.proofs.Tests.{T-is, is-T, and-both}
+use Rattle.ground.proofs.Below.{at-below}
 use Rattle.answers.specs.Rules.{Same}
 use Rattle.gates.specs.Gate.{lastKind, pinsOf}
 use Rattle.gates.proofs.Laws.{two-pins}
 use Rattle.circuit.specs.Record.{kindAt, outAt, pinAt}
-use Rattle.circuit.specs.Layout.{pinOk, lineOk, Pin, Layout}
+use Rattle.circuit.specs.Layout.{pinOk, fieldOk, lineOk, Pin, Layout}
 
 -- pins 1, 2 and 3
 pub three : (P : ℕ → Type 0) → P 1 → P 2 → P 3 → (s : ℕ) → 1 ≤ s → s ≤ 3 → P s
@@ -40,26 +41,27 @@ module _ (c : List ℕ) (k : ℕ) where
       go true q = lt-ltb _ _ (p .has (leb-true s _ q))
       go false q = eq-eqb _ _ (p .lacks (leb-false s _ q))
 
-  layout : lineOk c k ≡ true → Layout c k
+  -- a record whose test holds keeps each field's rule
+  field : lineOk c k ≡ true → (i : ℕ) → i < 5 → fieldOk c k i ≡ true
   unfolding lineOk
-  layout e =
-      let p = both (leb (kindAt c k) lastKind) _ e in
-      let q = both (leb (outAt c k) 1) _ (p .1) in
-      let r = both (pinOk c k 1) _ (q .1) in
-      let t = both (pinOk c k 2) _ (r .1) in
-      record {
-        kind = leb-true (kindAt c k) lastKind (p .0);
-        output = leb-true (outAt c k) 1 (q .0);
-        pin = three (Pin c k) (pin 1 (r .0)) (pin 2 (t .0)) (pin 3 (t .1));
-      }
+  field e i l = T-is (fieldOk c k i) (at-below 5 (fieldOk c k) (is-T (lineOk c k) e) i l)
+
+  layout : lineOk c k ≡ true → Layout c k
+  unfolding fieldOk
+  layout e = record {
+    kind = leb-true (kindAt c k) lastKind (field e 0 (omega arith));
+    output = leb-true (outAt c k) 1 (field e 1 (omega arith));
+    pin = three (Pin c k) (pin 1 (field e 2 (omega arith))) (pin 2 (field e 3 (omega arith))) (pin 3 (field e 4 (omega arith)));
+  }
 
   layout-ok : Layout c k → lineOk c k ≡ true
-  unfolding lineOk
+  unfolding lineOk fieldOk
   layout-ok l =
-      and-both (le-leb _ _ (l .kind))
-      (and-both (le-leb _ _ (l .output))
-      (and-both (pin-ok 1 (l .pin 1 (omega arith) (omega arith)))
-      (and-both (pin-ok 2 (l .pin 2 (omega arith) (omega arith))) (pin-ok 3 (l .pin 3 (omega arith) (omega arith))))))
+      and-both
+      (and-both
+      (and-both (and-both (le-leb _ _ (l .kind)) (le-leb _ _ (l .output))) (pin-ok 1 (l .pin 1 (omega arith) (omega arith))))
+      (pin-ok 2 (l .pin 2 (omega arith) (omega arith))))
+      (pin-ok 3 (l .pin 3 (omega arith) (omega arith)))
 
   pub layout-same : Same (lineOk c k) (Layout c k)
   layout-same = record { holds = layout; tests = layout-ok }

@@ -8,7 +8,7 @@ use Rattle.answers.specs.declared.Ruling.{Ruling}
 use Rattle.answers.specs.Rules.{refusal}
 use Rattle.gates.specs.Gate.{lastKind}
 use Rattle.circuit.specs.Record.{kindAt, pinAt, linesOf, inputsBefore, inputsOf, outputsOf}
-use Rattle.circuit.specs.Check.{circuitRules}
+use Rattle.circuit.specs.Promise.{circuitRules}
 
 -- the sources of line k are lower than it
 abbrev pub Lower : List ℕ → ℕ → Type 0
@@ -37,3 +37,7 @@ pub record Accepts (c : List ℕ) (n m o : ℕ) : Type 0 where
   pub outputs : o ≡ outputsOf c
   pub fine : refusal (circuitRules c) ≡ Ruling.Fine
   pub good : Good c
+
+-- an accepted circuit of n lines and m inputs: what a part's inner functions ask for
+abbrev pub Known : List ℕ → ℕ → ℕ → Type 0
+Known c n m = Accepts c n m (outputsOf c)

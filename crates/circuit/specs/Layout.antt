@@ -1,11 +1,12 @@
 -- The layout of a circuit record: as a test, and in the paper's words. They are proved equivalent.
 -- Assumes nothing.
 use mathlib.Core.Path.{_≡_}
-use mathlib.Core.Bool.{Bool, _&&_}
+use mathlib.Core.Bool.{Bool}
 use mathlib.Core.List.{List}
-use Prim.Native.Nat.{ℕ, _≤_, _<_}
+use Prim.Native.Nat.{ℕ, _-_, _≤_, _<_}
 use lib.Dec.{eqb, leb, ltb}
 use Rattle.ground.specs.Choose.{choose}
+use Rattle.ground.specs.Below.{allBelow}
 use Rattle.gates.specs.Gate.{lastKind, pinsOf}
 use Rattle.circuit.specs.Record.{kindAt, outAt, pinAt}
 
@@ -15,9 +16,13 @@ use Rattle.circuit.specs.Record.{kindAt, outAt, pinAt}
 unfoldable pub pinOk : List ℕ → ℕ → ℕ → Bool
 pinOk c k s = choose (leb s (pinsOf (kindAt c k))) (ltb (pinAt c k s) k) (eqb (pinAt c k s) 0)
 
--- kind, output byte and the three pins
+-- the fields in layout order: 0 the kind, 1 the output byte, 2 to 4 the pins 1 to 3
+unfoldable pub fieldOk : List ℕ → ℕ → ℕ → Bool
+fieldOk c k i = choose (eqb i 0) (leb (kindAt c k) lastKind) (choose (eqb i 1) (leb (outAt c k) 1) (pinOk c k (i - 1)))
+
+-- each field keeps its rule
 unfoldable pub lineOk : List ℕ → ℕ → Bool
-lineOk c k = leb (kindAt c k) lastKind && (leb (outAt c k) 1 && (pinOk c k 1 && (pinOk c k 2 && pinOk c k 3)))
+lineOk c k = allBelow 5 (fieldOk c k)
 
 -- ---- in words
 

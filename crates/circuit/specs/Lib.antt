@@ -1,4 +1,5 @@
 pub mod Record
 pub mod Layout
-pub mod Check
+pub mod Promise
+pub mod Sizes
 pub mod Formed

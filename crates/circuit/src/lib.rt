@@ -13,7 +13,7 @@ ghost use Rattle.ground.specs.Below.{countBelow, firstNot};
 ghost use Rattle.answers.specs.Rules.{refusal};
 ghost use Rattle.circuit.specs.Record.{wordAt, pinAt, byteIs, Inside};
 ghost use Rattle.circuit.specs.Layout.{pinOk, lineOk};
-ghost use Rattle.circuit.specs.Check.{layoutRules, countRules, countedOf, Checks};
+ghost use Rattle.circuit.specs.Promise.{layoutRules, countRules, countedOf, Checks};
 
 // What the check answers.
 pub enum Checked {

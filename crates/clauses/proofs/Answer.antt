@@ -12,16 +12,17 @@ use borrow.Author.Tests.{le-leb, lt-leb}
 use Rattle.ground.proofs.Counting.{count-most}
 use Rattle.answers.specs.declared.Ruling.{Ruling}
 use Rattle.answers.specs.Rules.{Rule, said, refusal, Applies, AllHold, AllSay}
-use Rattle.answers.specs.Area.{success, told}
-use Rattle.answers.proofs.Rules.{applies, refused, fine, after-refused, after-fine, both-say}
+use Rattle.answers.proofs.Rules.{fine, after-refused, after-fine, both-say}
+use Rattle.answers.proofs.Answer as answer
+use Rattle.answers.proofs.Answer.{numbers-told, Ruled}
 use Rattle.answers.proofs.Records.{one-record}
 use Rattle.answers.proofs.Same.{le-same}
-use Rattle.circuit.specs.Record.{linesOf, isOutput, outputsBefore, Inside}
-use Rattle.circuit.specs.Check.{circuitRules}
+use Rattle.circuit.specs.Record.{linesOf, inputsOf, isOutput, outputsBefore, Inside}
+use Rattle.circuit.specs.Promise.{circuitRules}
 use Rattle.circuit.specs.Formed.{Accepts}
 use Rattle.circuit.proofs.Answer.{circuit-says}
 use Rattle.lists.specs.declared.Fault.{Fault}
-use Rattle.lists.specs.Faults.{faultRules}
+use Rattle.lists.specs.Faults.{faultAt, faultRules}
 use Rattle.lists.proofs.Faults.{faults-say, good-faults}
 use Rattle.cnf.specs.declared.Size.{Size}
 use Rattle.cnf.specs.Cnf.{Clauses, wordsOf}
@@ -30,8 +31,8 @@ use Rattle.cnf.proofs.Sizes.{words-length}
 use Rattle.clauses.specs.declared.Written.{Written}
 use Rattle.clauses.specs.declared.Written.the-variants.{Success, Refused}
 use Rattle.line_clauses.specs.Clauses.{clausesOf, variablesOf}
-use Rattle.clauses.specs.Promise.{roomRules, clausesFor, wordsFor, clauseRules, answered, writtenOf, numbersOf, laidOn, Writes}
-use Rattle.clauses.specs.Inside.{Counted, WholeRoom, Answers}
+use Rattle.clauses.specs.Promise.{roomRules, clausesFor, wordsFor, clauseRules, writtenOf, numbersOf, laidOn, Writes}
+use Rattle.clauses.specs.Owed.{Counted, WholeRoom, Answers}
 
 -- ---- rule by rule
 
@@ -66,6 +67,10 @@ module _ {cs : Clauses} {v : ℕ} {w : List ℤ} where
 pub one-fault : (c fs : List ℕ) → refusal (faultRules 1 c fs) ≡ Ruling.Fine → Inside fs 0
 one-fault c fs e = record { inside = omega (arith, one-record (length fs) (good-faults 1 c fs e .records)) }
 
+-- where the number of inputs does not matter
+pub any-inputs : {c : List ℕ} {n m o : ℕ} → Accepts c n m o → Accepts c n (inputsOf c) o
+any-inputs a = rw (a .inputs) at a
+
 -- the circuit that the check accepts
 pub counted : {c : List ℕ} {n m o : ℕ} → Accepts c n m o → Counted c n o
 counted {c} {n} {m} {o} a =
@@ -77,17 +82,11 @@ counted {c} {n} {m} {o} a =
       few-outputs = omega (arith, count-most n (isOutput c));
     }
 
--- the numbers of an answer are those of its ruling
-answered-numbers : (v : Ruling) (w l m : ℕ) → numbersOf (answered v w l m) ≡ told v (success w l m)
-unfolding numbersOf
-answered-numbers Ruling.Fine w l m = refl
-answered-numbers (Ruling.Refused x y) w l m = refl
-
-pub writes : {c fs : List ℕ} {w w′ : List ℤ} {r : Written} → Answers (clauseRules c fs (length w)) (clausesFor c fs) (variablesOf c (linesOf c)) w w′ r → Writes c fs w w′ r
-unfolding writtenOf
+pub writes : {c fs : List ℕ} {w w′ : List ℤ} {r : Written} → Answers (clauseRules c fs (length w)) (clausesFor c (faultAt fs 0)) (variablesOf c (linesOf c)) w w′ r → Writes c fs w w′ r
+unfolding writtenOf numbersOf
 writes {c} {fs} {w} p = record {
   answer = p .answer;
-  numbers = ap numbersOf (p .answer) ∙ answered-numbers (refusal (clauseRules c fs (length w))) _ _ _;
+  numbers = ap numbersOf (p .answer) ∙ numbers-told numbersOf (λ x y. refl) (refusal (clauseRules c fs (length w))) _;
   words = p .words;
 }
 
@@ -103,26 +102,29 @@ unfolding roomRules AllSay
 room-says need room = (le-same need room, tt)
 
 pub clause-says : (c fs : List ℕ) (room : ℕ) → AllSay (clauseRules c fs room)
-clause-says c fs room = both-say (circuitRules c) _ (circuit-says c) (both-say (faultRules 1 c fs) _ (faults-say 1 c fs) (room-says (length (wordsFor c fs)) room))
+clause-says c fs room = both-say (circuitRules c) _ (circuit-says c) (both-say (faultRules 1 c fs) _ (faults-say 1 c fs) (room-says (length (wordsFor c (faultAt fs 0))) room))
 
-refused-ruling : (v : Ruling) (w l m x y : ℕ) → Refused x y ≡ answered v w l m → v ≡ Ruling.Refused x y
-refused-ruling Ruling.Fine w l m x y e = let z : _≡_ {A = ℕ} 0 1 = cc in absurd (omega arith)
-refused-ruling (Ruling.Refused u t) w l m x y e = cc
+-- what was ruled, by the answer
+abbrev pub rulingOf : Written → Ruling
+rulingOf (Success w l v) = Ruling.Fine
+rulingOf (Refused number place) = Ruling.Refused number place
+
+pub ruled : (w l v : ℕ) → Ruled Refused rulingOf (Success w l v)
+ruled w l v = record { refuses = λ x y. refl; accepts = refl }
 
 module _ {c fs : List ℕ} {w w′ : List ℤ} {r : Written} (p : Writes c fs w w′ r) (number place : ℕ) where
   -- a refusal is the first that applies, with the lowest place
   pub refused-applies : r ≡ Refused number place → Applies (clauseRules c fs (length w)) number place
   unfolding writtenOf
-  refused-applies e =
-      applies (clauseRules c fs (length w)) (clause-says c fs (length w)) number place (refused-ruling (refusal (clauseRules c fs (length w))) _ _ _ number place (sym e ∙ p .answer))
+  refused-applies = answer.refused-applies (ruled _ _ _) (clauseRules c fs (length w)) (clause-says c fs (length w)) (p .answer) number place
 
   -- and where one applies, it is given
   pub applies-refused : Applies (clauseRules c fs (length w)) number place → r ≡ Refused number place
   unfolding writtenOf
-  applies-refused a = p .answer ∙ rw (refused (clauseRules c fs (length w)) (clause-says c fs (length w)) number place a)
+  applies-refused = answer.applies-refused (ruled _ _ _) (clauseRules c fs (length w)) (clause-says c fs (length w)) (p .answer) number place
 
 -- where all that is asked holds, the list is written
 pub holds-success : {c fs : List ℕ} {w w′ : List ℤ} {r : Written} → Writes c fs w w′ r → AllHold (clauseRules c fs (length w))
-    → r ≡ Success (length (wordsFor c fs)) (length (clausesFor c fs)) (variablesOf c (linesOf c))
+    → r ≡ Success (length (wordsFor c (faultAt fs 0))) (length (clausesFor c (faultAt fs 0))) (variablesOf c (linesOf c))
 unfolding writtenOf
 holds-success {c} {fs} {w} p a = p .answer ∙ rw (fine (clauseRules c fs (length w)) (clause-says c fs (length w)) a)

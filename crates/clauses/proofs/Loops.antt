@@ -10,14 +10,14 @@ use lib.IntN.{ℤ, pos}
 use lib.ListN.{length, set, length-append}
 use Rattle.ground.proofs.Counting.{Sum, sum-small}
 use Rattle.circuit.specs.Record.{isOutput}
-use Rattle.cnf.specs.Lists.{gather}
+use Rattle.ground.specs.Lists.{gather}
 use Rattle.cnf.specs.Cnf.{Clauses, wordsOf}
 use Rattle.ground.specs.Put.{Put}
-use Rattle.cnf.proofs.Lists.{gather-mono}
+use Rattle.ground.proofs.Gather.{gather-mono}
 use Rattle.cnf.proofs.Decode.{words-append, words-gather}
 use Rattle.ground.proofs.Put.{put-none, put-one, put-long, put-then}
 use Rattle.line_clauses.specs.Clauses.{differenceVar, differenceClauses, differences}
-use Rattle.line_clauses.specs.Inside.{Circuit, LineRoom, DifferenceRoom}
+use Rattle.line_clauses.specs.Owed.{Circuit, LineRoom, DifferenceRoom}
 
 -- ---- the lines: the first k of n have been written
 

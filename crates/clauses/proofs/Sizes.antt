@@ -14,13 +14,13 @@ use Rattle.ground.specs.Below.{countBelow}
 use Rattle.circuit.specs.Record.{isOutput, outputsBefore}
 use Rattle.lists.specs.declared.Fault.{Fault}
 use Rattle.cnf.specs.declared.Size.{Size}
-use Rattle.cnf.specs.Lists.{gather}
+use Rattle.ground.specs.Lists.{gather}
 use Rattle.cnf.specs.Cnf.{Clauses}
 use Rattle.cnf.specs.Table.{table, gateClauses, sites}
 use Rattle.cnf.specs.Write.{sizeOf, Takes}
 use Rattle.cnf.proofs.Sizes.{size-append, Measure, in-words, in-clauses, measure-both}
 use Rattle.line_clauses.specs.Clauses.{differenceVar, goodVar, faultyVar, goodClauses, faultyClauses, differenceClauses, differences, clausesOf}
-use Rattle.line_clauses.specs.Inside.{LineTakes}
+use Rattle.line_clauses.specs.Owed.{LineTakes}
 
 -- ---- the loop: what the first k lines take
 

@@ -8,7 +8,7 @@ use native.Mathlib.Omega.{arith}
 use lib.IntN.{ℤ, pos}
 use lib.ListN.{length, length-append}
 use Rattle.lists.specs.declared.Fault.{Fault}
-use Rattle.cnf.specs.Lists.{gather}
+use Rattle.ground.specs.Lists.{gather}
 use Rattle.cnf.specs.Cnf.{Clauses, wordsOf}
 use Rattle.ground.specs.Put.{Put}
 use Rattle.cnf.specs.Write.{single}
@@ -16,7 +16,7 @@ use Rattle.cnf.proofs.Decode.{words-append}
 use Rattle.ground.proofs.Put.{put-as, put-none, put-then, put-room, put-whole}
 use Rattle.line_clauses.specs.Clauses.{stuckLiteral, goodClauses, faultyClauses, differenceClauses, differences, clausesOf}
 use Rattle.clauses.specs.Promise.{laidOn}
-use Rattle.clauses.specs.Inside.{LinesRoom, WholeRoom}
+use Rattle.clauses.specs.Owed.{LinesRoom, WholeRoom}
 use Rattle.clauses.proofs.Sizes.{differences-length}
 
 abbrev lineWords : (ℕ → Clauses) → ℕ → List ℤ

@@ -6,12 +6,13 @@ use Prim.Native.Nat.{ℕ, _≤_}
 use lib.Dec.{leb}
 use lib.IntN.{ℤ}
 use lib.ListN.{length, drop}
-use Rattle.answers.specs.declared.Ruling.{Ruling}
 use Rattle.answers.specs.Rules.{Rule, refusal, unless}
 use Rattle.answers.specs.Rules.Rule.{whole}
 use Rattle.answers.specs.Area.{Numbers, success, refusedAt, told}
+use Rattle.answers.specs.Answer.{answered}
 use Rattle.circuit.specs.Record.{linesOf}
-use Rattle.circuit.specs.Check.{circuitRules}
+use Rattle.circuit.specs.Promise.{circuitRules}
+use Rattle.lists.specs.declared.Fault.{Fault}
 use Rattle.lists.specs.Faults.{faultAt, faultRules}
 use Rattle.cnf.specs.Cnf.{Clauses, wordsOf}
 use Rattle.clauses.specs.declared.Written.{Written}
@@ -22,24 +23,22 @@ use Rattle.line_clauses.specs.Clauses.{clausesOf, variablesOf}
 unfoldable pub roomRules : ℕ → ℕ → List Rule
 roomRules need room = whole 11 (leb need room) (need ≤ room) need ∷ []
 
--- the list of a circuit and of the one fault record of these bytes
-abbrev pub clausesFor : List ℕ → List ℕ → Clauses
-clausesFor c fs = clausesOf c (faultAt fs 0) (linesOf c)
+-- the list of a circuit and a fault, and its words
+abbrev pub clausesFor : List ℕ → Fault → Clauses
+clausesFor c fault = clausesOf c fault (linesOf c)
 
-abbrev pub wordsFor : List ℕ → List ℕ → List ℤ
-wordsFor c fs = wordsOf (clausesFor c fs)
+abbrev pub wordsFor : List ℕ → Fault → List ℤ
+wordsFor c fault = wordsOf (clausesFor c fault)
 
 -- refusals 1 to 5, then 6 (not exactly one record, eight bytes) and 7, then 11
 abbrev pub clauseRules : List ℕ → List ℕ → ℕ → List Rule
-clauseRules c fs room = circuitRules c ++ (faultRules 1 c fs ++ roomRules (length (wordsFor c fs)) room)
+clauseRules c fs room = circuitRules c ++ (faultRules 1 c fs ++ roomRules (length (wordsFor c (faultAt fs 0))) room)
 
--- the answer by what the rules say: words, clauses and variables where all is fine
-abbrev pub answered : Ruling → ℕ → ℕ → ℕ → Written
-answered Ruling.Fine w l v = Success w l v
-answered (Ruling.Refused number place) w l v = Refused number place
-
+-- words, clauses and variables where all is fine
 unfoldable pub writtenOf : List ℕ → List ℕ → ℕ → Written
-writtenOf c fs room = answered (refusal (clauseRules c fs room)) (length (wordsFor c fs)) (length (clausesFor c fs)) (variablesOf c (linesOf c))
+writtenOf c fs room =
+    answered Refused (refusal (clauseRules c fs room))
+    (Success (length (wordsFor c (faultAt fs 0))) (length (clausesFor c (faultAt fs 0))) (variablesOf c (linesOf c)))
 
 -- the paper's number and values for each case of the answer
 unfoldable pub numbersOf : Written → Numbers
@@ -55,5 +54,5 @@ pub record Writes (c fs : List ℕ) (w w′ : List ℤ) (r : Written) : Type 0 w
   pub answer : r ≡ writtenOf c fs (length w)
   pub numbers :
       numbersOf r
-      ≡ told (refusal (clauseRules c fs (length w))) (success (length (wordsFor c fs)) (length (clausesFor c fs)) (variablesOf c (linesOf c)))
-  pub words : w′ ≡ unless (refusal (clauseRules c fs (length w))) w (laidOn w (wordsFor c fs))
+      ≡ told (refusal (clauseRules c fs (length w))) (success (length (wordsFor c (faultAt fs 0))) (length (clausesFor c (faultAt fs 0))) (variablesOf c (linesOf c)))
+  pub words : w′ ≡ unless (refusal (clauseRules c fs (length w))) w (laidOn w (wordsFor c (faultAt fs 0)))

@@ -19,14 +19,15 @@ ghost use mathlib.Core.List.{[], _∷_, _++_};
 ghost use Prim.Native.Nat.{_+_, _≤_};
 ghost use lib.IntN.{ℤ};
 ghost use lib.ListN.{length};
-ghost use Rattle.lists.specs.Faults.{faultAt, faultRules};
-ghost use Rattle.cnf.specs.Lists.{gather};
+ghost use Rattle.ground.specs.Lists.{gather};
 ghost use Rattle.cnf.specs.Cnf.{wordsOf};
 ghost use Rattle.ground.specs.Put.{Put};
 ghost use Rattle.cnf.specs.Write.{single, Takes};
-ghost use Rattle.line_clauses.specs.Clauses.{stuckLiteral, goodClauses, faultyClauses, differenceClauses, differences, clausesOf, variablesOf};
-ghost use Rattle.clauses.specs.Promise.{roomRules, laidOn, Writes};
-ghost use Rattle.clauses.specs.Inside.{Counted, LinesRoom, WholeRoom, Answers};
+ghost use Rattle.line_clauses.specs.Clauses.{stuckLiteral, goodClauses, faultyClauses, differenceClauses, differences, clausesOf};
+ghost use Rattle.clauses.specs.Promise.{laidOn, Writes};
+ghost use Rattle.circuit.specs.Record.{inputsOf};
+ghost use Rattle.circuit.specs.Formed.{Accepts};
+ghost use Rattle.clauses.specs.Owed.{Counted, LinesRoom, WholeRoom, FitAnswers, RestAnswers};
 
 // What the writer answers.
 pub enum Written {
@@ -147,7 +148,7 @@ fn put_all(circuit: &[u8], fault: Fault, n: usize, outputs: usize, words: &mut [
 // On an accepted circuit and a fault of it: the list, if it fits.
 fn fitted(circuit: &[u8], fault: Fault, n: usize, outputs: usize, words: &mut [i32]) -> Written
     requires { ⌜ Counted (now circuit) n outputs ⌝ }
-    ensures { λ r. ⌜ Answers (roomRules (length (wordsOf (clausesOf (now (circuit .entry)) fault n))) (length (now (words .entry)))) (clausesOf (now (circuit .entry)) fault n) (variablesOf (now (circuit .entry)) n) (now (words .entry)) (now (words .exit)) r ⌝ }
+    ensures { λ r. ⌜ FitAnswers (now (circuit .entry)) fault n (now (words .entry)) (now (words .exit)) r ⌝ }
 {
     let size = whole_size(circuit, fault, n, outputs);
     let need = size.words;
@@ -160,8 +161,8 @@ fn fitted(circuit: &[u8], fault: Fault, n: usize, outputs: usize, words: &mut [i
 
 // On an accepted circuit: the fault's refusals, then the list.
 fn accepted(circuit: &[u8], fault: &[u8], n: usize, outputs: usize, words: &mut [i32]) -> Written
-    requires { ⌜ Counted (now circuit) n outputs ⌝ }
-    ensures { λ r. ⌜ Answers (faultRules 1 (now (circuit .entry)) (now (fault .entry)) ++ roomRules (length (wordsOf (clausesOf (now (circuit .entry)) (faultAt (now (fault .entry)) 0) n))) (length (now (words .entry)))) (clausesOf (now (circuit .entry)) (faultAt (now (fault .entry)) 0) n) (variablesOf (now (circuit .entry)) n) (now (words .entry)) (now (words .exit)) r ⌝ }
+    requires { ⌜ Accepts (now circuit) n (inputsOf (now circuit)) outputs ⌝ }
+    ensures { λ r. ⌜ RestAnswers (now (circuit .entry)) (now (fault .entry)) n (now (words .entry)) (now (words .exit)) r ⌝ }
 {
     let v = check_faults(circuit, fault, 1);
     match v {

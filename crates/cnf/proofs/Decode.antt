@@ -1,15 +1,16 @@
 -- Words decode to the clauses that they were made of; an assignment counts only at the variables that they name.
 -- Assumes nothing.
 use mathlib.Core.Path.{_≡_, refl, ap, _∙_}
-use mathlib.Core.Bool.{true, false, not, false≢true}
+use mathlib.Core.Bool.{true, not, false≢true}
 use mathlib.Core.List.{List, [], _∷_, _++_, append-assoc, append-nil}
 use Prim.Native.Nat.{ℕ, zero, suc, _≤_}
 use native.Mathlib.Omega.{arith}
 use lib.Dec.{leb}
 use lib.IntN.{ℤ, pos, negsuc, negℤ}
 use borrow.Author.Tests.{leb-true, le-leb}
+use Rattle.ground.specs.Lists.{gather}
 use Rattle.ground.proofs.Tests.{both}
-use Rattle.cnf.specs.Lists.{anyOf, allOf, gather}
+use Rattle.cnf.specs.Lists.{anyOf, allOf}
 use Rattle.cnf.specs.Cnf.{Assignment, Clauses, decodeFrom, decode, wordsOf, truth, satisfied, literalTo, variablesTo}
 use Rattle.cnf.proofs.Lists.{any-same, all-same}
 

@@ -1,15 +1,15 @@
--- Laws of tests over lists, and of lists laid one after the other.
+-- Laws of tests over lists, joined, gathered and mapped.
 -- Assumes nothing.
 use mathlib.Core.Path.{_≡_, refl, sym, _∙_}
 use mathlib.Core.Logic.{⊎-elim}
 use mathlib.Core.Bool.{Bool, true, false, _&&_, _||_}
 use mathlib.Core.List.{List, [], _∷_, _++_, map}
-use Prim.Native.Nat.{ℕ, zero, suc, _+_, _≤_, _<_}
+use Prim.Native.Nat.{ℕ, zero, suc, _<_}
 use native.Mathlib.Nat.{not-suc-le-zero, eq-or-lt-of-le, le-of-suc-le-suc}
 use native.Mathlib.Omega.{arith}
-use lib.ListN.{length, length-append}
+use Rattle.ground.specs.Lists.{gather}
 use Rattle.ground.proofs.Tests.{both, and-both}
-use Rattle.cnf.specs.Lists.{anyOf, allOf, gather}
+use Rattle.cnf.specs.Lists.{anyOf, allOf}
 
 and-assoc : (a b c : Bool) → (a && (b && c)) ≡ ((a && b) && c)
 and-assoc true b c = refl
@@ -19,7 +19,7 @@ or-assoc : (a b c : Bool) → (a || (b || c)) ≡ ((a || b) || c)
 or-assoc true b c = refl
 or-assoc false b c = refl
 
-module _ {ℓ} {A : Type ℓ} (t : A → Bool) where
+module _ {A : Type 0} (t : A → Bool) where
   pub all-append : (a b : List A) → allOf t (a ++ b) ≡ (allOf t a && allOf t b)
   all-append [] b = refl
   all-append (x ∷ a) b = rw (all-append a b) (and-assoc (t x) (allOf t a) (allOf t b))
@@ -50,16 +50,16 @@ module _ {ℓ} {A : Type ℓ} (t : A → Bool) where
     any-same (x ∷ l) e = let h = both (t x) (allOf t l) e in rw (same x (h .0), any-same l (h .1))
 
   -- and two functions that do
-  pub map-same {κ} : {B : Type κ} (f g : A → B) → ((x : A) → t x ≡ true → f x ≡ g x) → (l : List A) → allOf t l ≡ true → map f l ≡ map g l
+  pub map-same : {B : Type 0} (f g : A → B) → ((x : A) → t x ≡ true → f x ≡ g x) → (l : List A) → allOf t l ≡ true → map f l ≡ map g l
   map-same f g same [] e = refl
   map-same f g same (x ∷ l) e = let h = both (t x) (allOf t l) e in rw (same x (h .0), map-same f g same l (h .1))
 
 -- a weaker test
-pub all-weaker {ℓ} : {A : Type ℓ} (t u : A → Bool) → ((x : A) → t x ≡ true → u x ≡ true) → (l : List A) → allOf t l ≡ true → allOf u l ≡ true
+pub all-weaker : {A : Type 0} (t u : A → Bool) → ((x : A) → t x ≡ true → u x ≡ true) → (l : List A) → allOf t l ≡ true → allOf u l ≡ true
 all-weaker t u h l e = all-same t u t (λ x q. h x q ∙ sym q) l e ∙ e
 
 -- of mapped elements
-module _ {ℓ κ} {A : Type ℓ} {B : Type κ} (t : B → Bool) (f : A → B) where
+module _ {A B : Type 0} (t : B → Bool) (f : A → B) where
   pub all-map : (l : List A) → allOf t (map f l) ≡ allOf (λ x. t (f x)) l
   all-map [] = refl
   all-map (x ∷ l) = rw (all-map l)
@@ -67,11 +67,3 @@ module _ {ℓ κ} {A : Type ℓ} {B : Type κ} (t : B → Bool) (f : A → B) wh
   pub any-map : (l : List A) → anyOf t (map f l) ≡ anyOf (λ x. t (f x)) l
   any-map [] = refl
   any-map (x ∷ l) = rw (any-map l)
-
--- the pieces below k are no longer than those below n
-pub gather-mono {ℓ} : {A : Type ℓ} (piece : ℕ → List A) (k n : ℕ) → k ≤ n → length (gather piece k) ≤ length (gather piece n)
-gather-mono piece k zero h = let e : k ≡ 0 = omega arith in rw e (omega arith)
-gather-mono piece k (suc n) h =
-    ⊎-elim (λ e. rw e (omega arith))
-    (λ (l : k < suc n). let ih : length (gather piece k) ≤ length (gather piece n) = gather-mono piece k n (omega arith) in simp length-append (omega arith))
-    (eq-or-lt-of-le h)

@@ -13,18 +13,14 @@ use Rattle.ground.specs.Choose.{choose}
 use Rattle.gates.specs.Gate.{lastKind}
 use Rattle.cnf.specs.Cnf.{wordsOf}
 use Rattle.cnf.specs.Table.{table, gateClauses, sites}
-use Rattle.cnf.specs.Write.{signed, bufferWords, andWords, xorWords, byShape, isOneOf, gateWords}
+use Rattle.cnf.specs.Write.{signed, byShape, shapeWords, isOneOf, gateWords}
 use Rattle.cnf.proofs.Gate.{no-clauses}
 
 -- the words of a gate, where t says whether y is negated, and u whether a and b are
-abbrev pub shapeWords : ℕ → Bool → Bool → ℕ → ℕ → ℕ → List ℤ
-shapeWords kind t u y a b =
-    byShape kind
-    (bufferWords (signed t y) (signed (not t) y) (signed u a) (signed (not u) a))
-    (andWords (signed t y) (signed (not t) y) (signed u a) (signed (not u) a) (signed u b) (signed (not u) b))
-    (xorWords (signed t y) (signed (not t) y) (signed u a) (signed (not u) a) (signed u b) (signed (not u) b))
+abbrev signedWords : ℕ → Bool → Bool → ℕ → ℕ → ℕ → List ℤ
+signedWords kind t u y a b = shapeWords kind (signed t y) (signed (not t) y) (signed u a) (signed (not u) a) (signed u b) (signed (not u) b)
 
-shapes : (kind y a b : ℕ) → kind ≤ lastKind → gateWords kind (sites y a b) ≡ choose (eqb kind 0) [] (shapeWords kind (isOneOf kind 4 5 8) (isOneOf kind 2 5 6) y a b)
+shapes : (kind y a b : ℕ) → kind ≤ lastKind → gateWords kind (sites y a b) ≡ choose (eqb kind 0) [] (signedWords kind (isOneOf kind 4 5 8) (isOneOf kind 2 5 6) y a b)
 unfolding gateClauses table signed byShape isOneOf
 shapes zero y a b h = refl
 shapes (suc zero) y a b h = refl
@@ -50,7 +46,7 @@ by-length kind v w x = go (leb kind 2) (leb kind 6)
     go false false = refl
 
 module _ (kind y a b : ℕ) (last : kind ≤ lastKind) (some : kind ≡ 0 → ⊥) where
-  pub shape-is : (t u : Bool) → t ≡ isOneOf kind 4 5 8 → u ≡ isOneOf kind 2 5 6 → gateWords kind (sites y a b) ≡ shapeWords kind t u y a b
+  pub shape-is : (t u : Bool) → t ≡ isOneOf kind 4 5 8 → u ≡ isOneOf kind 2 5 6 → gateWords kind (sites y a b) ≡ signedWords kind t u y a b
   shape-is t u own pins = shapes kind y a b last ∙ rw (ne-eqb kind 0 some, own, pins)
 
   pub shape-length : length (gateWords kind (sites y a b)) ≡ byShape kind 6 10 16

@@ -11,10 +11,10 @@ use lib.ListN.{length, length-append, length-map}
 use mir.Facts.{and-yes}
 use Rattle.ground.specs.Choose.{choose}
 use Rattle.ground.specs.Below.{allBelow}
+use Rattle.ground.specs.Lists.{gather}
 use Rattle.ground.proofs.Below.{at-below}
 use Rattle.gates.specs.Gate.{lastKind}
 use Rattle.cnf.specs.declared.Size.{Size}
-use Rattle.cnf.specs.Lists.{gather}
 use Rattle.cnf.specs.Cnf.{Clauses, wordsOf}
 use Rattle.cnf.specs.Table.{table, wordOf, gateClauses}
 use Rattle.cnf.specs.Write.{byShape, sizeOf, Takes}

@@ -47,6 +47,9 @@ xorWords y -y a -a b -b = triple -y a b ++ (triple -y -a -b ++ (triple y -a b ++
 unfoldable pub byShape : {A : Type 0} → ℕ → A → A → A → A
 byShape kind buffer and xor = choose (leb kind 2) buffer (choose (leb kind 6) and xor)
 
+abbrev pub shapeWords : ℕ → ℤ → ℤ → ℤ → ℤ → ℤ → ℤ → List ℤ
+shapeWords kind y -y a -a b -b = byShape kind (bufferWords y -y a -a) (andWords y -y a -a b -b) (xorWords y -y a -a b -b)
+
 unfoldable pub isOneOf : ℕ → ℕ → ℕ → ℕ → Bool
 isOneOf kind a b c = eqb kind a || (eqb kind b || eqb kind c)
 

@@ -6,7 +6,7 @@ ghost use lib.ListN.{length};
 ghost use Rattle.gates.specs.Gate.{lastKind};
 ghost use Rattle.cnf.specs.Table.{table, sites};
 ghost use Rattle.ground.specs.Put.{Put};
-ghost use Rattle.cnf.specs.Write.{Variable, signed, single, pair, triple, bufferWords, andWords, xorWords, byShape, isOneOf, gateWords, GateRoom, Takes};
+ghost use Rattle.cnf.specs.Write.{Variable, signed, single, pair, triple, bufferWords, andWords, xorWords, byShape, shapeWords, isOneOf, gateWords, GateRoom, Takes};
 
 // What some clauses take: words, the closing 0s included, and clauses.
 pub struct Size {
@@ -129,7 +129,7 @@ fn put_shape(
     not_b: i32,
 ) -> usize
     requires { ⌜ at + byShape kind 6 10 16 ≤ length (now words) ⌝ }
-    ensures { λ r. ⌜ Put (now (words .entry)) (now (words .exit)) at (byShape kind (bufferWords y «not_y» a «not_a») (andWords y «not_y» a «not_a» b «not_b») (xorWords y «not_y» a «not_a» b «not_b»)) r ⌝ }
+    ensures { λ r. ⌜ Put (now (words .entry)) (now (words .exit)) at (shapeWords kind y «not_y» a «not_a» b «not_b») r ⌝ }
 {
     if kind <= 2 {
         return put_buffer(words, at, y, not_y, a, not_a);

@@ -1,3 +1,3 @@
-pub mod Refusals
+pub mod Says
 pub mod Loops
 pub mod Promise

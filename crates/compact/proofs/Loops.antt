@@ -10,18 +10,20 @@ use native.Mathlib.Omega.{arith}
 use lib.Dec.{ltb}
 use lib.ListN.{length, set, replicate, length-replicate}
 use borrow.Author.Tests.{lt-ltb, le-ltb}
-use Rattle.needs.specs.Needs.{tableOf, whole, lacks, kept, turns, compacted}
+use Rattle.ground.proofs.Filled.{filled-at}
+use Rattle.tables.specs.Entries.{entriesOf}
+use Rattle.needs.specs.Needs.{whole, lacks, kept, turns, compacted}
 use Rattle.needs.proofs.Words.{meets-is}
 use Rattle.needs.proofs.Turns.{not-kept, kept-other, turn-drops, turn-keeps}
 use Rattle.needs.proofs.Sound.{all-kept, start-meets}
 use Rattle.counts.specs.Counted.{hit, Counted}
-use Rattle.counts.specs.Internal.{Moved, Row, Cells, Saw, neededOf}
+use Rattle.counts.specs.Owed.{Moved, Row, Cells, Saw, neededOf}
 use Rattle.counts.proofs.Moves.{Bytes}
 use Rattle.counts.proofs.Detected.{SeenTo, seen-none, seen-one, seen-all}
 use Rattle.counts.proofs.Sets.{counted-same, counted-in, counted-out, counted-none}
 use Rattle.counts.proofs.Decided.{decided}
-use Rattle.compact.specs.Compact.{Sized}
-use Rattle.compact.specs.Internal.{Sizes, Zeros, AllCounted, Ready, Turned}
+use Rattle.tables.specs.Table.{Sized}
+use Rattle.compact.specs.Owed.{Sizes, Zeros, AllCounted, Ready, Turned}
 
 -- ---- a pattern's row of the table
 
@@ -36,18 +38,25 @@ row-faults {c} {s} {t} {F} {P} z p l = record { cells = omega (arith, z .faults,
 
 -- other memory of the same size
 pub sizes-after : {c s t : List ℕ} {F P : ℕ} (d r : List ℕ) → Sizes c s t F P → length d ≡ length c → length r ≡ length s → Sizes d r t F P
-sizes-after d r z e f = record { few-faults = z .few-faults; few-patterns = z .few-patterns; cells = e ∙ z .cells; faults = f ∙ z .faults; table = z .table }
+sizes-after d r z e f = record { few-faults = z .few-faults; few-patterns = z .few-patterns; cells = rw e (z .cells); faults = f ∙ z .faults; table = z .table }
 
 -- ---- the start
 
-pub start-sizes : (n k : ℕ) (t : List ℕ) (F P : ℕ) → n ≡ 65792 → k ≡ 256 → Sized F P (length t) → Sizes (replicate n 0) (replicate k 0) t F P
+start-sizes : (n k : ℕ) (t : List ℕ) (F P : ℕ) → 256 * F + F ≤ n → k ≡ 256 → Sized F P (length t) → Sizes (replicate n 0) (replicate k 0) t F P
 start-sizes n k t F P e f z = record {
   few-faults = z .few-faults;
   few-patterns = z .few-patterns;
-  cells = length-replicate {A = ℕ} n 0 ∙ e;
+  cells = rw (length-replicate {A = ℕ} n 0) e;
   faults = length-replicate {A = ℕ} k 0 ∙ f;
   table = z .product ∙ mul-comm F P;
 }
+
+-- counts and notes in memory of so many cells, all 0
+pub started : (cells : ℕ) {t : List ℕ} {F P : ℕ}
+    → 256 * F + F ≤ cells
+    → Sized F P (length t)
+    → Sizes (replicate cells 0) (replicate 256 0) t F P × (Zeros (replicate cells 0) × Zeros (replicate 256 0))
+started cells {t} {F} {P} room sized = (start-sizes cells 256 t F P room refl sized, (filled-at cells 0, filled-at 256 0))
 
 -- ---- the patterns below p are counted
 
@@ -97,22 +106,22 @@ module _ {t : List ℕ} {F P : ℕ} {c₀ s₀ : List ℕ} where
 -- ---- a turn
 
 module _ {t : List ℕ} {F P p : ℕ} {m c s : List ℕ} (few : F ≤ 256) (many : P ≤ 256) (l : p < P) (ready : Ready t F P (p + 1) m c s) where
-  by-counts : {r : Bool} → r ≡ neededOf c s t (p * F) F → lacks (tableOf F t) F P (kept (set m p 0)) ≡ r
+  by-counts : {r : Bool} → r ≡ neededOf c s t (p * F) F → lacks (entriesOf F t) F P (kept (set m p 0)) ≡ r
   by-counts e = sym (e ∙ decided m few many (ready .counted) (ready .seen) (ready .enough) p l (ready .in-set p (omega arith)))
 
   pub stays : {r : Bool} → r ≡ neededOf c s t (p * F) F → r ≡ true → Turned t F P p m m c s
   stays e q = record {
-    marks = sym (turn-keeps (tableOf F t) F P m p (by-counts e ∙ q));
+    marks = sym (turn-keeps (entriesOf F t) F P m p (by-counts e ∙ q));
     ready = record { counted = ready .counted; seen = ready .seen; enough = ready .enough; in-set = λ q h. ready .in-set q (omega arith) };
   }
 
   pub goes : {r : Bool} {d : List ℕ} → r ≡ neededOf c s t (p * F) F → r ≡ false → Moved false (hit t (p * F) F) c d → Bytes d → Turned t F P p m (set m p 0) d s
   goes e q moved byte = record {
-    marks = sym (turn-drops (tableOf F t) F P m p (by-counts e ∙ q));
+    marks = sym (turn-drops (entriesOf F t) F P m p (by-counts e ∙ q));
     ready = record {
       counted = counted-out P p l (kept (set m p 0)) (kept m) (not-kept m p) (ready .in-set p (omega arith)) (λ q _ n. kept-other m p q n) (ready .counted) moved byte;
       seen = ready .seen;
-      enough = meets-is (tableOf F t) F P (kept (set m p 0)) (ap not (by-counts e ∙ q));
+      enough = meets-is (entriesOf F t) F P (kept (set m p 0)) (ap not (by-counts e ∙ q));
       in-set = λ q h. kept-other m p q (omega arith) ∙ ready .in-set q (omega arith);
     };
   }
@@ -124,7 +133,7 @@ pub record ToGo (t : List ℕ) (F P : ℕ) (s c₀ m₀ : List ℕ) (k : ℕ) (c
   pub cells : length c ≡ length c₀
   pub marks : length m ≡ length m₀
   pub ready : Ready t F P k m c s
-  pub to-go : turns (tableOf F t) F P k m ≡ compacted (tableOf F t) F P
+  pub to-go : turns (entriesOf F t) F P k m ≡ compacted (entriesOf F t) F P
 
 module _ {t : List ℕ} {F P : ℕ} {s c₀ m₀ : List ℕ} where
   pub all-to-go : m₀ ≡ replicate P 1 → AllCounted t F P c₀ s → ToGo t F P s c₀ m₀ P c₀ m₀
@@ -136,14 +145,14 @@ module _ {t : List ℕ} {F P : ℕ} {s c₀ m₀ : List ℕ} where
     ready = record {
       counted = counted-same (a .counted) (kept m₀) (λ q h. sym (in-it q h));
       seen = a .seen;
-      enough = rw e (start-meets (tableOf F t) F P);
+      enough = rw e (start-meets (entriesOf F t) F P);
       in-set = in-it;
     };
     to-go = rw e;
   }
     where
       in-it : (q : ℕ) → q < P → kept m₀ q ≡ true
-      in-it q h = rw e (all-kept (tableOf F t) F P q h)
+      in-it q h = rw e (all-kept (entriesOf F t) F P q h)
 
   module _ {k : ℕ} {c m : List ℕ} (so : ToGo t F P s c₀ m₀ k c m) where
     pub ready-next : 0 < k → Ready t F P (k - 1 + 1) m c s
@@ -156,9 +165,9 @@ module _ {t : List ℕ} {F P : ℕ} {s c₀ m₀ : List ℕ} where
       cells = ec ∙ so .cells;
       marks = em ∙ so .marks;
       ready = w .ready;
-      to-go = ap (turns (tableOf F t) F P (k - 1)) (w .marks) ∙ ap (λ (x : ℕ). turns (tableOf F t) F P x m) q ∙ so .to-go;
+      to-go = ap (turns (entriesOf F t) F P (k - 1)) (w .marks) ∙ ap (λ (x : ℕ). turns (entriesOf F t) F P x m) q ∙ so .to-go;
     }
 
-    pub none-to-go : k ≤ 0 → m ≡ compacted (tableOf F t) F P
+    pub none-to-go : k ≤ 0 → m ≡ compacted (entriesOf F t) F P
     unfolding turns
     none-to-go h = let q : k ≡ 0 = omega arith in rw q at (so .to-go)

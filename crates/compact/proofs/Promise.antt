@@ -9,11 +9,13 @@ use Rattle.answers.specs.Rules.{said, refusal}
 use Rattle.answers.specs.declared.Ruling.{Ruling}
 use Rattle.answers.specs.declared.Ruling.the-variants.{Fine, Refused}
 use Rattle.answers.proofs.Rules.{after-refused, after-fine}
-use Rattle.needs.specs.Needs.{tableOf, whole, compacted}
+use Rattle.tables.specs.Entries.{entriesOf}
+use Rattle.needs.specs.Needs.{whole, compacted}
 use Rattle.needs.specs.Words.{Detected, LastToFirst, Sound}
 use Rattle.needs.proofs.Sound.{compacted-so, compacted-sound, none-detected}
-use Rattle.compact.specs.Compact.{tableRules, marksRules, Compacts}
-use Rattle.compact.specs.Internal.{Finishes}
+use Rattle.tables.specs.Table.{tableRules}
+use Rattle.compact.specs.Promise.{marksRules, Compacts}
+use Rattle.compact.specs.Owed.{Finishes}
 
 module _ {F P : ℕ} {t m : List ℕ} where
   -- two results that the promise allows are equal
@@ -25,20 +27,20 @@ module _ {F P : ℕ} {t m : List ℕ} where
   refused-leaves so = so .marks ∙ rw (← so .answer)
 
   module _ {m′ : List ℕ} (so : Compacts F P t m Fine m′) where
-    pub marks-are : m′ ≡ compacted (tableOf F t) F P
+    pub marks-are : m′ ≡ compacted (entriesOf F t) F P
     marks-are = so .marks ∙ rw (← so .answer)
 
     -- each mark as the process says
-    pub fine-so : LastToFirst (tableOf F t) F P m′
-    fine-so = rw marks-are (compacted-so (tableOf F t) F P)
+    pub fine-so : LastToFirst (entriesOf F t) F P m′
+    fine-so = rw marks-are (compacted-so (entriesOf F t) F P)
 
     -- the kept patterns meet every need, and none of them can be spared
-    pub fine-sound : Sound (tableOf F t) F P m′
-    fine-sound = rw marks-are (compacted-sound (tableOf F t) F P)
+    pub fine-sound : Sound (entriesOf F t) F P m′
+    fine-sound = rw marks-are (compacted-sound (entriesOf F t) F P)
 
     -- with no detected fault, all are dropped
-    pub fine-empty : ((f : ℕ) → f < F → Detected (tableOf F t) P whole f → ⊥) → m′ ≡ replicate P 0
-    fine-empty none = marks-are ∙ none-detected (tableOf F t) F P none
+    pub fine-empty : ((f : ℕ) → f < F → Detected (entriesOf F t) P whole f → ⊥) → m′ ≡ replicate P 0
+    fine-empty none = marks-are ∙ none-detected (entriesOf F t) F P none
 
   -- ---- as the code comes to it
 
@@ -46,7 +48,7 @@ module _ {F P : ℕ} {t m : List ℕ} where
   unfolding marksRules refusal said
   finish-10 n = record { answer = rw (ne-eqb (length m) P n); marks = rw (ne-eqb (length m) P n) }
 
-  pub finish-fine : {m′ : List ℕ} → length m ≡ P → m′ ≡ compacted (tableOf F t) F P → Finishes F P t m Fine m′
+  pub finish-fine : {m′ : List ℕ} → length m ≡ P → m′ ≡ compacted (entriesOf F t) F P → Finishes F P t m Fine m′
   unfolding marksRules refusal said
   finish-fine e s = record { answer = rw (eq-eqb (length m) P e); marks = rw (eq-eqb (length m) P e) s }
 

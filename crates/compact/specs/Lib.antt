@@ -1,2 +1,2 @@
-pub mod Compact
-pub mod Internal
+pub mod Promise
+pub mod Owed

@@ -1,53 +1,14 @@
 // Part 3, the compactor: which patterns of a table are kept.
 use answers::Ruling;
-use answers::first_big;
+use tables::check_table;
 ghost use mathlib.Core.Path.{_≡_};
-ghost use Prim.Native.Nat.{_+_};
+ghost use Prim.Native.Nat.{_+_, _<_};
 ghost use lib.ListN.{length, replicate};
-ghost use Rattle.answers.specs.Rules.{refusal};
-ghost use Rattle.needs.specs.Needs.{tableOf, compacted};
-ghost use Rattle.compact.specs.Compact.{inRange, sizesOk, Sized, tableRules, Compacts};
-ghost use Rattle.compact.specs.Internal.{Sizes, Zeros, AllCounted, Place, Ready, Turned, Finishes};
-
-// ---- the table's rules
-
-fn in_range(n: u64) -> bool
-    ensures { λ r. ⌜ r ≡ inRange n ⌝ }
-{
-    if n < 1 {
-        return false;
-    }
-    n <= 256
-}
-
-// Whether both counts are in range and so many bytes are their product.
-fn sizes_ok(fault_count: u64, pattern_count: u64, bytes: usize) -> bool
-    ensures { λ r. ⌜ r ≡ sizesOk «fault_count» «pattern_count» bytes ⌝ }
-{
-    if !in_range(fault_count) {
-        return false;
-    }
-    if !in_range(pattern_count) {
-        return false;
-    }
-    bytes as u64 == fault_count * pattern_count
-}
-
-// What the rules of a table say: refusals 12 and 13.
-pub fn check_table(fault_count: u64, pattern_count: u64, table: &[u8]) -> Ruling
-    ensures { λ r. ⌜ r ≡ refusal (tableRules «fault_count» «pattern_count» (now (table .entry))) ⌝ }
-{
-    if !sizes_ok(fault_count, pattern_count, table.len()) {
-        return Ruling::Refused(12, 0);
-    }
-    let bad = first_big(table);
-    if bad < table.len() {
-        return Ruling::Refused(13, bad);
-    }
-    Ruling::Fine
-}
-
-// ---- the marks
+ghost use Rattle.tables.specs.Entries.{entriesOf};
+ghost use Rattle.tables.specs.Table.{Sized};
+ghost use Rattle.needs.specs.Needs.{compacted};
+ghost use Rattle.compact.specs.Promise.{Compacts};
+ghost use Rattle.compact.specs.Owed.{Sizes, Zeros, AllCounted, Place, Ready, Turned, Finishes};
 
 // Marks every pattern as kept.
 fn keep_all(marks: &mut [u8])
@@ -110,7 +71,7 @@ fn drop_spare(
     requires { ⌜ Sizes (now counts) (now seen) (now table) n patterns ⌝ }
     requires { ⌜ now marks ≡ replicate patterns 1 ⌝ }
     requires { ⌜ AllCounted (now table) n patterns (now counts) (now seen) ⌝ }
-    ensures { λ _. ⌜ now (marks .exit) ≡ compacted (tableOf n (now (table .entry))) n patterns ⌝ }
+    ensures { λ _. ⌜ now (marks .exit) ≡ compacted (entriesOf n (now (table .entry))) n patterns ⌝ }
 {
     let mut left = patterns;
     while 0 < left {
@@ -132,11 +93,33 @@ fn mark_all(
     requires { ⌜ Sizes (now counts) (now seen) (now table) n patterns ⌝ }
     requires { ⌜ Zeros (now counts) × Zeros (now seen) ⌝ }
     requires { ⌜ length (now marks) ≡ patterns ⌝ }
-    ensures { λ _. ⌜ now (marks .exit) ≡ compacted (tableOf n (now (table .entry))) n patterns ⌝ }
+    ensures { λ _. ⌜ now (marks .exit) ≡ compacted (entriesOf n (now (table .entry))) n patterns ⌝ }
 {
     keep_all(marks);
     count_all(counts, seen, table, n, patterns);
     drop_spare(counts, seen, marks, table, n, patterns);
+}
+
+// The marks of a table with few faults: a row of 256 for the pairs of each, and one for the faults.
+fn mark_few(n: usize, patterns: usize, table: &[u8], marks: &mut [u8])
+    requires { ⌜ Sized n patterns (length (now table)) × (n < 16) ⌝ }
+    requires { ⌜ length (now marks) ≡ patterns ⌝ }
+    ensures { λ _. ⌜ now (marks .exit) ≡ compacted (entriesOf n (now (table .entry))) n patterns ⌝ }
+{
+    let mut counts = [0u8; 4096];
+    let mut seen = [0u8; 256];
+    mark_all(&mut counts, &mut seen, marks, table, n, patterns);
+}
+
+// The same for any number of faults. Memory for all rows takes longer to clear than a small table to compact.
+fn mark_many(n: usize, patterns: usize, table: &[u8], marks: &mut [u8])
+    requires { ⌜ Sized n patterns (length (now table)) ⌝ }
+    requires { ⌜ length (now marks) ≡ patterns ⌝ }
+    ensures { λ _. ⌜ now (marks .exit) ≡ compacted (entriesOf n (now (table .entry))) n patterns ⌝ }
+{
+    let mut counts = [0u8; 65792];
+    let mut seen = [0u8; 256];
+    mark_all(&mut counts, &mut seen, marks, table, n, patterns);
 }
 
 // Over a table that keeps its rules.
@@ -147,10 +130,11 @@ fn compact_table(n: usize, patterns: usize, table: &[u8], marks: &mut [u8]) -> R
     if marks.len() != patterns {
         return Ruling::Refused(10, 0);
     }
-    // a row of 256 for the pairs of each fault, and one for the faults
-    let mut counts = [0u8; 65792];
-    let mut seen = [0u8; 256];
-    mark_all(&mut counts, &mut seen, marks, table, n, patterns);
+    if n < 16 {
+        mark_few(n, patterns, table, marks);
+        return Ruling::Fine;
+    }
+    mark_many(n, patterns, table, marks);
     Ruling::Fine
 }
 

@@ -14,13 +14,14 @@ use Rattle.ground.specs.Below.{anyBelow, countBelow}
 use Rattle.ground.proofs.Tests.{one-is, agree-where, same-test}
 use Rattle.ground.proofs.Below.{any-same, none-any}
 use Rattle.ground.proofs.Counting.{any-count, count-most}
-use Rattle.needs.specs.Needs.{Patterns, Table, tableOf, whole, fails, tells, detects, apart, lost, lostPair, lacks, kept}
+use Rattle.tables.specs.Entries.{Entries, entriesOf}
+use Rattle.needs.specs.Needs.{Patterns, whole, fails, tells, detects, apart, lost, lostPair, lacks, kept}
 use Rattle.needs.specs.Words.{Meets}
 use Rattle.needs.proofs.Entries.{tells-other}
 use Rattle.needs.proofs.Sets.{same-detected, same-apart}
 use Rattle.needs.proofs.Turns.{not-kept, kept-other}
 use Rattle.counts.specs.Counted.{Counted, Seen}
-use Rattle.counts.specs.Internal.{soleOf, soleIn, soleAt, neededOf}
+use Rattle.counts.specs.Owed.{soleOf, soleIn, soleAt, neededOf}
 use Rattle.counts.proofs.Sets.{fault-cell, pair-cell, count-step}
 
 -- of at most 256 a count of 1 is told from every other
@@ -48,7 +49,7 @@ known-last : (e a d w : Bool) → (e && (a && (d && w))) ≡ (d && (a && (e && w
 known-last true a d w = and-swap a d w
 known-last false a d w = simp and-false
 
-undetected : (E : Table) (P : ℕ) (K : Patterns) (f g : ℕ) → detects E P whole g ≡ false → lostPair E P K f g ≡ false
+undetected : (E : Entries) (P : ℕ) (K : Patterns) (f g : ℕ) → detects E P whole g ≡ false → lostPair E P K f g ≡ false
 unfolding lostPair
 undetected E P K f g e = rw (e, and-false)
 
@@ -60,10 +61,10 @@ abbrev held : ℕ → Patterns → (ℕ → Bool) → ℕ
 held P K h = countBelow P (λ q. K q && h q)
 
 -- the kinds: those that fail f, those that tell f and g apart
-abbrev failing : Table → ℕ → ℕ → Bool
+abbrev failing : Entries → ℕ → ℕ → Bool
 failing E f q = fails (E q f)
 
-abbrev telling : Table → ℕ → ℕ → ℕ → Bool
+abbrev telling : Entries → ℕ → ℕ → ℕ → Bool
 telling E f g q = tells (E q f) (E q g)
 
 abbrev without : List ℕ → ℕ → Patterns
@@ -79,7 +80,7 @@ module _
     (many : P ≤ 256)
     (counted : Counted t F P (kept m) c)
     (seen : Seen t F P s)
-    (enough : Meets (tableOf F t) F P (kept m))
+    (enough : Meets (entriesOf F t) F P (kept m))
     (p : ℕ)
     (l : p < P)
     (in-it : kept m p ≡ true)
@@ -96,48 +97,48 @@ module _
         )
         (only (held P (without m p) h) (h p))
 
-    seen-is : (f : ℕ) → f < F → eqb (getD s f 0) 1 ≡ detects (tableOf F t) P whole f
-    seen-is f k = ap (λ (n : ℕ). eqb n 1) (seen .fault f k) ∙ one-is (detects (tableOf F t) P whole f)
+    seen-is : (f : ℕ) → f < F → eqb (getD s f 0) 1 ≡ detects (entriesOf F t) P whole f
+    seen-is f k = ap (λ (n : ℕ). eqb n 1) (seen .fault f k) ∙ one-is (detects (entriesOf F t) P whole f)
 
-    fault-lost : (f : ℕ) → f < F → soleIn c s 65536 t (p * F) 1 f ≡ lost (tableOf F t) P (without m p) f
+    fault-lost : (f : ℕ) → f < F → soleIn c s (256 * F) t (p * F) 1 f ≡ lost (entriesOf F t) P (without m p) f
     unfolding soleOf lost
     fault-lost f k =
-        rw (seen-is f k) (and-swap (eqb (getD c (65536 + f) 0) 1) (detects (tableOf F t) P whole f) (fails (tableOf F t p f)))
-        ∙ agree-where (detects (tableOf F t) P whole f) (λ d.
-        sole-held (failing (tableOf F t) f) (fault-cell counted few f k)
-        ∙ ap (λ (b : Bool). b && not (detects (tableOf F t) P (without m p) f)) (sym (same-detected (tableOf F t) F P (kept m) enough f k) ∙ d))
+        rw (seen-is f k) (and-swap (eqb (getD c (256 * F + f) 0) 1) (detects (entriesOf F t) P whole f) (fails (entriesOf F t p f)))
+        ∙ agree-where (detects (entriesOf F t) P whole f) (λ d.
+        sole-held (failing (entriesOf F t) f) (fault-cell counted few f k)
+        ∙ ap (λ (b : Bool). b && not (detects (entriesOf F t) P (without m p) f)) (sym (same-detected (entriesOf F t) F P (kept m) enough f k) ∙ d))
 
     -- of a detected fault g, where its entry is known
-    pair-lost : (f g : ℕ) → f < g → g < F → detects (tableOf F t) P whole g ≡ true
-        → (leb (tableOf F t p g) 1 && soleIn c s (256 * g) t (p * F) (1 - tableOf F t p g) f) ≡ lostPair (tableOf F t) P (without m p) f g
+    pair-lost : (f g : ℕ) → f < g → g < F → detects (entriesOf F t) P whole g ≡ true
+        → (leb (entriesOf F t p g) 1 && soleIn c s (256 * g) t (p * F) (1 - entriesOf F t p g) f) ≡ lostPair (entriesOf F t) P (without m p) f g
     unfolding soleOf lostPair
     pair-lost f g k h e =
-        known-last (leb (tableOf F t p g) 1) (eqb (getD c (256 * g + f) 0) 1) (eqb (getD s f 0) 1) (eqb (tableOf F t p f) (1 - tableOf F t p g))
-        ∙ rw (seen-is f (omega arith), ← tells-other (tableOf F t p f) (tableOf F t p g), e)
-        (agree-where (detects (tableOf F t) P whole f) (λ d.
-        sole-held (telling (tableOf F t) f g) (pair-cell counted few f g k h)
-        ∙ ap (λ (b : Bool). b && not (apart (tableOf F t) P (without m p) f g)) (sym (same-apart (tableOf F t) F P (kept m) enough f g (omega arith) h d e))))
+        known-last (leb (entriesOf F t p g) 1) (eqb (getD c (256 * g + f) 0) 1) (eqb (getD s f 0) 1) (eqb (entriesOf F t p f) (1 - entriesOf F t p g))
+        ∙ rw (seen-is f (omega arith), ← tells-other (entriesOf F t p f) (entriesOf F t p g), e)
+        (agree-where (detects (entriesOf F t) P whole f) (λ d.
+        sole-held (telling (entriesOf F t) f g) (pair-cell counted few f g k h)
+        ∙ ap (λ (b : Bool). b && not (apart (entriesOf F t) P (without m p) f g)) (sym (same-apart (entriesOf F t) F P (kept m) enough f g (omega arith) h d e))))
 
-    pairs-lost : (g : ℕ) → g < F → soleAt c s t (p * F) g ≡ anyBelow g (λ f. lostPair (tableOf F t) P (without m p) f g)
+    pairs-lost : (g : ℕ) → g < F → soleAt c s t (p * F) g ≡ anyBelow g (λ f. lostPair (entriesOf F t) P (without m p) f g)
     unfolding soleAt
-    pairs-lost g h = rw (seen-is g h) (go (detects (tableOf F t) P whole g) refl)
+    pairs-lost g h = rw (seen-is g h) (go (detects (entriesOf F t) P whole g) refl)
       where
         each : (b : Bool) (r : ℕ → Bool) → (b && anyBelow g r) ≡ anyBelow g (λ f. b && r f)
         each true r = refl
         each false r = sym (none-any g (λ f. false) (λ f k. refl))
 
-        go : (b : Bool) → detects (tableOf F t) P whole g ≡ b
-            → (b && (leb (tableOf F t p g) 1 && anyBelow g (soleIn c s (256 * g) t (p * F) (1 - tableOf F t p g)))) ≡ anyBelow g (λ f. lostPair (tableOf F t) P (without m p) f g)
-        go false e = sym (none-any g (λ f. lostPair (tableOf F t) P (without m p) f g) (λ f k. undetected (tableOf F t) P (without m p) f g e))
+        go : (b : Bool) → detects (entriesOf F t) P whole g ≡ b
+            → (b && (leb (entriesOf F t p g) 1 && anyBelow g (soleIn c s (256 * g) t (p * F) (1 - entriesOf F t p g)))) ≡ anyBelow g (λ f. lostPair (entriesOf F t) P (without m p) f g)
+        go false e = sym (none-any g (λ f. lostPair (entriesOf F t) P (without m p) f g) (λ f k. undetected (entriesOf F t) P (without m p) f g e))
         go true e =
-            each (leb (tableOf F t p g) 1) (soleIn c s (256 * g) t (p * F) (1 - tableOf F t p g))
-            ∙ any-same g (λ f. leb (tableOf F t p g) 1 && soleIn c s (256 * g) t (p * F) (1 - tableOf F t p g) f) (λ f. lostPair (tableOf F t) P (without m p) f g)
+            each (leb (entriesOf F t p g) 1) (soleIn c s (256 * g) t (p * F) (1 - entriesOf F t p g))
+            ∙ any-same g (λ f. leb (entriesOf F t p g) 1 && soleIn c s (256 * g) t (p * F) (1 - entriesOf F t p g) f) (λ f. lostPair (entriesOf F t) P (without m p) f g)
             (λ f k. pair-lost f g k h e)
 
-    pub decided : neededOf c s t (p * F) F ≡ lacks (tableOf F t) F P (kept (set m p 0))
+    pub decided : neededOf c s t (p * F) F ≡ lacks (entriesOf F t) F P (kept (set m p 0))
     unfolding neededOf lacks
     decided =
         rw (
-          any-same F (soleIn c s 65536 t (p * F) 1) (lost (tableOf F t) P (without m p)) fault-lost,
-          any-same F (soleAt c s t (p * F)) (λ g. anyBelow g (λ f. lostPair (tableOf F t) P (without m p) f g)) pairs-lost,
+          any-same F (soleIn c s (256 * F) t (p * F) 1) (lost (entriesOf F t) P (without m p)) fault-lost,
+          any-same F (soleAt c s t (p * F)) (λ g. anyBelow g (λ f. lostPair (entriesOf F t) P (without m p) f g)) pairs-lost,
         )

@@ -13,9 +13,10 @@ use lib.Seq.{getD-set-same, getD-set-other}
 use Rattle.ground.specs.Choose.{one}
 use Rattle.ground.specs.Below.{anyBelow}
 use Rattle.ground.proofs.Tests.{one-or}
-use Rattle.needs.specs.Needs.{tableOf, fails}
+use Rattle.tables.specs.Entries.{entriesOf}
+use Rattle.needs.specs.Needs.{fails}
 use Rattle.counts.specs.Counted.{Seen}
-use Rattle.counts.specs.Internal.{Saw}
+use Rattle.counts.specs.Owed.{Saw}
 
 -- ---- the first i faults of a pattern are seen
 
@@ -43,7 +44,7 @@ module _ {t : List ℕ} {from : ℕ} {old : List ℕ} {i : ℕ} {new : List ℕ}
 -- ---- the faults of the first p patterns are seen
 
 pub record SeenTo (t : List ℕ) (F p : ℕ) (s : List ℕ) : Type 0 where
-  pub fault : (f : ℕ) → f < F → getD s f 0 ≡ one (anyBelow p (λ q. fails (tableOf F t q f)))
+  pub fault : (f : ℕ) → f < F → getD s f 0 ≡ one (anyBelow p (λ q. fails (entriesOf F t q f)))
 
 module _ {t : List ℕ} {F : ℕ} where
   pub seen-none : {s : List ℕ} → ((k : ℕ) → getD s k 0 ≡ 0) → SeenTo t F 0 s
@@ -53,7 +54,7 @@ module _ {t : List ℕ} {F : ℕ} where
   seen-one {p} so m = record {
     fault = λ f l.
         m .fault f l
-        ∙ rw (add-one p, so .fault f l) (one-or (anyBelow p (λ q. fails (tableOf F t q f))) (fails (tableOf F t p f)));
+        ∙ rw (add-one p, so .fault f l) (one-or (anyBelow p (λ q. fails (entriesOf F t q f))) (fails (entriesOf F t p f)));
   }
 
   pub seen-all : {P p : ℕ} {s : List ℕ} → SeenTo t F p s → p ≡ P → Seen t F P s

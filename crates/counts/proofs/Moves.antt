@@ -17,7 +17,7 @@ use Rattle.ground.specs.Below.{anyBelow}
 use Rattle.ground.proofs.Tests.{both, never-both, one-either}
 use Rattle.ground.proofs.Below.{some-any}
 use Rattle.counts.specs.Counted.{hitRow, hitPair, hit}
-use Rattle.counts.specs.Internal.{Counts, Moved}
+use Rattle.counts.specs.Owed.{Counts, Moved}
 
 -- ---- one count
 
@@ -150,8 +150,8 @@ module _ (t : List ℕ) (from : ℕ) where
         (moved-then so more (λ k. never-both (anyBelow g (hitPair t from k)) (hitPair t from k g) (λ w.
         pair-outside g k (λ a b. omega (arith, past-pairs g k (omega arith) w)))))
 
-    pub faults-next : {last : List ℕ} → g ≤ 256 → Moved into (hitRow t from 1 65536 g) new last → Moved into (hit t from g) old last
+    pub faults-next : {last : List ℕ} → g ≤ 256 → Moved into (hitRow t from 1 (256 * g) g) new last → Moved into (hit t from g) old last
     unfolding hit
     faults-next few more =
-        moved-then so more (λ k. never-both (anyBelow g (hitPair t from k)) (hitRow t from 1 65536 g k) (λ w.
-        row-outside t from 1 65536 g k (λ a b. omega (arith, past-pairs g k few w))))
+        moved-then so more (λ k. never-both (anyBelow g (hitPair t from k)) (hitRow t from 1 (256 * g) g k) (λ w.
+        row-outside t from 1 (256 * g) g k (λ a b. omega (arith, past-pairs g k few w))))

@@ -11,7 +11,7 @@ use borrow.Author.Tests.{eq-eqb, ne-eqb, le-leb, lt-leb}
 use Rattle.ground.specs.Choose.{one}
 use Rattle.ground.specs.Below.{anyBelow}
 use Rattle.ground.proofs.Tests.{one-and}
-use Rattle.counts.specs.Internal.{soleOf, soleIn, soleAt, neededOf}
+use Rattle.counts.specs.Owed.{soleOf, soleIn, soleAt, neededOf}
 
 pub sole-and : (count seen entry want : ℕ) {x y z : ℕ}
     → x ≡ one (eqb count 1)
@@ -40,11 +40,11 @@ module _ (c s t : List ℕ) (from : ℕ) where
     unfolding soleAt
     sole-known u e = rw (eq-eqb (getD s g 0) 1 m, le-leb (getD t (from + g) 0) 1 u) (one-not _ e)
 
-  module _ (n : ℕ) {r : ℕ} (is : r ≡ one (anyBelow n (soleIn c s 65536 t from 1))) where
+  module _ (n : ℕ) {r : ℕ} (is : r ≡ one (anyBelow n (soleIn c s (256 * n) t from 1))) where
     pub needed-fault : (r ≡ 0 → ⊥) → true ≡ neededOf c s t from n
     unfolding neededOf
-    needed-fault h = rw (← one-not (anyBelow n (soleIn c s 65536 t from 1)) is, ne-eqb r 0 h)
+    needed-fault h = rw (← one-not (anyBelow n (soleIn c s (256 * n) t from 1)) is, ne-eqb r 0 h)
 
     pub needed-pair : {x : Bool} → r ≡ 0 → x ≡ anyBelow n (soleAt c s t from) → x ≡ neededOf c s t from n
     unfolding neededOf
-    needed-pair h w = rw (← one-not (anyBelow n (soleIn c s 65536 t from 1)) is, h) w
+    needed-pair h w = rw (← one-not (anyBelow n (soleIn c s (256 * n) t from 1)) is, h) w

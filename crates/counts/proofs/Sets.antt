@@ -11,27 +11,28 @@ use Rattle.ground.specs.Below.{countBelow}
 use Rattle.ground.proofs.Tests.{one-most}
 use Rattle.ground.proofs.Below.{none-any, any-only}
 use Rattle.ground.proofs.Counting.{count-same, count-none, count-more}
-use Rattle.needs.specs.Needs.{Patterns, tableOf, fails, tells}
+use Rattle.tables.specs.Entries.{entriesOf}
+use Rattle.needs.specs.Needs.{Patterns, fails, tells}
 use Rattle.needs.proofs.Entries.{tells-other}
 use Rattle.counts.specs.Counted.{hitPair, hit, Counted}
-use Rattle.counts.specs.Internal.{Moved}
+use Rattle.counts.specs.Owed.{Moved}
 use Rattle.counts.proofs.Moves.{Bytes, row-outside, row-at, pair-outside}
 
 -- ---- what a cell says
 
 module _ (t : List ℕ) (from F : ℕ) (few : F ≤ 256) where
-  hit-fault : (f : ℕ) → f < F → hit t from F (65536 + f) ≡ fails (getD t (from + f) 0)
+  hit-fault : (f : ℕ) → f < F → hit t from F (256 * F + f) ≡ fails (getD t (from + f) 0)
   unfolding hit
   hit-fault f l =
-      rw (none-any F (hitPair t from (65536 + f)) (λ g m. pair-outside t from g (65536 + f) (λ a b. omega arith)))
-      (row-at t from 1 65536 F f l)
+      rw (none-any F (hitPair t from (256 * F + f)) (λ g m. pair-outside t from g (256 * F + f) (λ a b. omega arith)))
+      (row-at t from 1 (256 * F) F f l)
 
   hit-pair : (f g : ℕ) → f < g → g < F → hit t from F (256 * g + f) ≡ tells (getD t (from + f) 0) (getD t (from + g) 0)
   unfolding hit hitPair
   hit-pair f g l m =
       rw (
         any-only F (hitPair t from (256 * g + f)) g m (λ h k d. pair-outside t from h (256 * g + f) (λ a b. omega arith)),
-        row-outside t from 1 65536 F (256 * g + f) (λ a b. omega arith),
+        row-outside t from 1 (256 * F) F (256 * g + f) (λ a b. omega arith),
         or-false,
         row-at t from (1 - getD t (from + g) 0) (256 * g) g f l,
       )
@@ -44,11 +45,11 @@ module _ {t : List ℕ} {F P : ℕ} {K : Patterns} {c : List ℕ} (counted : Cou
       counted .cell k
       ∙ ap (λ (n : ℕ). n % 256) (count-same P (λ q. K q && hit t (q * F) F k) (λ q. K q && h q) (λ q _. ap (λ (b : Bool). K q && b) (is q)))
 
-  pub fault-cell : F ≤ 256 → (f : ℕ) → f < F → getD c (65536 + f) 0 ≡ countBelow P (λ q. K q && fails (tableOf F t q f)) % 256
-  fault-cell few f l = cell-is (65536 + f) (λ q. fails (tableOf F t q f)) (λ q. hit-fault t (q * F) F few f l)
+  pub fault-cell : F ≤ 256 → (f : ℕ) → f < F → getD c (256 * F + f) 0 ≡ countBelow P (λ q. K q && fails (entriesOf F t q f)) % 256
+  fault-cell few f l = cell-is (256 * F + f) (λ q. fails (entriesOf F t q f)) (λ q. hit-fault t (q * F) F few f l)
 
-  pub pair-cell : F ≤ 256 → (f g : ℕ) → f < g → g < F → getD c (256 * g + f) 0 ≡ countBelow P (λ q. K q && tells (tableOf F t q f) (tableOf F t q g)) % 256
-  pair-cell few f g l m = cell-is (256 * g + f) (λ q. tells (tableOf F t q f) (tableOf F t q g)) (λ q. hit-pair t (q * F) F few f g l m)
+  pub pair-cell : F ≤ 256 → (f g : ℕ) → f < g → g < F → getD c (256 * g + f) 0 ≡ countBelow P (λ q. K q && tells (entriesOf F t q f) (entriesOf F t q g)) % 256
+  pair-cell few f g l m = cell-is (256 * g + f) (λ q. tells (entriesOf F t q f) (entriesOf F t q g)) (λ q. hit-pair t (q * F) F few f g l m)
 
   -- two sets that agree
   pub counted-same : (L : Patterns) → ((q : ℕ) → q < P → K q ≡ L q) → Counted t F P L c

@@ -1,4 +1,5 @@
--- Counts of patterns, a cell each: at 256 g + f for the pair f < g of faults, how many tell the two apart; at 65536 + f for the fault f, how many fail it.
+-- Counts of patterns, a cell each, for n faults: at 256 g + f for the pair f < g, how many tell the two apart; at 256 n + f for the fault f, how many
+-- fail it.
 -- Assumes nothing.
 use mathlib.Core.Path.{_≡_}
 use mathlib.Core.Bool.{Bool, _&&_, _||_}
@@ -8,7 +9,8 @@ use lib.Dec.{eqb, leb, ltb}
 use lib.ListN.{getD}
 use Rattle.ground.specs.Choose.{one}
 use Rattle.ground.specs.Below.{anyBelow, countBelow}
-use Rattle.needs.specs.Needs.{Patterns, tableOf, whole, detects}
+use Rattle.tables.specs.Entries.{entriesOf}
+use Rattle.needs.specs.Needs.{Patterns, whole, detects}
 
 -- a pattern's entries stand in the table t from `from` on. A row has n cells from `at` on; the pattern counts at its cell k where that fault's entry is `want`
 unfoldable pub hitRow : List ℕ → ℕ → ℕ → ℕ → ℕ → ℕ → Bool
@@ -20,7 +22,7 @@ hitPair t from k g = leb (getD t (from + g) 0) 1 && hitRow t from (1 - getD t (f
 
 -- at cell k, of n faults
 unfoldable pub hit : List ℕ → ℕ → ℕ → ℕ → Bool
-hit t from n k = anyBelow n (hitPair t from k) || hitRow t from 1 65536 n k
+hit t from n k = anyBelow n (hitPair t from k) || hitRow t from 1 (256 * n) n k
 
 -- each cell counts the patterns of the set, and is a byte: of at most 256 patterns a count of 1 is still told from every other
 pub record Counted (t : List ℕ) (F P : ℕ) (K : Patterns) (c : List ℕ) : Type 0 where
@@ -28,4 +30,4 @@ pub record Counted (t : List ℕ) (F P : ℕ) (K : Patterns) (c : List ℕ) : Ty
 
 -- whether a fault is detected is kept apart, 1 or 0
 pub record Seen (t : List ℕ) (F P : ℕ) (s : List ℕ) : Type 0 where
-  pub fault : (f : ℕ) → f < F → getD s f 0 ≡ one (detects (tableOf F t) P whole f)
+  pub fault : (f : ℕ) → f < F → getD s f 0 ≡ one (detects (entriesOf F t) P whole f)

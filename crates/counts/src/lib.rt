@@ -7,7 +7,7 @@ ghost use lib.ListN.{length};
 ghost use Rattle.ground.specs.Choose.{one};
 ghost use Rattle.ground.specs.Below.{anyBelow};
 ghost use Rattle.counts.specs.Counted.{hitRow, hitPair, hit};
-ghost use Rattle.counts.specs.Internal.{Counts, Moved, Row, Cells, Saw, soleOf, soleIn, soleAt, neededOf};
+ghost use Rattle.counts.specs.Owed.{Counts, Moved, Row, Cells, Saw, soleOf, soleIn, soleAt, neededOf};
 
 // 1 where the two are the same, else 0.
 fn same(x: u8, y: u8) -> u8
@@ -74,7 +74,7 @@ pub fn count_pattern(counts: &mut [u8], table: &[u8], from: usize, n: usize, int
         count_pairs(counts, table, from, g, into);
         g += 1;
     }
-    count_row(counts, 65536, table, from, n, 1, into);
+    count_row(counts, 256 * n, table, from, n, 1, into);
 }
 
 // Notes the faults that a pattern fails.
@@ -146,7 +146,7 @@ pub fn needed(counts: &[u8], seen: &[u8], table: &[u8], from: usize, n: usize) -
     requires { ⌜ n ≤ length (now seen) ⌝ }
     ensures { λ r. ⌜ r ≡ neededOf (now (counts .entry)) (now (seen .entry)) (now (table .entry)) from n ⌝ }
 {
-    if sole_in(counts, seen, 65536, table, from, n, 1) != 0 {
+    if sole_in(counts, seen, 256 * n, table, from, n, 1) != 0 {
         return true;
     }
     let mut g = 0;

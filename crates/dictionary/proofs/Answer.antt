@@ -2,68 +2,43 @@
 -- Assumes nothing.
 use mathlib.Core.Path.{_≡_, sym, _∙_}
 use mathlib.Core.List.{List, _++_}
-use Prim.Native.Nat.{ℕ, _+_, _*_, _≤_}
+use Prim.Native.Nat.{ℕ, _*_}
 use native.Mathlib.Omega.{arith}
 use lib.ListN.{length}
-use Rattle.answers.specs.Rules.{Rule, refusal, AllHold, AllSay}
+use Rattle.answers.specs.Rules.{Rule, refusal, AllSay}
 use Rattle.answers.specs.declared.Ruling.{Ruling}
 use Rattle.answers.specs.declared.Ruling.the-variants.{Fine, Refused}
-use Rattle.answers.proofs.Rules.{after-refused, after-fine, both-fine, all-hold, both-say}
-use Rattle.answers.proofs.Same.{eq-same, and-same}
+use Rattle.answers.proofs.Rules.{after-refused, after-fine, both-fine, both-say}
+use Rattle.answers.proofs.Lent.{lent-says, lent-sizes}
 use Rattle.circuit.specs.Record.{linesOf, inputsOf}
-use Rattle.circuit.specs.Check.{circuitRules}
-use Rattle.circuit.specs.Formed.{Accepts}
-use Rattle.lists.specs.Faults.{faultCount, faultRules}
-use Rattle.lists.specs.Patterns.{patternCount, patternRules}
-use Rattle.lists.proofs.Faults.{faults-say, good-faults}
-use Rattle.lists.proofs.Patterns.{patterns-say, good-patterns}
+use Rattle.circuit.specs.Promise.{circuitRules}
+use Rattle.circuit.specs.Formed.{Accepts, Known}
+use Rattle.lists.specs.Faults.{faultCount}
+use Rattle.lists.specs.Patterns.{patternCount}
+use Rattle.lists.specs.Both.{listRules}
+use Rattle.lists.proofs.Both.{lists-say, good-lists}
 use Rattle.rows.specs.Owed.{Ready, Filled}
-use Rattle.dictionary.specs.Dictionary.{bufferRules, listRules, restRules, dictionaryRules, Answered, Dictionary}
-use Rattle.dictionary.specs.Owed.{Known}
-
-pub known : {c : List ℕ} {n m o : ℕ} → Accepts c n m o → Known c n m
-known {c} {n} {m} {o} a = record {
-  well = rw (a .lines, a .inputs) (a .good .well);
-  some-inputs = rw (a .inputs) (a .good .some-inputs);
-  most-inputs = rw (a .inputs) (a .good .most-inputs);
-  lines = rw (a .lines) (a .good .most-lines);
-  lines-are = a .lines;
-}
-
--- ---- tests and words of the rules agree
-
-pub buffers-say : (n faults patterns table work : ℕ) → AllSay (bufferRules n faults patterns table work)
-unfolding bufferRules AllSay
-buffers-say n faults patterns table work = (and-same (eq-same table (faults * patterns)) (eq-same work (2 * n)), tt)
+use Rattle.dictionary.specs.Promise.{restRules, dictionaryRules, Answered, Dictionary}
 
 module _ (c : List ℕ) (n m : ℕ) (fs ps : List ℕ) where
+  -- tests and words of the rules agree
   pub rest-say : (table work : ℕ) → AllSay (restRules c n m fs ps table work)
   rest-say table work =
-      both-say (listRules c m fs ps) _
-      (both-say (faultRules 256 c fs) _ (faults-say 256 c fs) (patterns-say m ps))
-      (buffers-say n (faultCount fs) (patternCount m ps) table work)
+      both-say (listRules c m fs ps) _ (lists-say c m fs ps) (lent-says (faultCount fs * patternCount m ps) table (2 * n) work)
 
-  -- ---- what is not refused is ready
-
-  pub lists-few : refusal (listRules c m fs ps) ≡ Fine → (faultCount fs ≤ 256) × (patternCount m ps ≤ 256)
-  lists-few e =
-      let b = both-fine (faultRules 256 c fs) (patternRules m ps) e in
-      (good-faults 256 c fs (b .0) .records .few, good-patterns m ps (b .1) .records .few)
-
+  -- what is not refused is ready
   pub ready : (table work : ℕ) → Known c n m → refusal (restRules c n m fs ps table work) ≡ Fine → Ready c n m fs ps table work
-  unfolding bufferRules AllHold
   ready table work k e =
-      let a = both-fine (listRules c m fs ps) (bufferRules n (faultCount fs) (patternCount m ps) table work) e in
-      let b = both-fine (faultRules 256 c fs) (patternRules m ps) (a .0) in
-      let faults = good-faults 256 c fs (b .0) in
-      let sizes = all-hold (bufferRules n (faultCount fs) (patternCount m ps) table work) (buffers-say n (faultCount fs) (patternCount m ps) table work) (a .1) .0 in
+      let a = both-fine (listRules c m fs ps) _ e in
+      let lists = good-lists c m fs ps (a .0) in
+      let sizes = lent-sizes (faultCount fs * patternCount m ps) table (2 * n) work (a .1) in
       record {
-        well = k .well;
-        some-inputs = k .some-inputs;
-        most-inputs = k .most-inputs;
-        faults = faults .records;
-        fault-lines = λ j l. rw (k .lines-are) (faults .faults j l .line);
-        patterns = good-patterns m ps (b .1) .records;
+        well = rw (k .lines, k .inputs) (k .good .well);
+        some-inputs = rw (k .inputs) (k .good .some-inputs);
+        most-inputs = rw (k .inputs) (k .good .most-inputs);
+        faults = lists .0 .records;
+        fault-lines = λ j l. rw (k .lines) (lists .0 .faults j l .line);
+        patterns = lists .1 .records;
         entries = sizes .0;
         two = omega (arith, sizes .1);
       }

@@ -1,2 +1,2 @@
 pub mod Answer
-pub mod Wording
+pub mod Says

@@ -1,3 +1,3 @@
-pub mod Dictionary
-pub mod Words
+pub mod Promise
 pub mod Owed
+pub mod Words

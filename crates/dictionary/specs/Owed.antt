@@ -1,15 +1,11 @@
--- What the functions of the dictionary maker owe each other; nobody else need read it.
+-- What the functions of the dictionary owe each other; no reader of the promise needs it.
 -- Assumes nothing.
-use mathlib.Core.Path.{_≡_}
 use mathlib.Core.List.{List}
-use Prim.Native.Nat.{ℕ, _≤_}
-use Rattle.circuit.specs.Record.{linesOf}
-use Rattle.circuit.specs.Formed.{WellFormed}
+use Prim.Native.Nat.{ℕ}
+use lib.ListN.{length}
+use Rattle.answers.specs.declared.Ruling.{Ruling}
+use Rattle.dictionary.specs.Promise.{restRules, Answered}
 
--- what is known where the circuit is accepted
-pub record Known (c : List ℕ) (n m : ℕ) : Type 0 where
-  pub well : WellFormed c m n
-  pub some-inputs : 1 ≤ m
-  pub most-inputs : m ≤ 64
-  pub lines : n ≤ 2048
-  pub lines-are : n ≡ linesOf c
+-- the answer for an accepted circuit of n lines and m inputs
+abbrev pub RestAnswered : List ℕ → ℕ → ℕ → List ℕ → List ℕ → List ℕ → List ℕ → Ruling → List ℕ → List ℕ → Type 0
+RestAnswered c n m fs ps t w r t′ w′ = Answered (restRules c n m fs ps (length t) (length w)) c n m fs ps t w r t′ w′

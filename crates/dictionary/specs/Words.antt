@@ -8,7 +8,7 @@ use Rattle.answers.specs.declared.Ruling.the-variants.{Fine, Refused}
 use Rattle.answers.specs.Rules.{Applies}
 use Rattle.circuit.specs.Record.{linesOf, inputsOf}
 use Rattle.rows.specs.Words.{Made}
-use Rattle.dictionary.specs.Dictionary.{dictionaryRules}
+use Rattle.dictionary.specs.Promise.{dictionaryRules}
 
 pub record InWords (c fs ps t w : List ℕ) (r : Ruling) (t′ w′ : List ℕ) : Type 0 where
   -- refused exactly when a rule applies, with the first that does and its lowest place

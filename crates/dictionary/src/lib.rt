@@ -1,42 +1,15 @@
 // Part 2, the dictionary maker.
 use answers::Ruling;
+use answers::check_lent;
 use circuit::Checked;
 use circuit::check;
-use lists::check_faults;
-use lists::check_patterns;
+use lists::check_lists;
 use rows::fill_table;
 ghost use mathlib.Core.Path.{_≡_};
-ghost use Prim.Native.Nat.{_≤_, _<_};
-ghost use lib.ListN.{length};
 ghost use Rattle.answers.specs.Rules.{refusal};
-ghost use Rattle.dictionary.specs.Dictionary.{listRules, bufferRules, restRules, Answered, Dictionary};
-ghost use Rattle.dictionary.specs.Owed.{Known};
-
-// Refusals 6 to 9.
-fn check_lists(circuit: &[u8], inputs: usize, faults: &[u8], patterns: &[u8]) -> Ruling
-    requires { ⌜ 0 < inputs ⌝ }
-    ensures { λ r. ⌜ r ≡ refusal (listRules (now (circuit .entry)) inputs (now (faults .entry)) (now (patterns .entry))) ⌝ }
-{
-    let v = check_faults(circuit, faults, 256);
-    match v {
-        Ruling::Refused(number, place) => Ruling::Refused(number, place),
-        Ruling::Fine => check_patterns(patterns, inputs),
-    }
-}
-
-// Refusal 10.
-fn check_buffers(n: usize, faults: usize, patterns: usize, table: usize, work: usize) -> Ruling
-    requires { ⌜ (n ≤ 2048) × (faults ≤ 256) × (patterns ≤ 256) ⌝ }
-    ensures { λ r. ⌜ r ≡ refusal (bufferRules n faults patterns table work) ⌝ }
-{
-    if table != faults * patterns {
-        return Ruling::Refused(10, 0);
-    }
-    if work != 2 * n {
-        return Ruling::Refused(10, 0);
-    }
-    Ruling::Fine
-}
+ghost use Rattle.circuit.specs.Formed.{Known};
+ghost use Rattle.dictionary.specs.Promise.{restRules, Dictionary};
+ghost use Rattle.dictionary.specs.Owed.{RestAnswered};
 
 // Refusals 6 to 10.
 fn check_rest(
@@ -57,7 +30,7 @@ fn check_rest(
         Ruling::Fine => {
             let f = faults.len() / 8;
             let p = patterns.len() / inputs;
-            check_buffers(n, f, p, table, work)
+            check_lent(f * p, table, 2 * n, work)
         }
     }
 }
@@ -73,7 +46,8 @@ fn accepted(
     work: &mut [u8],
 ) -> Ruling
     requires { ⌜ Known (now circuit) n inputs ⌝ }
-    ensures { λ r. ⌜ Answered (restRules (now (circuit .entry)) n inputs (now (faults .entry)) (now (patterns .entry)) (length (now (table .entry))) (length (now (work .entry)))) (now (circuit .entry)) n inputs (now (faults .entry)) (now (patterns .entry)) (now (table .entry)) (now (work .entry)) r (now (table .exit)) (now (work .exit)) ⌝ }
+    ensures { λ r. ⌜ RestAnswered (now (circuit .entry)) n inputs (now (faults .entry)) (now (patterns .entry)) (now (table .entry)) (now (work .entry))
+        r (now (table .exit)) (now (work .exit)) ⌝ }
 {
     let v = check_rest(
         circuit,

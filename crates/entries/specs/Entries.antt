@@ -9,16 +9,18 @@ use lib.ListN.{length}
 use Rattle.answers.specs.Rules.{refusal, unless}
 use Rattle.answers.specs.Area.{Numbers, success, told, done, Entered, entered}
 use Rattle.circuit.specs.Record.{linesOf, inputsOf, outputsOf}
-use Rattle.circuit.specs.Check.{circuitRules}
+use Rattle.circuit.specs.Promise.{circuitRules}
 use Rattle.rows.specs.Table.{tableOf, workOf}
-use Rattle.dictionary.specs.Dictionary.{dictionaryRules}
+use Rattle.dictionary.specs.Promise.{dictionaryRules}
 use Rattle.entries.specs.declared.Reply.{Reply}
+use Rattle.tables.specs.Entries.{entriesOf}
+use Rattle.lists.specs.Faults.{faultAt}
 use Rattle.needs.specs.Needs as needs
-use Rattle.compact.specs.Compact.{compactRules}
-use Rattle.search.specs.Search.{searchRules, verdictFor, testFor, workFor, verdictNumbers}
+use Rattle.compact.specs.Promise.{compactRules}
+use Rattle.search.specs.Promise.{searchRules, verdictFor, testFor, workFor, verdictNumbers}
 use Rattle.line_clauses.specs.Clauses.{variablesOf}
-use Rattle.bench.specs.Bench.{benchRules, recordsIn}
-use Rattle.bench.specs.Bench as reading
+use Rattle.bench.specs.Promise.{benchRules, recordsIn}
+use Rattle.bench.specs.Promise as reading
 use Rattle.clauses.specs.Promise.{clauseRules, clausesFor, wordsFor, laidOn}
 
 -- a reply in the paper's numbers
@@ -38,21 +40,21 @@ pub record Made (c fs ps t w a : List ℕ) (r : ℕ) (t′ w′ a′ : List ℕ)
 -- the compactor: done; the marks m, lent with the answer area a, become m′
 pub record Compacted (F P : ℕ) (t m a : List ℕ) (r : ℕ) (m′ a′ : List ℕ) : Type 0 where
   pub answer : Entered a (told (refusal (compactRules F P t m)) done) r a′
-  pub marks : m′ ≡ entered a m (unless (refusal (compactRules F P t m)) m (needs.compacted (needs.tableOf F t) F P))
+  pub marks : m′ ≡ entered a m (unless (refusal (compactRules F P t m)) m (needs.compacted (entriesOf F t) F P))
 
 -- the test search: outcome and nodes; the test buffer t and the work memory w become t′ and w′
 pub record Found (c f : List ℕ) (b : ℕ) (t w a : List ℕ) (r : ℕ) (t′ w′ a′ : List ℕ) : Type 0 where
-  pub answer : Entered a (told (refusal (searchRules c f (length t) (length w))) (verdictNumbers (verdictFor c f b))) r a′
-  pub test : t′ ≡ entered a t (unless (refusal (searchRules c f (length t) (length w))) t (testFor c f b t))
-  pub work : w′ ≡ entered a w (unless (refusal (searchRules c f (length t) (length w))) w (workFor c f b w))
+  pub answer : Entered a (told (refusal (searchRules c f (length t) (length w))) (verdictNumbers (verdictFor c (faultAt f 0) b))) r a′
+  pub test : t′ ≡ entered a t (unless (refusal (searchRules c f (length t) (length w))) t (testFor c (faultAt f 0) b t))
+  pub work : w′ ≡ entered a w (unless (refusal (searchRules c f (length t) (length w))) w (workFor c (faultAt f 0) b w))
 
 -- the clause writer: words, clauses and variables; the words w become w′
 pub record Laid (c f : List ℕ) (w : List ℤ) (a : List ℕ) (r : ℕ) (w′ : List ℤ) (a′ : List ℕ) : Type 0 where
   pub answer :
       Entered a
-      (told (refusal (clauseRules c f (length w))) (success (length (wordsFor c f)) (length (clausesFor c f)) (variablesOf c (linesOf c))))
+      (told (refusal (clauseRules c f (length w))) (success (length (wordsFor c (faultAt f 0))) (length (clausesFor c (faultAt f 0))) (variablesOf c (linesOf c))))
       r a′
-  pub words : w′ ≡ entered a w (unless (refusal (clauseRules c f (length w))) w (laidOn w (wordsFor c f)))
+  pub words : w′ ≡ entered a w (unless (refusal (clauseRules c f (length w))) w (laidOn w (wordsFor c (faultAt f 0))))
 
 -- the reader of the bench notation: records; the buffer c, lent with the answer area a, becomes c′
 pub record Taken (t c a : List ℕ) (r : ℕ) (c′ a′ : List ℕ) : Type 0 where

@@ -13,14 +13,13 @@ use nodes::Verdict;
 use search::Searched;
 use search::search;
 ghost use mathlib.Core.Path.{_≡_};
-ghost use lib.ListN.{length};
 ghost use Rattle.answers.specs.Area.{refusedAt, told, done, Entered};
 ghost use Rattle.answers.specs.Area as answering;
-ghost use Rattle.circuit.specs.Check.{numbersOf};
-ghost use Rattle.search.specs.Search.{verdictNumbers};
-ghost use Rattle.search.specs.Search as searching;
+ghost use Rattle.circuit.specs.Promise.{numbersOf};
+ghost use Rattle.search.specs.Promise.{verdictNumbers};
+ghost use Rattle.search.specs.Promise as searching;
 ghost use Rattle.clauses.specs.Promise as writing;
-ghost use Rattle.bench.specs.Bench as reading;
+ghost use Rattle.bench.specs.Promise as reading;
 ghost use Rattle.entries.specs.Entries.{numbersIn, checkNumbers, Made, Compacted, Found, Laid, Taken};
 
 // The size of the answer area, and the refusal of any other.
@@ -149,7 +148,8 @@ pub extern "C" fn ullimaqsu_dictionary(
     work: &mut [u8],
     answer: &mut [u8],
 ) -> u32
-    ensures { λ r. ⌜ Made (now (circuit .entry)) (now (faults .entry)) (now (patterns .entry)) (now (table .entry)) (now (work .entry)) (now (answer .entry)) r (now (table .exit)) (now (work .exit)) (now (answer .exit)) ⌝ }
+    ensures { λ r. ⌜ Made (now (circuit .entry)) (now (faults .entry)) (now (patterns .entry)) (now (table .entry)) (now (work .entry)) (now (answer .entry))
+        r (now (table .exit)) (now (work .exit)) (now (answer .exit)) ⌝ }
 {
     if answer.len() != AREA {
         return OTHER_SIZE;
@@ -184,7 +184,8 @@ pub extern "C" fn ullimaqsu_search(
     work: &mut [u8],
     answer: &mut [u8],
 ) -> u32
-    ensures { λ r. ⌜ Found (now (circuit .entry)) (now (fault .entry)) budget (now (test .entry)) (now (work .entry)) (now (answer .entry)) r (now (test .exit)) (now (work .exit)) (now (answer .exit)) ⌝ }
+    ensures { λ r. ⌜ Found (now (circuit .entry)) (now (fault .entry)) budget (now (test .entry)) (now (work .entry)) (now (answer .entry))
+        r (now (test .exit)) (now (work .exit)) (now (answer .exit)) ⌝ }
 {
     if answer.len() != AREA {
         return OTHER_SIZE;

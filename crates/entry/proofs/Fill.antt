@@ -6,7 +6,6 @@ use mathlib.Core.Bool.{Bool, true, false}
 use mathlib.Core.List.{List}
 use Prim.Native.Nat.{ℕ, _<_}
 use native.Mathlib.Decide.{ℕ-discrete}
-use native.Mathlib.Nat.{le-refl}
 use native.Mathlib.Omega.{arith}
 use lib.ListN.{length, getD}
 use Rattle.ground.specs.Choose.{choose}
@@ -20,7 +19,8 @@ use Rattle.simulate.specs.Vectors.{NoX}
 use Rattle.simulate.specs.Work.{goodOf, faultyOf}
 use Rattle.simulate.proofs.Mono.{RefinesAll, unforced-mono, stuck-mono, values-mono}
 use Rattle.simulate.proofs.Known.{unforced-keeps, stuck-keeps, values-known}
-use Rattle.entry.specs.Entry.{pass, fail, unknown, Test, agree, differ, someOutput, everyOutput, entryBy, entryOf, entryAt}
+use Rattle.tables.specs.Entries.{pass, fail, unknown}
+use Rattle.entry.specs.Entry.{Test, agree, differ, someOutput, everyOutput, entryBy, entryOf, entryAt}
 use Rattle.entry.specs.Words.{Differ, Agree, SomeOutput, EntryBy}
 use Rattle.entry.proofs.Words.{agree-says, fail-some, pass-every, entry-words, entry-says}
 
@@ -97,6 +97,6 @@ module _ (fault : Fault) (c p : List ℕ) (n : ℕ) where
   entry-decided small well full =
       known-decided agree Agree agree-says (λ a b d e. d .differ (e .equal)) (λ a b h. h) c (goodOf c p n) (faultyOf fault c p n) n
       (λ k l. (
-        values-known unforced unforced-keeps c p n well full n (le-refl n) k l,
-        values-known (stuckAt fault) (stuck-keeps fault small) c p n well full n (le-refl n) k l,
+        values-known unforced unforced-keeps c p n well full k,
+        values-known (stuckAt fault) (stuck-keeps fault small) c p n well full k,
       ))

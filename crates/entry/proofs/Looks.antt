@@ -5,11 +5,11 @@ use mathlib.Core.List.{List, _++_}
 use Prim.Native.Nat.{ℕ, _+_}
 use lib.ListN.{length, take, drop}
 use lib.Seq.{take-at, drop-at}
+use Rattle.ground.proofs.Grow.{grow-length}
 use Rattle.lists.specs.declared.Fault.{Fault}
-use Rattle.simulate.specs.Simulate.{unforced}
+use Rattle.simulate.specs.Simulate.{unforced, lineValue}
 use Rattle.simulate.specs.Work.{goodOf, faultyOf, bothOf}
 use Rattle.simulate.specs.Owed.{AddsFaulty}
-use Rattle.simulate.proofs.Values.{values-length}
 use Rattle.entry.specs.Entry.{entryOf, entryAt}
 use Rattle.entry.specs.Owed.{Looked, LooksFrom}
 
@@ -20,7 +20,7 @@ pub looks : (fault : Fault) (c : List ℕ) (n : ℕ) (w w′ : List ℕ) {r : �
 unfolding entryAt
 looks fault c n w w′ adds e p good =
     let all : w′ ≡ bothOf fault c p n = adds p good in
-    let long : length (goodOf c p n) ≡ n = values-length unforced c p n in
+    let long : length (goodOf c p n) ≡ n = grow-length (lineValue unforced c p) n in
     record {
       entry-is = e ∙ rw (all, take-at (goodOf c p n) (faultyOf fault c p n) n long, drop-at (goodOf c p n) (faultyOf fault c p n) n long);
       work-is = all;
@@ -31,4 +31,4 @@ pub looked : (fault : Fault) (c p : List ℕ) (n : ℕ) (w x w′ : List ℕ) {r
     → w ≡ goodOf c p n ++ x
     → LooksFrom fault c n w w′ r
     → Looked fault c p n w′ r
-looked fault c p n w x w′ e l = l p (ap (take n) e ∙ take-at (goodOf c p n) x n (values-length unforced c p n))
+looked fault c p n w x w′ e l = l p (ap (take n) e ∙ take-at (goodOf c p n) x n (grow-length (lineValue unforced c p) n))

@@ -11,7 +11,8 @@ use lib.Seq.{getD-take, getD-drop}
 use Rattle.ground.specs.Choose.{choose}
 use Rattle.ground.proofs.Below.{any-some}
 use Rattle.circuit.specs.Record.{outAt, isOutput}
-use Rattle.entry.specs.Entry.{pass, fail, unknown, Test, differ, someOutput, everyOutput, entryBy}
+use Rattle.tables.specs.Entries.{pass, fail, unknown}
+use Rattle.entry.specs.Entry.{Test, differ, someOutput, everyOutput, entryBy}
 use Rattle.entry.specs.Owed.{statusBy, joinedOf}
 
 -- a choice by two tests, read backwards

@@ -14,7 +14,8 @@ use Rattle.ground.proofs.Below.{at-below, every-all, any-some, some-any}
 use Rattle.answers.specs.Rules.{Same}
 use Rattle.answers.proofs.Same.{lt-same, eq-same, and-same, never-same}
 use Rattle.circuit.specs.Record.{isOutput}
-use Rattle.entry.specs.Entry.{pass, fail, unknown, Test, differ, agree, someOutput, everyOutput, entryBy, entryOf}
+use Rattle.tables.specs.Entries.{pass, fail, unknown}
+use Rattle.entry.specs.Entry.{Test, differ, agree, someOutput, everyOutput, entryBy, entryOf}
 use Rattle.entry.specs.Words.{Differ, Agree, SomeOutput, EveryOutput, Chosen, EntryBy, Entry}
 
 -- ---- the two tests

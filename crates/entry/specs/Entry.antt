@@ -11,15 +11,7 @@ use Rattle.gates.specs.Gate.{known}
 use Rattle.circuit.specs.Record.{isOutput}
 use Rattle.lists.specs.declared.Fault.{Fault}
 use Rattle.simulate.specs.Work.{goodOf, faultyOf}
-
-abbrev pub pass : ℕ
-pass = 0
-
-abbrev pub fail : ℕ
-fail = 1
-
-abbrev pub unknown : ℕ
-unknown = 2
+use Rattle.tables.specs.Entries.{pass, fail, unknown}
 
 -- a test of a line's good and faulty value
 abbrev pub Test : Type 0

@@ -10,7 +10,8 @@ use Rattle.ground.specs.Choose.{choose}
 use Rattle.lists.specs.declared.Fault.{Fault}
 use Rattle.simulate.specs.Work.{goodOf, bothOf}
 use Rattle.simulate.specs.Owed.{Room}
-use Rattle.entry.specs.Entry.{pass, fail, unknown, Test, differ, agree, entryAt}
+use Rattle.tables.specs.Entries.{pass, fail, unknown}
+use Rattle.entry.specs.Entry.{Test, differ, agree, entryAt}
 
 -- what one line says: fail, it is an output and its values differ; pass, it is none or its values pass the test; unknown, neither
 unfoldable pub statusBy : Test → ℕ → ℕ → ℕ → ℕ

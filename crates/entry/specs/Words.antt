@@ -5,7 +5,7 @@ use mathlib.Core.List.{List}
 use Prim.Native.Nat.{ℕ, _<_}
 use lib.ListN.{getD}
 use Rattle.circuit.specs.Record.{outAt}
-use Rattle.entry.specs.Entry.{pass, fail, unknown}
+use Rattle.tables.specs.Entries.{pass, fail, unknown}
 
 -- both circuits have known values, and these differ
 pub record Differ (a b : ℕ) : Type 0 where

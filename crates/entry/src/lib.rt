@@ -2,17 +2,14 @@
 use lists::Fault;
 use simulate::faulty_values;
 use simulate::good_values;
+use tables::FAIL;
+use tables::PASS;
+use tables::UNKNOWN;
 ghost use mathlib.Core.Path.{_≡_};
 ghost use lib.ListN.{length, take, drop};
 ghost use Rattle.simulate.specs.Owed.{FaultRoom};
 ghost use Rattle.entry.specs.Entry.{entryOf};
 ghost use Rattle.entry.specs.Owed.{statusOf, joinedOf, Halves, Ready, Looked, LooksFrom};
-
-pub const PASS: u8 = 0;
-
-pub const FAIL: u8 = 1;
-
-pub const UNKNOWN: u8 = 2;
 
 // What one line says, by its output byte and its good and faulty value.
 fn status(out: u8, a: u8, b: u8) -> u8

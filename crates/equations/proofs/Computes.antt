@@ -11,7 +11,7 @@ use Rattle.answers.proofs.Rules.{all-hold}
 use Rattle.gates.specs.Gate.{gateOf}
 use Rattle.gates.specs.Boolean.{boolGate}
 use Rattle.circuit.specs.declared.Checked.the-variants.{Accepted}
-use Rattle.circuit.specs.Check.{circuitRules, checkOf}
+use Rattle.circuit.specs.Promise.{circuitRules, checkOf}
 use Rattle.simulate.specs.Work.{goodOf}
 use Rattle.simulate.specs.Boolean.{Vector, good, truthAt}
 use Rattle.syntax.proofs.Says.{right-text}
@@ -19,11 +19,12 @@ use Rattle.statements.specs.Tables.{inputsIn}
 use Rattle.names.specs.Names.{nameRules}
 use Rattle.records.specs.Net.{sizeOf, lineOf}
 use Rattle.netlist.specs.Solved.{Solved, Right}
-use Rattle.netlist.specs.Sizes.{sizeRules}
-use Rattle.netlist.proofs.Sizes.{sizes-say, net-refusal, net-accepted}
+use Rattle.netlist.proofs.Sizes.{net-says, net-refusal, net-accepted}
+use Rattle.netlist.specs.Sizes.{netSizes}
+use Rattle.circuit.specs.Sizes.{sizeRules}
 use Rattle.netlist.proofs.Values.{solution3, unique3, solution2, unique2}
 use Rattle.bench.specs.Text.{formsIn, defsIn, usesIn, netIn}
-use Rattle.bench.specs.Bench.{benchRules, recordsIn}
+use Rattle.bench.specs.Promise.{benchRules, recordsIn}
 use Rattle.equations.specs.Numbers.{nameOf, numberOf, lineFor}
 use Rattle.equations.specs.Computes.{sizeIn, outputsIn, OneSolution, Computes}
 use Rattle.equations.proofs.Tables.{inputs-are}
@@ -58,7 +59,7 @@ pub record Sized (t : List ℕ) : Type 0 where
 pub sized : (t : List ℕ) → Right (netIn t) → refusal (circuitRules (recordsIn t)) ≡ Fine → Sized t
 unfolding sizeRules AllHold
 sized t r e =
-    let a = all-hold (sizeRules (netIn t)) (sizes-say (netIn t)) (sym (net-refusal (netIn t) r) ∙ e) in
+    let a = all-hold (netSizes (netIn t)) (net-says (netIn t) r) (sym (net-refusal (netIn t) r) ∙ e) in
     record { some = a .0 .0; few = a .0 .1; inputs = a .1 .0; outputs = a .1 .1 .0 }
 
 pub parts-right : {t : List ℕ} {room : ℕ} → Parts t room → Right (netIn t)

@@ -4,17 +4,19 @@ use mathlib.Core.Path.{_≡_, refl, sym, ap, _∙_, subst}
 use mathlib.Core.Logic.{_↔_}
 use mathlib.Core.List.{List}
 use Prim.Native.Nat.{ℕ, _*_}
-use native.Mathlib.Omega.{arith}
 use lib.ListN.{length, take, drop}
 use lib.Seq.{take-at}
 use Rattle.answers.specs.declared.Ruling.{Ruling}
+use Rattle.answers.specs.Answer.{answered}
+use Rattle.answers.proofs.Answer.{was-ruled}
 use Rattle.answers.specs.Rules.{refusal, unless}
 use Rattle.circuit.specs.Record.{linesOf}
 use Rattle.netlist.proofs.Fields.{net-long, net-lines}
 use Rattle.bench.specs.declared.Read.{Read}
 use Rattle.bench.specs.declared.Read.the-variants.{Records, Refused}
 use Rattle.bench.specs.Text.{netIn}
-use Rattle.bench.specs.Bench.{bufferBytes, benchRules, answered, recordsIn, readOf, laidOn, Reads}
+use Rattle.bench.specs.Promise.{bufferBytes, benchRules, recordsIn, readOf, laidOn, Reads}
+use Rattle.bench.proofs.Says.{rulingOf, ruled}
 use Rattle.equations.specs.Right.{TextCycle}
 use Rattle.equations.specs.Placing.{FirstLeft}
 use Rattle.equations.specs.Computes.{sizeIn, Acceptable, Computes}
@@ -23,26 +25,20 @@ use Rattle.equations.proofs.Computes.{computes}
 use Rattle.equations.proofs.Accepted.{accepted}
 use Rattle.equations.proofs.Sixteen.{sixteen, sixteen-place}
 
--- ---- the answer is the ruling's
-
-fine-answer : (v : Ruling) (n : ℕ) {m : ℕ} → Records m ≡ answered v n → v ≡ Ruling.Fine
-fine-answer Ruling.Fine n e = refl
-fine-answer (Ruling.Refused i k) n e = let z : _≡_ {A = ℕ} 0 1 = cc in absurd (omega arith)
-
-refused-answer : (v : Ruling) (n : ℕ) {i k : ℕ} → Refused i k ≡ answered v n → v ≡ Ruling.Refused i k
-refused-answer Ruling.Fine n e = let z : _≡_ {A = ℕ} 0 1 = cc in absurd (omega arith)
-refused-answer (Ruling.Refused j l) n e = cc
-
 lines-are : (t : List ℕ) → linesOf (recordsIn t) ≡ sizeIn t
 lines-are t = net-lines (netIn t) ∙ size-is t
+
+-- the answer by the ruling
+given-by : (t : List ℕ) {v w : Ruling} → v ≡ w → answered Refused v (Records (linesOf (recordsIn t))) ≡ answered Refused w (Records (linesOf (recordsIn t)))
+given-by t = ap (λ (v : Ruling). answered Refused v (Records (linesOf (recordsIn t))))
 
 module _ {t c c′ : List ℕ} where
   -- the records are those of a circuit that computes what the text says, as many as answered
   pub read-computes : {n : ℕ} → Reads t c c′ (Records n) → (n ≡ sizeIn t) × Computes t (take (8 * n) c′)
   unfolding readOf
   read-computes {n} p =
-      let e = fine-answer (refusal (benchRules t (length c))) (linesOf (recordsIn t)) (p .answer) in
-      let a : Records n ≡ Records (linesOf (recordsIn t)) = p .answer ∙ ap (λ (v : Ruling). answered v (linesOf (recordsIn t))) e in
+      let e : refusal (benchRules t (length c)) ≡ Ruling.Fine = was-ruled (ruled (linesOf (recordsIn t))) (p .answer) refl in
+      let a : Records n ≡ Records (linesOf (recordsIn t)) = p .answer ∙ given-by t e in
       let m : n ≡ sizeIn t = cc (a, lines-are t) in
       let laid : c′ ≡ laidOn c (recordsIn t) = p .circuit ∙ ap (λ (v : Ruling). unless v c (laidOn c (recordsIn t))) e in
       let long : length (recordsIn t) ≡ 8 * n = net-long (netIn t) ∙ ap (λ (k : ℕ). 8 * k) (size-is t ∙ sym m) in (
@@ -56,18 +52,18 @@ module _ {t c c′ : List ℕ} where
     unfolding readOf
     read-accepts a e =
         p .answer
-        ∙ ap (λ (v : Ruling). answered v (linesOf (recordsIn t))) (ap (λ (n : ℕ). refusal (benchRules t n)) e ∙ accepted t a)
+        ∙ given-by t (ap (λ (n : ℕ). refusal (benchRules t n)) e ∙ accepted t a)
         ∙ ap Records (lines-are t)
 
     given : {m k : ℕ} → refusal (benchRules t (length c)) ≡ Ruling.Refused m k → r ≡ Refused m k
     unfolding readOf
-    given e = p .answer ∙ ap (λ (v : Ruling). answered v (linesOf (recordsIn t))) e
+    given e = p .answer ∙ given-by t e
 
     -- without 14 or 15, 16 is given exactly if the text has a cycle
     module _ (a : (k : ℕ) → r ≡ Refused 14 k → ⊥) (b : (k : ℕ) → r ≡ Refused 15 k → ⊥) where
       refused : {m k : ℕ} → r ≡ Refused m k → refusal (benchRules t (length c)) ≡ Ruling.Refused m k
       unfolding readOf
-      refused e = refused-answer (refusal (benchRules t (length c))) (linesOf (recordsIn t)) (sym e ∙ p .answer)
+      refused e = was-ruled (ruled (linesOf (recordsIn t))) (p .answer) (ap rulingOf e)
 
       pub read-sixteen : ((k : ℕ) × (r ≡ Refused 16 k)) ↔ TextCycle t
       read-sixteen =

@@ -2,14 +2,15 @@
 -- Assumes nothing.
 use mathlib.Core.Path.{_≡_, refl, sym, ap, _∙_}
 use mathlib.Core.Logic.{_↔_}
-use mathlib.Core.List.{List}
+use mathlib.Core.List.{List, _++_}
 use Prim.Native.Nat.{ℕ}
 use native.Mathlib.Omega.{arith}
 use Rattle.answers.specs.declared.Ruling.{Ruling}
 use Rattle.answers.specs.declared.Ruling.the-variants.{Fine, Refused}
 use Rattle.answers.specs.Rules.{refusal}
 use Rattle.answers.proofs.Rules.{after-refused, after-fine}
-use Rattle.circuit.specs.Check.{layoutRules, countRules}
+use Rattle.circuit.specs.Promise.{circuitRules}
+use Rattle.circuit.proofs.Sizes.{refused-small}
 use Rattle.syntax.specs.Syntax.{syntaxRules}
 use Rattle.syntax.proofs.Says.{right-text}
 use Rattle.names.specs.Names.{nameRules}
@@ -17,12 +18,12 @@ use Rattle.order.specs.Order.{cycleRules}
 use Rattle.order.proofs.Says.{refused-left, left-refused}
 use Rattle.order.proofs.Cycle.{cycle-refused, refused-cycle}
 use Rattle.bench.specs.Text.{defsIn, usesIn, netIn}
-use Rattle.bench.specs.Bench.{bufferRules, recordRules, netRules, benchRules, recordsIn}
+use Rattle.bench.specs.Promise.{bufferRules, recordRules, netRules, benchRules, recordsIn}
 use Rattle.equations.specs.Right.{TextCycle}
 use Rattle.equations.specs.Placing.{FirstLeft}
 use Rattle.equations.proofs.Cycles.{net-cycle, text-cycle}
 use Rattle.equations.proofs.InOrder as placing
-use Rattle.equations.proofs.Parts.{refused-number}
+use Rattle.answers.proofs.Numbers.{refused-number}
 
 syntax-14 : (t : List ℕ) {m k : ℕ} → refusal (syntaxRules t) ≡ Refused m k → m ≡ 14
 unfolding syntaxRules
@@ -33,10 +34,18 @@ unfolding nameRules
 names-15 t = refused-number (λ m. m ≡ 15) (nameRules t (defsIn t) (usesIn t)) (refl, tt)
 
 records-not-16 : (c : List ℕ) (room : ℕ) {m k : ℕ} → refusal (recordRules c room) ≡ Refused m k → m ≡ 16 → ⊥
-unfolding layoutRules countRules bufferRules
-records-not-16 c room =
-    refused-number (λ m. m ≡ 16 → ⊥) (recordRules c room)
-    (λ e. omega arith, (λ e. omega arith, (λ e. omega arith, (λ e. omega arith, (λ e. omega arith, (λ e. omega arith, tt))))))
+unfolding bufferRules
+records-not-16 c room {m} {k} e = go (refusal (circuitRules c)) refl e
+  where
+    ten : refusal (bufferRules room) ≡ Refused m k → m ≡ 10
+    ten = refused-number (λ m. m ≡ 10) (bufferRules room) (refl, tt)
+
+    go : (v : Ruling) → refusal (circuitRules c) ≡ v → refusal (circuitRules c ++ bufferRules room) ≡ Refused m k → m ≡ 16 → ⊥
+    go Fine q f s = omega (arith, ten (sym (after-fine (circuitRules c) (bufferRules room) q) ∙ f))
+    go (Refused x y) q f s =
+        let given : Refused x y ≡ Refused m k = sym (after-refused (circuitRules c) (bufferRules room) q) ∙ f in
+        let number : x ≡ m = cc in
+        omega (arith, refused-small c q)
 
 module _ (t : List ℕ) (room : ℕ) where
   -- a number is not given

@@ -14,8 +14,9 @@ use Rattle.ground.specs.Choose.{choose}
 use Rattle.ground.specs.Below.{countBelow}
 use Rattle.ground.specs.Lists.{collect}
 use Rattle.ground.proofs.Counting.{count-below}
+use Rattle.ground.proofs.Counting as counting
 use Rattle.ground.proofs.Lists.{collect-length}
-use Rattle.ground.proofs.Collect.{collect-get, collect-from}
+use Rattle.ground.proofs.Collect.{collect-get}
 use Rattle.words.specs.Words.{wordAt, wordsOf, endsOf}
 use Rattle.syntax.specs.Kinds.{kindOf}
 use Rattle.statements.specs.Lines.{wordIn}
@@ -47,7 +48,7 @@ pub record Nth (test : List ℕ → ℕ → Bool) (t : List ℕ) (j : ℕ) : Typ
 
 pub nth : (test : List ℕ → ℕ → Bool) (t : List ℕ) {j : ℕ} → j < placeOf test t (linesIn t) → Nth test t j
 nth test t {j} l =
-    let w = collect-from (test (formsIn t)) (λ k. k) (linesIn t) j l in
+    let w = counting.nth (test (formsIn t)) (linesIn t) j l in
     record { place = w .place; line = record { inside = w .below; passes = w .passes }; before = w .before }
 
 pub map-get : (f : ℕ → ℕ) (l : List ℕ) (k : ℕ) → k < length l → getD (map f l) k 0 ≡ f (getD l k 0)

@@ -12,7 +12,7 @@ use Rattle.gates.specs.Gate.{pinsOf, gateOf}
 use Rattle.gates.specs.Boolean.{boolGate}
 use Rattle.circuit.specs.declared.Checked.the-variants.{Accepted}
 use Rattle.circuit.specs.Record as record-of
-use Rattle.circuit.specs.Check.{checkOf}
+use Rattle.circuit.specs.Promise.{checkOf}
 use Rattle.simulate.specs.Work.{goodOf}
 use Rattle.simulate.specs.Boolean.{Vector, good, truthAt}
 use Rattle.words.specs.Words.{same}

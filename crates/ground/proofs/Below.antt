@@ -18,6 +18,13 @@ use Rattle.ground.proofs.Tests.{same-test, one-or}
 
 -- ---- at each
 
+-- what holds at a number wherever it holds at those below it
+pub each-below : (P : ℕ → Type 0) (n : ℕ) → ((k : ℕ) → k < n → ((j : ℕ) → j < k → P j) → P k) → (k : ℕ) → k < n → P k
+each-below P zero step k l = absurd (not-suc-le-zero l)
+each-below P (suc n) step k l =
+    let below = each-below P n (λ i h. step i (omega arith)) in
+    ⊎-elim (λ (e : k ≡ n). rw e (step n (omega arith) below)) (below k) (eq-or-lt-of-le (le-of-suc-le-suc l))
+
 -- a test that antt computes over all numbers below n holds at each of them
 pub at-below : (n : ℕ) (t : ℕ → Bool) → T (allBelow n t) → (k : ℕ) → k < n → T (t k)
 at-below zero t h k l = absurd (not-suc-le-zero l)

@@ -77,6 +77,25 @@ unfolding countBelow
 count-either zero t u h = refl
 count-either (suc n) t u h = omega (arith, count-either n t u h, one-either (t n) (u n) (h n))
 
+-- the number that passes before which j others do
+pub record Nth (t : ℕ → Bool) (n j : ℕ) : Type 0 where
+  pub place : ℕ
+  pub below : place < n
+  pub passes : t place ≡ true
+  pub before : countBelow place t ≡ j
+
+pub nth : (t : ℕ → Bool) (n j : ℕ) → j < countBelow n t → Nth t n j
+unfolding countBelow
+nth t zero j l = absurd (not-suc-le-zero l)
+nth t (suc n) j l = go (ℕ-discrete (countBelow n t) j) (t n) refl l (nth t n j)
+  where
+    go : Dec (countBelow n t ≡ j) → (b : Bool) → t n ≡ b → j < countBelow n t + one b → (j < countBelow n t → Nth t n j) → Nth t (suc n) j
+    go (yes q) true e l ih = record { place = n; below = omega arith; passes = e; before = q }
+    go (yes q) false e l ih = absurd (omega arith)
+    go (no q) b e l ih =
+        let w = ih (omega (arith, one-most b)) in
+        record { place = w .place; below = omega (arith, w .below); passes = w .passes; before = w .before }
+
 -- at some place is: not at none
 pub any-count : (n : ℕ) (t : ℕ → Bool) → anyBelow n t ≡ not (eqb (countBelow n t) 0)
 unfolding countBelow

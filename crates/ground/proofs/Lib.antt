@@ -6,6 +6,8 @@ pub mod Put
 pub mod Filled
 pub mod Map
 pub mod Lists
+pub mod Grow
+pub mod Gather
 pub mod Collect
 pub mod Elem
 pub mod Related

@@ -2,19 +2,19 @@
 -- Assumes nothing.
 use mathlib.Core.Path.{_≡_, refl, sym, ap, _∙_}
 use mathlib.Core.Bool.{Bool, true, false, _||_, or-true, or-false, or-assoc, false≢true}
-use mathlib.Core.List.{List, [], _∷_, _++_}
-use Prim.Native.Nat.{ℕ, zero, suc, _+_, _≤_, _<_}
+use mathlib.Core.List.{List, [], _∷_, _++_, append-nil}
+use Prim.Native.Nat.{ℕ, zero, suc, _+_, _<_}
 use native.Mathlib.Decide.{ℕ-discrete}
 use native.Mathlib.Nat.{le-of-suc-le-suc, not-suc-le-zero}
 use native.Mathlib.Numerals.{add-one}
 use native.Mathlib.Omega.{arith}
 use lib.Dec.{eqb}
-use lib.ListN.{length, getD, take, set, length-append, List·getD-append}
-use lib.Seq.{take-suc-set, take-set-le, take-all, getD-at}
+use lib.ListN.{length, getD, take, set, length-append}
+use lib.Seq.{take-suc-set, take-set-le}
 use borrow.Author.Tests.{eq-eqb, ne-eqb}
 use Rattle.ground.specs.Choose.{choose, one}
 use Rattle.ground.specs.Below.{countBelow}
-use Rattle.ground.specs.Lists.{elem, indexIn, collect, table}
+use Rattle.ground.specs.Lists.{elem, indexIn, collect}
 use Rattle.ground.proofs.Tests.{neither}
 
 -- ---- one element more
@@ -63,12 +63,11 @@ index-at (y ∷ l) (suc i) h e =
 pub collect-length : (test : ℕ → Bool) (f : ℕ → ℕ) (n : ℕ) → length (collect test f n) ≡ countBelow n test
 unfolding collect countBelow
 collect-length test f zero = refl
-collect-length test f (suc n) = go (test n) (collect-length test f n)
+collect-length test f (suc n) = length-append (collect test f n) _ ∙ rw (collect-length test f n, long (test n))
   where
-    go : (b : Bool) → length (collect test f n) ≡ countBelow n test
-        → length (choose b (collect test f n ++ (f n ∷ [])) (collect test f n)) ≡ countBelow n test + one b
-    go true ih = length-append (collect test f n) (f n ∷ []) ∙ ap (λ (x : ℕ). x + 1) ih
-    go false ih = omega (arith, ih)
+    long : (b : Bool) → length (choose b (f n ∷ []) []) ≡ one b
+    long true = refl
+    long false = refl
 
 -- a loop has looked at the numbers below k and written d of them to the front of out
 pub record Collected (test : ℕ → Bool) (f : ℕ → ℕ) (out : List ℕ) (d k : ℕ) : Type 0 where
@@ -88,43 +87,9 @@ collected-more {test} {f} {out} {d} {k} s room x e = record {
   are = go (test k) refl;
 }
   where
-    go : (b : Bool) → test k ≡ b → take (d + one b) (set out d x) ≡ choose b (collect test f k ++ (f k ∷ [])) (collect test f k)
+    go : (b : Bool) → test k ≡ b → take (d + one b) (set out d x) ≡ collect test f k ++ choose b (f k ∷ []) []
     go true q =
         rw (add-one d) (take-suc-set out d x room)
         ∙ ap (λ (l : List ℕ). l ++ (x ∷ [])) (s .are)
         ∙ ap (λ (y : ℕ). collect test f k ++ (y ∷ [])) (e q)
-    go false q = let z : d + 0 ≡ d = omega arith in rw z (take-set-le d out d x (omega arith)) ∙ s .are
-
--- ---- tables
-
-pub table-length : (f : ℕ → ℕ) (n : ℕ) → length (table f n) ≡ n
-unfolding table
-table-length f zero = refl
-table-length f (suc n) = length-append (table f n) (f n ∷ []) ∙ omega (arith, table-length f n)
-
-pub table-get : (f : ℕ → ℕ) (n k : ℕ) → k < n → getD (table f n) k 0 ≡ f k
-unfolding table
-table-get f (suc n) k l = go (ℕ-discrete (length (table f n)) k) (table-get f n k)
-  where
-    go : Dec (length (table f n) ≡ k) → (k < n → getD (table f n) k 0 ≡ f k) → getD (table f n ++ (f n ∷ [])) k 0 ≡ f k
-    go (yes e) ih = getD-at (table f n) (f n) [] 0 k e ∙ ap f (sym (table-length f n) ∙ e)
-    go (no e) ih =
-        let m : k < length (table f n) = omega (arith, table-length f n) in
-        List·getD-append (table f n) (f n ∷ []) 0 k m ∙ ih (omega (arith, table-length f n))
-
--- a loop has written the first k
-pub record Tabled (f : ℕ → ℕ) (out : List ℕ) (k : ℕ) : Type 0 where
-  pub are : take k out ≡ table f k
-
-pub tabled-none : (f : ℕ → ℕ) (out : List ℕ) → Tabled f out 0
-unfolding table
-tabled-none f out = record { are = refl }
-
-pub tabled-more : {f : ℕ → ℕ} {out : List ℕ} {k : ℕ} → Tabled f out k → k < length out → (x : ℕ) → x ≡ f k → Tabled f (set out k x) (suc k)
-unfolding table
-tabled-more {f} {out} {k} s l x q = record {
-  are = take-suc-set out k x l ∙ ap (λ (m : List ℕ). m ++ (x ∷ [])) (s .are) ∙ ap (λ (y : ℕ). table f k ++ (y ∷ [])) q;
-}
-
-pub tabled-all : {f : ℕ → ℕ} {out : List ℕ} {k : ℕ} → Tabled f out k → length out ≤ k → out ≡ table f k
-tabled-all {f} {out} {k} s l = sym (take-all k out l) ∙ s .are
+    go false q = let z : d + 0 ≡ d = omega arith in rw (z, append-nil) (take-set-le d out d x (omega arith) ∙ s .are)

@@ -17,8 +17,9 @@ use Rattle.ground.specs.Put.{Put}
 use Rattle.cnf.specs.Write.{Variable, GateRoom}
 use Rattle.ground.proofs.Put.{put-as}
 use Rattle.cnf.proofs.Gate.{gate-sites, no-clauses}
-use Rattle.line_clauses.specs.Clauses.{goodVar, isAt, faultySite, goodClauses, faultyClauses, differenceClauses}
-use Rattle.line_clauses.specs.Inside.{Line, GateLine}
+use Rattle.lists.specs.Faults.{isAt}
+use Rattle.line_clauses.specs.Clauses.{goodVar, faultySite, goodClauses, faultyClauses, differenceClauses}
+use Rattle.line_clauses.specs.Owed.{Line, GateLine}
 
 -- ---- what is known of a line
 

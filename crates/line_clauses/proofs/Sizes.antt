@@ -12,11 +12,12 @@ use Rattle.circuit.specs.Record.{kindAt, isInput}
 use Rattle.lists.specs.declared.Fault.{Fault}
 use Rattle.cnf.specs.declared.Size.{Size}
 use Rattle.cnf.specs.Cnf.{Clauses}
-use Rattle.cnf.specs.Table.{table, gateClauses, sites}
+use Rattle.cnf.specs.Table.{table, gateClauses}
 use Rattle.cnf.specs.Write.{sizeOf, Takes}
 use Rattle.cnf.proofs.Sizes.{size-append, gate-size, gate-length, few}
-use Rattle.line_clauses.specs.Clauses.{isAt, faultySite, goodVar, faultyVar, stuckVar, goodClauses, faultyClauses}
-use Rattle.line_clauses.specs.Inside.{faultyKind, LineTakes}
+use Rattle.lists.specs.Faults.{isAt}
+use Rattle.line_clauses.specs.Clauses.{faultySite, goodVar, faultyVar, stuckVar, bufferClauses, goodClauses, faultyClauses}
+use Rattle.line_clauses.specs.Owed.{faultyKind, LineTakes}
 
 -- clauses that take what a row of the table does
 record Row (kind : ℕ) (cs : Clauses) : Type 0 where
@@ -34,7 +35,12 @@ faulty-row : (c : List ℕ) (f : Fault) (n k : ℕ) → Row (faultyKind c f k) (
 unfolding faultyClauses faultyKind
 faulty-row c f n k = go (isAt f k 0) (isInput c k)
   where
-    go : (s t : Bool) → Row (choose s 1 (choose t 1 (kindAt c k))) (choose s (gateClauses 1 (sites (faultyVar k) (stuckVar n) (stuckVar n))) (choose t (gateClauses 1 (sites (faultyVar k) (goodVar k) (goodVar k))) (gateClauses (kindAt c k) (faultySite c f n k))))
+    -- by whether the line is stuck itself, and is an input
+    go : (s t : Bool)
+        → Row (choose s 1 (choose t 1 (kindAt c k)))
+        (choose s (bufferClauses (faultyVar k) (stuckVar n))
+        (choose t (bufferClauses (faultyVar k) (goodVar k))
+        (gateClauses (kindAt c k) (faultySite c f n k))))
     go true t = row 1 _
     go false true = row 1 _
     go false false = row (kindAt c k) _

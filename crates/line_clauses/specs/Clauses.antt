@@ -1,6 +1,5 @@
 -- The clauses of a circuit of n lines and a fault, in the paper's order.
 -- Assumes nothing.
-use mathlib.Core.Bool.{Bool, _&&_}
 use mathlib.Core.List.{List, [], _∷_, _++_}
 use Prim.Native.Nat.{ℕ, _+_, _*_}
 use lib.Dec.{eqb}
@@ -8,7 +7,8 @@ use lib.IntN.{ℤ, pos, negℤ}
 use Rattle.ground.specs.Choose.{choose}
 use Rattle.circuit.specs.Record.{kindAt, pinAt, isInput, isOutput, outputsBefore}
 use Rattle.lists.specs.declared.Fault.{Fault}
-use Rattle.cnf.specs.Lists.{gather}
+use Rattle.lists.specs.Faults.{isAt}
+use Rattle.ground.specs.Lists.{gather}
 use Rattle.cnf.specs.Cnf.{Clauses}
 use Rattle.cnf.specs.Table.{gateClauses, sites}
 
@@ -45,10 +45,6 @@ abbrev pub stuckLiteral : Fault → ℕ → ℤ
 stuckLiteral f n = choose (eqb (f .value) 1) (pos (stuckVar n)) (negℤ (pos (stuckVar n)))
 
 -- ---- faulty lines
-
--- the fault is at site s of line k
-unfoldable pub isAt : Fault → ℕ → ℕ → Bool
-isAt f k s = eqb k (f .line) && eqb s (f .site)
 
 -- a gate with a stuck pin reads the stuck value at that pin
 unfoldable pub faultySite : List ℕ → Fault → ℕ → ℕ → ℕ → ℕ

@@ -1,2 +1,2 @@
 pub mod Clauses
-pub mod Inside
+pub mod Owed

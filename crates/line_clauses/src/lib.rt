@@ -10,8 +10,9 @@ ghost use Prim.Native.Nat.{_≤_};
 ghost use Rattle.gates.specs.Gate.{lastKind};
 ghost use Rattle.cnf.specs.Cnf.{wordsOf};
 ghost use Rattle.ground.specs.Put.{Put};
-ghost use Rattle.line_clauses.specs.Clauses.{isAt, faultySite, goodClauses, faultyClauses, differenceClauses};
-ghost use Rattle.line_clauses.specs.Inside.{Line, GateLine, faultyKind, LineTakes, LineRoom, DifferenceRoom};
+ghost use Rattle.lists.specs.Faults.{isAt};
+ghost use Rattle.line_clauses.specs.Clauses.{faultySite, goodClauses, faultyClauses, differenceClauses};
+ghost use Rattle.line_clauses.specs.Owed.{Line, GateLine, faultyKind, LineTakes, LineRoom, DifferenceRoom};
 
 // The fault is at site s of line k.
 fn is_at(fault: Fault, k: usize, s: u8) -> bool

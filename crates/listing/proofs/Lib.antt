@@ -1,4 +1,3 @@
-pub mod Digits
 pub mod Pieces
 pub mod Lines
 pub mod Small

@@ -20,7 +20,6 @@ pub record SoFar (table marks w₀ : List ℕ) (faults patterns : ℕ) (w : List
   pub row : from ≡ p * faults
 
 pub start : (table marks w₀ : List ℕ) (faults patterns : ℕ) → SoFar table marks w₀ faults patterns w₀ 0 0 0
-unfolding linesTo
 start table marks w₀ faults patterns = record { at-most = omega arith; put = put-none w₀ 0; short = omega arith; row = rw zero-mul }
 
 -- row p of so many, of a width
@@ -40,7 +39,6 @@ module _ {table marks w₀ : List ℕ} {faults patterns : ℕ} {w : List ℕ} {p
       → p < patterns
       → Put w w′ at (lineOf p (getD marks p 0) (take (from + faults - from) (drop from table))) next
       → SoFar table marks w₀ faults patterns w′ (p + 1) next (from + faults)
-  unfolding linesTo
   more {w′} {next} r s l q =
       let e : from + faults - from ≡ faults = omega arith in
       let row : List ℕ = take faults (drop from table) in

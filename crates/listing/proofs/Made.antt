@@ -8,28 +8,26 @@ use lib.ListN.{length}
 use Rattle.answers.specs.declared.Ruling.{Ruling}
 use Rattle.answers.specs.declared.Ruling.the-variants.{Fine, Refused}
 use Rattle.answers.specs.Rules.{Rule, refusal, unless, AllHold}
+use Rattle.answers.specs.Lent.{lentRules}
 use Rattle.answers.proofs.Rules.{after-refused, after-fine, both-fine, fine}
+use Rattle.answers.proofs.Lent.{lent-fine}
 use Rattle.circuit.specs.Record.{linesOf, inputsOf}
-use Rattle.circuit.specs.Check.{circuitRules}
-use Rattle.lists.specs.Faults.{faultCount, faultRules}
-use Rattle.lists.specs.Patterns.{patternCount, patternRules}
-use Rattle.lists.proofs.Faults.{good-faults}
-use Rattle.lists.proofs.Patterns.{good-patterns}
+use Rattle.circuit.specs.Promise.{circuitRules}
+use Rattle.lists.specs.Faults.{faultCount}
+use Rattle.lists.specs.Patterns.{patternCount}
+use Rattle.lists.specs.Both.{listRules}
+use Rattle.lists.proofs.Both.{good-lists, lists-few}
 use Rattle.rows.specs.Table.{tableOf}
 use Rattle.rows.proofs.Entries.{made}
-use Rattle.dictionary.specs.Dictionary.{bufferRules, listRules, restRules, dictionaryRules, Dictionary}
-use Rattle.dictionary.proofs.Answer.{buffers-say, lists-few}
+use Rattle.dictionary.specs.Promise.{restRules, dictionaryRules, Dictionary}
+use Rattle.tables.specs.Entries.{entriesOf}
 use Rattle.needs.specs.Needs as needs
-use Rattle.compact.specs.Compact.{tableRules, marksRules, compactRules, Sized, Compacts}
-use Rattle.compact.proofs.Refusals.{compact-says}
-use Rattle.listing.specs.Listing.{programRules, dictionaryOf}
+use Rattle.tables.specs.Table.{tableRules, Sized}
+use Rattle.compact.specs.Promise.{marksRules, compactRules, Compacts}
+use Rattle.compact.proofs.Says.{compact-says}
+use Rattle.listing.specs.Promise.{programRules, dictionaryOf}
 use Rattle.listing.specs.Owed.{Full, Counted, Sizes, Tabled}
 use Rattle.listing.proofs.Small.{table-small}
-
-buffers-fine : (n faults patterns table work : ℕ) → table ≡ faults * patterns → work ≡ 2 * n → refusal (bufferRules n faults patterns table work) ≡ Fine
-unfolding bufferRules AllHold
-buffers-fine n faults patterns table work t w =
-    fine (bufferRules n faults patterns table work) (buffers-say n faults patterns table work) ((t, w), tt)
 
 module _ (c fs ps t w : List ℕ) where
   -- where the lists are fine, so are the buffers
@@ -42,14 +40,14 @@ module _ (c fs ps t w : List ℕ) where
       lists = listRules c (inputsOf c) fs ps
 
       buffers : List Rule
-      buffers = bufferRules (linesOf c) (faultCount fs) (patternCount (inputsOf c) ps) (length t) (length w)
+      buffers = lentRules (faultCount fs * patternCount (inputsOf c) ps) (length t) (2 * linesOf c) (length w)
 
       go : (v : Ruling) → refusal lists ≡ v → refusal (lists ++ buffers) ≡ refusal lists
       go (Refused x y) e = after-refused lists buffers e ∙ sym e
       go Fine e =
-          let few = lists-few c n (inputsOf c) fs ps e in
+          let few = lists-few c (inputsOf c) fs ps e in
           after-fine lists buffers e
-          ∙ buffers-fine (linesOf c) (faultCount fs) (patternCount (inputsOf c) ps) (length t) (length w) (s .entries (few .0) (few .1)) (two ∙ ap (λ (x : ℕ). 2 * x) (s .lines-are))
+          ∙ lent-fine (faultCount fs * patternCount (inputsOf c) ps) (length t) (2 * linesOf c) (length w) (s .entries (few .0) (few .1)) (two ∙ ap (λ (x : ℕ). 2 * x) (s .lines-are))
           ∙ sym e
 
   same-refusal : {n : ℕ} → Sizes c n fs ps (length t) → length w ≡ 2 * n → refusal (dictionaryRules c fs ps t w) ≡ refusal (programRules c fs ps)
@@ -76,9 +74,9 @@ module _ (c fs ps t w : List ℕ) where
 -- where nothing is refused, the dictionary is a table for the compactor
 pub fine-sized : (c fs ps : List ℕ) → refusal (programRules c fs ps) ≡ Fine → Sized (faultCount fs) (patternCount (inputsOf c) ps) (length (dictionaryOf c fs ps))
 fine-sized c fs ps e =
-    let b = both-fine (faultRules 256 c fs) (patternRules (inputsOf c) ps) (both-fine (circuitRules c) _ e .1) in
-    let faults = good-faults 256 c fs (b .0) .records in
-    let patterns = good-patterns (inputsOf c) ps (b .1) .records in
+    let lists = good-lists c (inputsOf c) fs ps (both-fine (circuitRules c) _ e .1) in
+    let faults = lists .0 .records in
+    let patterns = lists .1 .records in
     record {
       some-fault = faults .some;
       few-faults = faults .few;
@@ -101,7 +99,7 @@ module _ {c fs ps t t′ : List ℕ} {r : Ruling} (made-so : Tabled c fs ps t r 
       (record { sized = sized; small = λ i l. table-small c (linesOf c) (inputsOf c) fs ps i; lines = omega (arith, sized .few-patterns) })
 
 -- the compactor makes the marks of a full table
-pub marks-are : {t m m′ : List ℕ} {out f p : ℕ} {r : Ruling} → Full t out f p → length m ≡ p → Compacts f p t m r m′ → m′ ≡ needs.compacted (needs.tableOf f t) f p
+pub marks-are : {t m m′ : List ℕ} {out f p : ℕ} {r : Ruling} → Full t out f p → length m ≡ p → Compacts f p t m r m′ → m′ ≡ needs.compacted (entriesOf f t) f p
 unfolding tableRules marksRules AllHold
 marks-are {t} {m} {m′} {out} {f} {p} k size so =
     so .marks ∙ rw (fine (compactRules f p t m) (compact-says f p t m) (k .sized, (k .small, (size, tt))))

@@ -7,8 +7,9 @@ use native.Mathlib.Omega.{arith}
 use lib.ListN.{length, getD, set, length-append, length-map, List·getD-map}
 use Rattle.ground.specs.Put.{Put}
 use Rattle.ground.proofs.Put.{put-then}
-use Rattle.listing.specs.Text.{decimal, letterOf, markOf, lineOf, refusedWord, refusedText}
-use Rattle.listing.proofs.Digits.{digits-short}
+use Rattle.listing.specs.Text.{letterOf, markOf, lineOf, refusedWord, refusedText}
+use Rattle.decimals.specs.Digits.{decimal}
+use Rattle.decimals.proofs.Digits.{digits-short}
 
 pub letter-at : (row : List ℕ) (i : ℕ) {x : ℕ} → x ≡ letterOf (getD row i 0) → x ≡ getD (map letterOf row) i (letterOf 0)
 letter-at row i e = e ∙ sym (List·getD-map letterOf row i 0)

@@ -12,16 +12,18 @@ use Rattle.answers.specs.declared.Ruling.{Ruling}
 use Rattle.answers.specs.declared.Ruling.the-variants.{Fine, Refused}
 use Rattle.answers.specs.Rules.{refusal, unless}
 use Rattle.answers.proofs.Rules.{after-refused}
-use Rattle.circuit.specs.Check.{circuitRules}
-use Rattle.circuit.specs.Formed.{Accepts}
+use Rattle.circuit.specs.Promise.{circuitRules}
+use Rattle.circuit.specs.Formed.{Known}
 use Rattle.circuit.specs.Record.{inputsOf}
-use Rattle.lists.specs.Faults.{faultCount, faultRules}
-use Rattle.lists.specs.Patterns.{patternCount, patternRules}
+use Rattle.lists.specs.Faults.{faultCount}
+use Rattle.lists.specs.Patterns.{patternCount}
+use Rattle.lists.specs.Both.{listRules}
+use Rattle.tables.specs.Entries.{entriesOf}
 use Rattle.needs.specs.Needs as needs
 use Rattle.listing.specs.Text.{lineOf, linesTo, refusedText}
-use Rattle.listing.specs.Listing.{programRules, tableText, dictionaryOf, outputOf, Listed}
-use Rattle.listing.specs.Owed.{Known, Counted, Sized, Sizes, Tabled, Lists}
-use Rattle.listing.proofs.Digits.{digits-short}
+use Rattle.listing.specs.Promise.{programRules, tableText, dictionaryOf, outputOf, Listed}
+use Rattle.listing.specs.Owed.{Counted, Sized, Sizes, Tabled, Lists}
+use Rattle.decimals.proofs.Digits.{digits-short}
 use Rattle.listing.proofs.Pieces.{line-short}
 use Rattle.listing.proofs.Made.{table-is, fine-sized, full}
 
@@ -29,7 +31,6 @@ refused-short : (number place : ℕ) → length (refusedText number place) ≤ 5
 refused-short number place = simp length-append (omega (arith, digits-short 20 number, digits-short 20 place))
 
 lines-short : (faults : ℕ) (t marks : List ℕ) (p : ℕ) → faults ≤ 256 → length (linesTo faults t marks p) ≤ 280 * p
-unfolding linesTo
 lines-short faults t marks zero few = omega arith
 lines-short faults t marks (suc p) few =
     let row : List ℕ = take faults (drop (p * faults) t) in
@@ -54,7 +55,7 @@ module _ {c fs ps t w w′ : List ℕ} {r : ℕ} (room : 71680 ≤ length w) whe
       let sized = full so refl {out = 71680} k (omega arith) .sized in
       record {
         written = rw (← so .answer, ← k .faults, ← k .patterns, ← table-is so refl) put;
-        fits = omega (arith, put-long put, put .next-is, lines-short f t′ (needs.compacted (needs.tableOf f t′) f p) p (sized .few-faults), sized .few-patterns);
+        fits = omega (arith, put-long put, put .next-is, lines-short f t′ (needs.compacted (entriesOf f t′) f p) p (sized .few-faults), sized .few-patterns);
         table = so .table;
       }
 
@@ -63,7 +64,7 @@ module _ {c fs ps t w w′ : List ℕ} {r : ℕ} (room : 71680 ≤ length w) whe
   pub circuit-listed : {x y : ℕ} → refusal (circuitRules c) ≡ Refused x y → Put w w′ 0 (refusedText x y) r → Listed c fs ps t w r t w′
   unfolding outputOf
   circuit-listed {x} {y} e p =
-      let q = after-refused (circuitRules c) (faultRules 256 c fs ++ patternRules (inputsOf c) ps) e in
+      let q = after-refused (circuitRules c) (listRules c (inputsOf c) fs ps) e in
       record { written = rw q p; fits = omega (arith, p .next-is, refused-short x y, put-long p); table = rw q }
 
 -- so much of the table was lent as it has entries
@@ -80,7 +81,7 @@ listed {c} {fs} {ps} t {t′} {size = size} k s l = record { written = l .writte
     go (Refused x y) e q = ap (λ (u : List ℕ). u ++ drop size t) q ∙ take-append-drop size t
     go Fine e q =
         let z = fine-sized c fs ps e in
-        let product : patternCount (inputsOf c) ps ≤ 256 → size ≡ faultCount fs * patternCount (inputsOf c) ps = rw (← k .inputs-are) (s .product (z .few-faults)) in
+        let product : patternCount (inputsOf c) ps ≤ 256 → size ≡ faultCount fs * patternCount (inputsOf c) ps = rw (← k .inputs) (s .product (z .few-faults)) in
         let same : size ≡ length (dictionaryOf c fs ps) = product (z .few-patterns) ∙ sym (z .product) in
         rw (q, same)
 
@@ -90,17 +91,9 @@ one-result p q = (p .written .next-is ∙ sym (q .written .next-is), p .table �
 
 -- ---- the sizes
 
-pub known : {c : List ℕ} {n m o : ℕ} → Accepts c n m o → Known c n m
-known a = record {
-  lines-are = a .lines;
-  most-lines = rw (a .lines) (a .good .most-lines);
-  inputs-are = a .inputs;
-  some-inputs = rw (a .inputs) (a .good .some-inputs);
-}
-
 -- patterns are counted by the number of inputs
 pub counted : {c fs ps : List ℕ} {n m : ℕ} → Known c n m → Counted c fs ps (faultCount fs) (patternCount m ps)
-counted {c} {fs} {ps} k = record { faults = refl; patterns = ap (λ (x : ℕ). patternCount x ps) (k .inputs-are) }
+counted {c} {fs} {ps} k = record { faults = refl; patterns = ap (λ (x : ℕ). patternCount x ps) (k .inputs) }
 
 -- so much of the table is lent as it has entries
 pub lent-long : (t : List ℕ) {f p size : ℕ} → Sized f p size → 65536 ≤ length t → length (take size t) ≡ size
@@ -108,7 +101,7 @@ lent-long t {f} {p} {size} s room = length-take-le size t (omega (arith, s .most
 
 pub sizes : {c fs ps : List ℕ} (t : List ℕ) {n m size : ℕ} → Known c n m → Sized (faultCount fs) (patternCount m ps) size → 65536 ≤ length t → Sizes c n fs ps (length (take size t))
 sizes {c} {fs} {ps} t k s room = record {
-  lines-are = k .lines-are;
-  most-lines = k .most-lines;
-  entries = rw (lent-long t s room, ← k .inputs-are) (s .product);
+  lines-are = k .lines;
+  most-lines = rw (k .lines) (k .good .most-lines);
+  entries = rw (lent-long t s room, ← k .inputs) (s .product);
 }

@@ -11,8 +11,8 @@ use Rattle.answers.specs.Small.{Small}
 use Rattle.circuit.specs.Record.{linesOf, inputsOf}
 use Rattle.lists.specs.Faults.{faultCount}
 use Rattle.lists.specs.Patterns.{patternCount}
-use Rattle.compact.specs.Compact as compact
-use Rattle.listing.specs.Listing.{programRules, dictionaryOf, outputOf}
+use Rattle.tables.specs.Table as tables
+use Rattle.listing.specs.Promise.{programRules, dictionaryOf, outputOf}
 
 -- a table of so many faults and patterns, a mark for each pattern, and 280 bytes for each line
 pub record Room (table marks out : List ℕ) (faults patterns : ℕ) : Type 0 where
@@ -24,7 +24,7 @@ pub record Room (table marks out : List ℕ) (faults patterns : ℕ) : Type 0 wh
 
 -- a table that the compactor takes, and memory for its lines
 pub record Full (table : List ℕ) (out faults patterns : ℕ) : Type 0 where
-  pub sized : compact.Sized faults patterns (length table)
+  pub sized : tables.Sized faults patterns (length table)
   pub small : (i : ℕ) → i < length table → Small table i
   pub lines : 280 * patterns ≤ out
 
@@ -32,13 +32,6 @@ pub record Full (table : List ℕ) (out faults patterns : ℕ) : Type 0 where
 pub record Sized (faults patterns r : ℕ) : Type 0 where
   pub product : faults ≤ 256 → patterns ≤ 256 → r ≡ faults * patterns
   pub most : r ≤ 65536
-
--- what is known of an accepted circuit
-pub record Known (c : List ℕ) (n m : ℕ) : Type 0 where
-  pub lines-are : n ≡ linesOf c
-  pub most-lines : n ≤ 2048
-  pub inputs-are : m ≡ inputsOf c
-  pub some-inputs : 1 ≤ m
 
 -- so many faults and patterns
 pub record Counted (c fs ps : List ℕ) (f p : ℕ) : Type 0 where

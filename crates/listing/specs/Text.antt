@@ -1,24 +1,12 @@
--- The text of the dictionary program, as bytes: 10 is the end of a line, 32 a space, 48 to 57 the digits.
+-- The text of the dictionary program, as bytes: 10 is the end of a line, 32 a space.
 -- Assumes nothing.
 use mathlib.Core.List.{List, [], _∷_, _++_, map}
-use Prim.Native.Nat.{ℕ, zero, suc, _+_, _-_, _*_, _/_, _%_}
-use lib.Dec.{eqb, ltb}
+use Prim.Native.Nat.{ℕ, _*_}
+use lib.Dec.{eqb}
 use lib.ListN.{getD, take, drop}
 use Rattle.ground.specs.Choose.{choose}
-
--- the digits of n, at most f of them
-unfoldable pub digits : ℕ → ℕ → List ℕ
-digits zero n = []
-digits (suc f) n = choose (ltb n 10) ((n + 48) ∷ []) (digits f (n / 10) ++ ((n % 10 + 48) ∷ []))
-
--- a number in decimal: 20 digits are enough for every number below 2^64
-abbrev pub decimal : ℕ → List ℕ
-decimal n = digits 20 n
-
--- what digits say, read from the left: `digits-value` shows that they say the number
-abbrev pub valueFrom : ℕ → List ℕ → ℕ
-valueFrom n [] = n
-valueFrom n (d ∷ ds) = valueFrom (10 * n + (d - 48)) ds
+use Rattle.ground.specs.Lists.{gather}
+use Rattle.decimals.specs.Digits.{decimal}
 
 -- P pass, F fail, U unknown
 unfoldable pub letterOf : ℕ → ℕ
@@ -33,9 +21,8 @@ abbrev pub lineOf : ℕ → ℕ → List ℕ → List ℕ
 lineOf p mark row = decimal p ++ ((32 ∷ markOf mark ∷ 32 ∷ []) ++ (map letterOf row ++ (10 ∷ [])))
 
 -- the lines of the first p patterns, of a table with so many faults
-unfoldable pub linesTo : ℕ → List ℕ → List ℕ → ℕ → List ℕ
-linesTo faults table marks zero = []
-linesTo faults table marks (suc p) = linesTo faults table marks p ++ lineOf p (getD marks p 0) (take faults (drop (p * faults) table))
+abbrev pub linesTo : ℕ → List ℕ → List ℕ → ℕ → List ℕ
+linesTo faults table marks p = gather (λ k. lineOf k (getD marks k 0) (take faults (drop (k * faults) table))) p
 
 -- `refused`, number, place, with single spaces
 abbrev pub refusedWord : List ℕ

@@ -3,47 +3,18 @@ use answers::Ruling;
 use circuit::Checked;
 use circuit::check;
 use compact::compact;
+use decimals::put_byte;
+use decimals::put_decimal;
 use dictionary::dictionary;
 ghost use mathlib.Core.Path.{_≡_};
 ghost use mathlib.Core.List.{[], _∷_, map};
 ghost use Prim.Native.Nat.{_+_, _*_, _≤_, _<_};
 ghost use lib.ListN.{length};
 ghost use Rattle.ground.specs.Put.{Put};
-ghost use Rattle.listing.specs.Text.{digits, decimal, letterOf, markOf, lineOf, linesTo, refusedWord, refusedText};
-ghost use Rattle.listing.specs.Listing.{tableText, Listed};
-ghost use Rattle.listing.specs.Owed.{Room, Full, Sizes, Tabled, Sized, Counted, Known, Lists};
-
-// One byte; the next place comes back.
-fn put_byte(out: &mut [u8], at: usize, b: u8) -> usize
-    requires { ⌜ at < length (now out) ⌝ }
-    ensures { λ r. ⌜ Put (now (out .entry)) (now (out .exit)) at (b ∷ []) r ⌝ }
-{
-    out[at] = b;
-    at + 1
-}
-
-// The digits of n, at most f of them.
-fn put_digits(out: &mut [u8], at: usize, n: usize, f: usize) -> usize
-    requires { ⌜ at + f ≤ length (now out) ⌝ }
-    ensures { λ r. ⌜ Put (now (out .entry)) (now (out .exit)) at (digits f n) r ⌝ }
-{
-    if f == 0 {
-        return at;
-    }
-    if n < 10 {
-        return put_byte(out, at, (n + 48) as u8);
-    }
-    let next = put_digits(out, at, n / 10, f - 1);
-    put_byte(out, next, (n % 10 + 48) as u8)
-}
-
-// A number in decimal.
-fn put_decimal(out: &mut [u8], at: usize, n: usize) -> usize
-    requires { ⌜ at + 20 ≤ length (now out) ⌝ }
-    ensures { λ r. ⌜ Put (now (out .entry)) (now (out .exit)) at (decimal n) r ⌝ }
-{
-    put_digits(out, at, n, 20)
-}
+ghost use Rattle.listing.specs.Text.{letterOf, markOf, lineOf, linesTo, refusedWord, refusedText};
+ghost use Rattle.listing.specs.Promise.{tableText, Listed};
+ghost use Rattle.circuit.specs.Formed.{Known};
+ghost use Rattle.listing.specs.Owed.{Room, Full, Sizes, Tabled, Sized, Counted, Lists};
 
 // The letter of an entry.
 fn letter(entry: u8) -> u8

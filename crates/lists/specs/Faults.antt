@@ -29,6 +29,10 @@ faultValue fs j = getD fs (8 * j + 3) 0
 abbrev pub faultAt : List ℕ → ℕ → Fault
 faultAt fs j = record { line = faultLine fs j; site = faultSite fs j; value = faultValue fs j }
 
+-- the fault is at this site of this line
+abbrev pub isAt : Fault → ℕ → ℕ → Bool
+isAt fault line site = eqb line (fault .line) && eqb site (fault .site)
+
 -- the layout as a test
 unfoldable pub faultOk : List ℕ → List ℕ → ℕ → Bool
 faultOk c fs j =

@@ -13,6 +13,7 @@ ghost use Rattle.answers.specs.Rules.{refusal};
 ghost use Rattle.circuit.specs.Record.{Inside};
 ghost use Rattle.lists.specs.Faults.{faultAt, faultOk, faultRules};
 ghost use Rattle.lists.specs.Patterns.{patternRules};
+ghost use Rattle.lists.specs.Both.{listRules};
 
 // A single stuck-at fault: at the line itself (site 0) or at one of its pins.
 pub struct Fault {
@@ -97,4 +98,16 @@ pub fn check_patterns(patterns: &[u8], inputs: usize) -> Ruling
         return Ruling::Refused(9, bad);
     }
     Ruling::Fine
+}
+
+// Refusals 6 to 9: the faults, then the patterns.
+pub fn check_lists(circuit: &[u8], inputs: usize, faults: &[u8], patterns: &[u8]) -> Ruling
+    requires { ⌜ 0 < inputs ⌝ }
+    ensures { λ r. ⌜ r ≡ refusal (listRules (now (circuit .entry)) inputs (now (faults .entry)) (now (patterns .entry))) ⌝ }
+{
+    let v = check_faults(circuit, faults, 256);
+    match v {
+        Ruling::Refused(number, place) => Ruling::Refused(number, place),
+        Ruling::Fine => check_patterns(patterns, inputs),
+    }
 }

@@ -2,30 +2,34 @@
 -- Assumes nothing.
 use mathlib.Core.Path.{refl}
 use Rattle.ground.specs.Below.{countBelow, firstNot}
+use Rattle.ground.specs.Lists.{grow}
 use Rattle.answers.specs.Rules.{said, refusal}
 use Rattle.answers.specs.Records.{recordsOk}
 use Rattle.answers.specs.Small.{smallOk}
 use Rattle.gates.specs.Gate.{pinsOf, notOf, andOf, orOf, gateOf}
 use Rattle.circuit.specs.Record.{wordAt}
-use Rattle.circuit.specs.Layout.{pinOk, lineOk}
-use Rattle.circuit.specs.Check.{layoutRules, countRules, checkOf}
-use Rattle.lists.specs.Faults.{faultOk, faultRules}
+use Rattle.answers.specs.Lent.{lentRules}
+use Rattle.circuit.specs.Layout.{pinOk, fieldOk, lineOk}
+use Rattle.circuit.specs.Promise.{layoutRules, countRules, checkOf}
+use Rattle.lists.specs.Faults.{faultAt, faultOk, faultRules}
 use Rattle.lists.specs.Patterns.{patternRules}
-use Rattle.simulate.specs.Simulate.{stuckAt, gateValue, lineValue, valuesTo}
+use Rattle.simulate.specs.Simulate.{stuckAt, gateValue, lineValue}
 use Rattle.entry.specs.Entry.{differ, agree, entryBy, entryAt}
-use Rattle.rows.specs.Table.{rowTo, tableTo, tableOf}
+use Rattle.rows.specs.Table.{tableOf}
 use Rattle.needs.specs.Needs.{tells, lost, lostPair, lacks, turn, turns, compacted}
-use Rattle.compact.specs.Compact.{sizesOk, tableRules, marksRules}
-use Rattle.listing.specs.Text.{digits, letterOf, markOf, linesTo}
-use Rattle.listing.specs.Listing.{outputOf}
+use Rattle.tables.specs.Table.{sizesOk, tableRules}
+use Rattle.compact.specs.Promise.{marksRules}
+use Rattle.decimals.specs.Digits.{digits}
+use Rattle.listing.specs.Text.{letterOf, markOf}
+use Rattle.listing.specs.Promise.{outputOf}
 use Rattle.nodes.specs.Node.{countX, firstX, fill}
 use Rattle.nodes.specs.Order.{order, upto, found, testIn}
 use Rattle.nodes.specs.Budget.{verdictIn}
 use Rattle.sides.specs.Look.{settled, lookOf}
-use Rattle.search.specs.Search.{lentRules, verdictFor, testFor}
+use Rattle.search.specs.Promise.{verdictFor, testFor}
 use Rattle.cnf.specs.Cnf.{decodeFrom}
 use Rattle.cnf.specs.Table.{table, gateClauses}
-use Rattle.line_clauses.specs.Clauses.{goodClauses, isAt, faultyClauses, differenceClauses, clausesOf}
+use Rattle.line_clauses.specs.Clauses.{goodClauses, faultyClauses, differenceClauses, clausesOf}
 use Rattle.clauses.specs.Promise.{roomRules, wordsFor, writtenOf}
 use Rattle.marked.specs.Example.{AllHold}
 use Rattle.marked.specs.Marked.{stuck, inverter, marked}
@@ -36,8 +40,15 @@ abbrev _and_ : {A B : Type 0} → A → B → A × B
 _and_ a b = (a, b)
 
 -- row by row; the one about all assignments by computing it for every set of true variables
+-- what is computed: rules; circuits and lists; the dictionary; the compactor; the listing; the search; clauses
 pub all-hold : AllHold marked
-unfolding countBelow firstNot said refusal recordsOk smallOk pinsOf notOf andOf orOf gateOf wordAt pinOk lineOk layoutRules countRules checkOf faultOk faultRules patternRules stuckAt gateValue lineValue valuesTo differ agree entryBy entryAt rowTo tableTo tableOf outputOf tells lost lostPair lacks turn turns compacted sizesOk tableRules marksRules digits letterOf markOf linesTo countX firstX fill order upto found testIn verdictIn settled lookOf lentRules verdictFor testFor decodeFrom table gateClauses goodClauses isAt faultyClauses differenceClauses clausesOf roomRules writtenOf onlySolution
+unfolding countBelow firstNot said refusal recordsOk smallOk lentRules
+    wordAt pinsOf notOf andOf orOf gateOf pinOk fieldOk lineOk layoutRules countRules checkOf faultOk faultRules patternRules
+    stuckAt gateValue lineValue grow differ agree entryBy entryAt tableOf
+    tells lost lostPair lacks turn turns compacted sizesOk tableRules marksRules
+    digits letterOf markOf outputOf
+    countX firstX fill order upto found testIn verdictIn settled lookOf verdictFor testFor
+    decodeFrom table gateClauses goodClauses faultyClauses differenceClauses clausesOf roomRules writtenOf onlySolution
 all-hold =
     refl
     and (refl, refl)
@@ -50,7 +61,7 @@ all-hold =
     and (refl, refl)
     and refl
     and refl
-    and solved 6 (wordsFor inverter (stuck 1 0)) _ refl refl
+    and solved 6 (wordsFor inverter (faultAt (stuck 1 0) 0)) _ refl refl
     and refl
     and refl
     and refl

@@ -7,17 +7,20 @@ use Prim.Native.Nat.{ℕ, suc, _*_}
 use lib.ListN.{replicate}
 use Rattle.ground.specs.Choose.{choose}
 use Rattle.answers.specs.declared.Ruling.{Ruling}
+use Rattle.answers.specs.Answer.{answered}
 use Rattle.answers.specs.Rules.{refusal, unless}
 use Rattle.circuit.specs.declared.Checked.{Checked}
 use Rattle.circuit.specs.Record.{linesOf, inputsOf}
-use Rattle.circuit.specs.Check.{checkOf}
+use Rattle.circuit.specs.Promise.{checkOf}
+use Rattle.lists.specs.Faults.{faultAt}
+use Rattle.tables.specs.Entries.{entriesOf}
 use Rattle.needs.specs.Needs as needs
-use Rattle.compact.specs.Compact.{compactRules}
-use Rattle.listing.specs.Listing.{outputOf}
+use Rattle.compact.specs.Promise.{compactRules}
+use Rattle.listing.specs.Promise.{outputOf}
 use Rattle.nodes.specs.declared.Verdict.{Verdict}
 use Rattle.search.specs.declared.Searched.the-variants as searched
-use Rattle.search.specs.Search.{searchRules, answered, verdictFor, testFor}
-use Rattle.cnf.specs.Lists.{gather}
+use Rattle.search.specs.Promise.{searchRules, verdictFor, testFor}
+use Rattle.ground.specs.Lists.{gather}
 use Rattle.cnf.specs.Cnf.{Assignment, Clauses, Satisfies}
 use Rattle.clauses.specs.declared.Written.{Written}
 use Rattle.line_clauses.specs.Clauses.{variablesOf}
@@ -46,13 +49,13 @@ lent n = replicate n 255
 -- ---- the marks that the compactor leaves
 
 abbrev pub marksOf : ℕ → ℕ → List ℕ → List ℕ
-marksOf F P t = unless (refusal (compactRules F P t (lent P))) (lent P) (needs.compacted (needs.tableOf F t) F P)
+marksOf F P t = unless (refusal (compactRules F P t (lent P))) (lent P) (needs.compacted (entriesOf F t) F P)
 
 -- ---- the pairs told apart by some pattern of the whole table
 
 abbrev pub pairsOf : ℕ → ℕ → List ℕ → List (List ℕ)
 pairsOf F P t =
-    gather (λ g. gather (λ f. choose (needs.apart (needs.tableOf F t) P needs.whole f g) ((f ∷ g ∷ []) ∷ []) []) g) F
+    gather (λ g. gather (λ f. choose (needs.apart (entriesOf F t) P needs.whole f g) ((f ∷ g ∷ []) ∷ []) []) g) F
 
 -- ---- the search with buffers of the exact sizes
 
@@ -70,12 +73,12 @@ abbrev pub Holds : Example → Type 0
 Holds (Example.check c r) = checkOf c ≡ r
 Holds (Example.prints c fs ps text) = outputOf c fs ps ≡ text
 Holds (Example.search c f b v t) =
-    (answered (searchRuling c f) (verdictFor c f b) ≡ searched.Verdict v)
-    × (unless (searchRuling c f) (lent (inputsOf c)) (testFor c f b (lent (inputsOf c))) ≡ t)
+    (answered searched.Refused (searchRuling c f) (searched.Verdict (verdictFor c (faultAt f 0) b)) ≡ searched.Verdict v)
+    × (unless (searchRuling c f) (lent (inputsOf c)) (testFor c (faultAt f 0) b (lent (inputsOf c))) ≡ t)
 Holds (Example.compact F P t m pairs) = (marksOf F P t ≡ m) × (pairsOf F P t ≡ pairs)
-Holds (Example.clauses c f cs) = clausesFor c f ≡ cs
+Holds (Example.clauses c f cs) = clausesFor c (faultAt f 0) ≡ cs
 Holds (Example.write c f room r) = writtenOf c f room ≡ r
-Holds (Example.solve c f vs) = (σ : Assignment) → Satisfies σ (wordsFor c f) ↔ (trueTo (variablesOf c (linesOf c)) σ ≡ vs)
+Holds (Example.solve c f vs) = (σ : Assignment) → Satisfies σ (wordsFor c (faultAt f 0)) ↔ (trueTo (variablesOf c (linesOf c)) σ ≡ vs)
 
 -- every example of a list
 abbrev pub AllHold : List Example → Type 0

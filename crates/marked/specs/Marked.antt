@@ -5,7 +5,7 @@ use Prim.Native.Nat.{ℕ}
 use lib.IntN.{ℤ, pos, negℤ}
 use lib.ListN.{replicate}
 use Rattle.circuit.specs.declared.Checked.the-variants as checked
-use Rattle.entry.specs.Entry.{pass, fail, unknown}
+use Rattle.tables.specs.Entries.{pass, fail, unknown}
 use Rattle.nodes.specs.declared.Verdict.the-variants.{Test, Redundant, GivenUp}
 use Rattle.clauses.specs.declared.Written.the-variants as written
 use Rattle.marked.specs.Example.{Example, lent}

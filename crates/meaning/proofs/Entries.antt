@@ -14,26 +14,28 @@ use Rattle.answers.specs.Rules.{refusal}
 use Rattle.answers.proofs.Rules.{both-fine}
 use Rattle.gates.specs.Gate.{Refines}
 use Rattle.circuit.specs.Record.{linesOf, inputsOf}
-use Rattle.circuit.specs.Check.{circuitRules}
+use Rattle.circuit.specs.Promise.{circuitRules}
 use Rattle.circuit.specs.Formed.{WellFormed}
 use Rattle.circuit.proofs.Accepted.{good}
 use Rattle.lists.specs.declared.Fault.{Fault}
-use Rattle.lists.specs.Faults.{faultCount, faultAt, faultRules, FaultLayout}
-use Rattle.lists.specs.Patterns.{patternCount, patternAt, patternRules}
-use Rattle.lists.proofs.Faults.{good-faults}
-use Rattle.lists.proofs.Patterns.{good-patterns, pattern-whole}
+use Rattle.lists.specs.Faults.{faultCount, faultAt, FaultLayout}
+use Rattle.lists.specs.Patterns.{patternCount, patternAt}
+use Rattle.lists.specs.Both.{listRules}
+use Rattle.lists.proofs.Patterns.{pattern-whole}
+use Rattle.lists.proofs.Both.{good-lists}
 use Rattle.simulate.specs.Simulate.{unforced, stuckAt}
 use Rattle.simulate.specs.Boolean as boolean
 use Rattle.simulate.specs.Boolean.{Vector, Detects, faulty, truthAt}
 use Rattle.simulate.specs.Vectors.{patternOf, Fills}
 use Rattle.simulate.specs.Work.{goodOf, faultyOf}
 use Rattle.simulate.proofs.Truths.{filling-refines, good-alike, faulty-alike, value-alike}
-use Rattle.entry.specs.Entry.{pass, fail, agree, entryAt}
+use Rattle.tables.specs.Entries.{pass, fail}
+use Rattle.entry.specs.Entry.{agree, entryAt}
 use Rattle.entry.specs.Words.{Agree}
 use Rattle.entry.proofs.Words.{agree-says, fail-some, pass-every}
 use Rattle.entry.proofs.Fill.{entry-fail, entry-pass, entry-decided}
-use Rattle.dictionary.specs.Dictionary.{bufferRules, listRules, restRules, Dictionary}
-use Rattle.dictionary.proofs.Wording.{in-words}
+use Rattle.dictionary.specs.Promise.{restRules, Dictionary}
+use Rattle.dictionary.proofs.Says.{in-words}
 use Rattle.meaning.specs.Entries.{Means}
 
 module _ (fault : Fault) (small : fault .value ≤ 1) (c p : List ℕ) (n : ℕ) (well : WellFormed c (length p) n) where
@@ -88,10 +90,9 @@ pub dictionary-means : (c fs ps t w : List ℕ) {t′ w′ : List ℕ}
 dictionary-means c fs ps t w d i j a b =
     let m = inputsOf c in
     let fine = both-fine (circuitRules c) (restRules c (linesOf c) m fs ps (length t) (length w)) (sym (d .answer)) in
-    let rest = both-fine (listRules c m fs ps) (bufferRules (linesOf c) (faultCount fs) (patternCount m ps) (length t) (length w)) (fine .1) in
-    let lists = both-fine (faultRules 256 c fs) (patternRules m ps) (rest .0) in
+    let lists = good-lists c m fs ps (both-fine (listRules c m fs ps) _ (fine .1) .0) in
     rw (in-words c fs ps t w d .made refl .entry i j a b)
-    (entry-means c fs (patternAt m ps i) j (fine .0) (good-faults 256 c fs (lists .0) .faults j b) (pattern-whole ps (good-patterns m ps (lists .1) .records) a))
+    (entry-means c fs (patternAt m ps i) j (fine .0) (lists .0 .faults j b) (pattern-whole ps (lists .1 .records) a))
 
 -- there is a filling: X may be read as 0
 pub some-filling : (p : List ℕ) → Fills p (λ i. eqb (getD p i 0) 1)

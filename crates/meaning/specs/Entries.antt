@@ -6,7 +6,7 @@ use Prim.Native.Nat.{ℕ}
 use Rattle.lists.specs.declared.Fault.{Fault}
 use Rattle.simulate.specs.Boolean.{Vector, Detects}
 use Rattle.simulate.specs.Vectors.{NoX, Fills}
-use Rattle.entry.specs.Entry.{pass, fail, unknown}
+use Rattle.tables.specs.Entries.{pass, fail, unknown}
 
 -- e, as the entry of the pattern p and a fault in a circuit of n lines
 pub record Means (e : ℕ) (c : List ℕ) (fault : Fault) (n : ℕ) (p : List ℕ) : Type 0 where

@@ -7,7 +7,7 @@ use words::byte;
 use words::is_word;
 use words::same_word;
 ghost use mathlib.Core.Path.{_≡_};
-ghost use Prim.Native.Nat.{_+_, _*_, _-_, _<_, _≤_, _%_, min};
+ghost use Prim.Native.Nat.{_+_, _*_, _-_, _<_, _%_, min};
 ghost use lib.Dec.{ltb};
 ghost use lib.ListN.{length, getD};
 ghost use Rattle.ground.specs.Choose.{choose};
@@ -175,7 +175,8 @@ fn resolve_by(
     next: &mut [u16],
 ) -> Ruling
     requires { ⌜ Unresolved (now text) (now defs) (now outs) (now firsts) (now seconds) (now o) (now a) (now b) × Empty (now text) (now defs) (now head) (now next) ⌝ }
-    ensures { λ r. ⌜ Resolved (now (text .entry)) (now (defs .entry)) (now (numbers .entry)) (now (outs .entry)) (now (firsts .entry)) (now (seconds .entry)) (now (o .exit)) (now (a .exit)) (now (b .exit)) r ⌝ }
+    ensures { λ r. ⌜ Resolved (now (text .entry)) (now (defs .entry)) (now (numbers .entry)) (now (outs .entry)) (now (firsts .entry)) (now (seconds .entry))
+        (now (o .exit)) (now (a .exit)) (now (b .exit)) r ⌝ }
 {
     let twice = enter(text, defs, head, next);
     let out = look_up(text, defs, numbers, head, next, outs, o, twice);
@@ -197,7 +198,8 @@ pub fn resolve(
     b: &mut [u16],
 ) -> Ruling
     requires { ⌜ Unresolved (now text) (now defs) (now outs) (now firsts) (now seconds) (now o) (now a) (now b) ⌝ }
-    ensures { λ r. ⌜ Resolved (now (text .entry)) (now (defs .entry)) (now (numbers .entry)) (now (outs .entry)) (now (firsts .entry)) (now (seconds .entry)) (now (o .exit)) (now (a .exit)) (now (b .exit)) r ⌝ }
+    ensures { λ r. ⌜ Resolved (now (text .entry)) (now (defs .entry)) (now (numbers .entry)) (now (outs .entry)) (now (firsts .entry)) (now (seconds .entry))
+        (now (o .exit)) (now (a .exit)) (now (b .exit)) r ⌝ }
 {
     let mut head = [0u16; 8192];
     let mut next = [0u16; 8192];

@@ -1,17 +1,18 @@
 -- "Not told apart" is no equivalence, by the rows FUP and FFF.
 -- Assumes nothing.
-use mathlib.Core.Path.{_≡_, refl, sym}
+use mathlib.Core.Path.{refl, sym}
 use mathlib.Core.Logic.{Equivalence}
 use mathlib.Core.Bool.{true≢false}
 use mathlib.Core.List.{[], _∷_}
 use Prim.Native.Nat.{ℕ}
-use Rattle.needs.specs.Needs.{Table, tableOf, whole, tells}
+use Rattle.tables.specs.Entries.{Entries, entriesOf}
+use Rattle.needs.specs.Needs.{whole, tells}
 use Rattle.needs.specs.Words.{Apart}
 use Rattle.needs.proofs.Words.{apart-is, is-apart}
 
 -- rows FUP and FFF
-abbrev pub fup : Table
-fup = tableOf 3 (1 ∷ 2 ∷ 0 ∷ 1 ∷ 1 ∷ 1 ∷ [])
+abbrev pub fup : Entries
+fup = entriesOf 3 (1 ∷ 2 ∷ 0 ∷ 1 ∷ 1 ∷ 1 ∷ [])
 
 -- no pattern of the table tells the two faults apart
 abbrev pub NotApart : ℕ → ℕ → Type 0

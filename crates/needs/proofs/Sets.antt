@@ -4,14 +4,15 @@ use mathlib.Core.Path.{_≡_, refl, sym, ap, _∙_}
 use mathlib.Core.Bool.{true, not, Bool·not-not}
 use Prim.Native.Nat.{ℕ, _<_}
 use Rattle.ground.proofs.Tests.{same-test}
-use Rattle.needs.specs.Needs.{Table, Patterns, whole, detects, apart, lacks, meets}
+use Rattle.tables.specs.Entries.{Entries}
+use Rattle.needs.specs.Needs.{Patterns, whole, detects, apart, lacks, meets}
 use Rattle.needs.specs.Words.{Detected, Apart, Meets}
 use Rattle.needs.proofs.Words.{detects-is, is-detects, apart-is, is-apart, meets-is, is-meets}
 
 abbrev pub Within : ℕ → Patterns → Patterns → Type 0
 Within P K L = (p : ℕ) → p < P → K p ≡ true → L p ≡ true
 
-module _ (E : Table) (F P : ℕ) where
+module _ (E : Entries) (F P : ℕ) where
   pub detected-within : {K L : Patterns} → Within P K L → {f : ℕ} → Detected E P K f → Detected E P L f
   detected-within in-it w = (w .0, w .1, in-it (w .0) (w .1) (w .2), w .3)
 
@@ -41,7 +42,7 @@ module _ (E : Table) (F P : ℕ) where
 
 -- ---- a set that meets every need detects and tells apart what all patterns do
 
-module _ (E : Table) (F P : ℕ) (K : Patterns) (enough : Meets E F P K) where
+module _ (E : Entries) (F P : ℕ) (K : Patterns) (enough : Meets E F P K) where
   pub same-detected : (f : ℕ) → f < F → detects E P whole f ≡ detects E P K f
   same-detected f l =
       same-test (detects E P whole f) (detects E P K f)

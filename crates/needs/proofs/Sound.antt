@@ -13,7 +13,8 @@ use lib.Seq.{ext-getD}
 use borrow.Author.Tests.{lt-ltb, le-ltb}
 use Rattle.ground.specs.Choose.{one}
 use Rattle.ground.proofs.Tests.{either, one-most}
-use Rattle.needs.specs.Needs.{Table, Patterns, whole, lacks, kept, compacted}
+use Rattle.tables.specs.Entries.{Entries}
+use Rattle.needs.specs.Needs.{Patterns, whole, lacks, kept, compacted}
 use Rattle.needs.specs.Words.{Detected, Meets, others, LastToFirst, Sound}
 use Rattle.needs.proofs.Words.{meets-is, is-meets}
 use Rattle.needs.proofs.Sets.{Within, meets-within, lacks-same, whole-meets, nothing-detected}
@@ -21,7 +22,7 @@ use Rattle.needs.proofs.Turns.{not-kept, kept-other, turns-length, turn
 
 -- ---- a mark by the words and by the test
 
-module _ (E : Table) (F P : ℕ) (K : Patterns) where
+module _ (E : Entries) (F P : ℕ) (K : Patterns) where
   mark-0 : Meets E F P K → one (lacks E F P K) ≡ 0
   mark-0 h = go (lacks E F P K) (is-meets E F P K h)
     where
@@ -36,7 +37,7 @@ module _ (E : Table) (F P : ℕ) (K : Patterns) where
       go true e = refl
       go false e = absurd (n (meets-is E F P K (ap not e)))
 
-module _ (E : Table) (F P : ℕ) where
+module _ (E : Entries) (F P : ℕ) where
   -- ---- the marks are taken from the last to the first
 
   pub all-kept : (p : ℕ) → p < P → kept (replicate P 1) p ≡ true

@@ -11,7 +11,8 @@ use lib.ListN.{length, getD, set, length-set, List·getD-eq-default}
 use lib.Seq.{getD-set-same, getD-set-other, set-out}
 use borrow.Author.Tests.{lt-ltb, le-ltb}
 use Rattle.ground.specs.Choose.{one}
-use Rattle.needs.specs.Needs.{Table, lacks, kept, turn, turns}
+use Rattle.tables.specs.Entries.{Entries}
+use Rattle.needs.specs.Needs.{lacks, kept, turn, turns}
 use Rattle.needs.specs.Words.{Meets, others}
 use Rattle.needs.proofs.Words.{meets-is}
 use Rattle.needs.proofs.Sets.{lacks-same}
@@ -42,7 +43,7 @@ module _ (m r : List ℕ) (p : ℕ) (before : (q : ℕ) → q < p → getD m q 0
       go (no n) (yes l) = rw (le-ltb q p (omega arith), lt-ltb p q l, kept-other m p q (omega arith), after q l)
       go (no n) (no k) = let e : q ≡ p = omega arith in rw (e, le-ltb p p (omega arith), not-kept m p)
 
-module _ (E : Table) (F P : ℕ) where
+module _ (E : Entries) (F P : ℕ) where
   -- ---- one turn
 
   pub turn-drops : (m : List ℕ) (p : ℕ) → lacks E F P (kept (set m p 0)) ≡ false → turn E F P m p ≡ set m p 0

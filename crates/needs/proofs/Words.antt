@@ -9,7 +9,8 @@ use borrow.Author.Tests.{eq-eqb, eqb-true, not-true, not-false}
 use Rattle.ground.specs.Below.{anyBelow}
 use Rattle.ground.proofs.Tests.{both, and-both, neither, never-both, other-fails}
 use Rattle.ground.proofs.Below.{any-some, some-any, none-any, not-any}
-use Rattle.needs.specs.Needs.{Table, Patterns, whole, fails, tells, detects, apart, lost, lostPair, lacks, meets}
+use Rattle.tables.specs.Entries.{Entries}
+use Rattle.needs.specs.Needs.{Patterns, whole, fails, tells, detects, apart, lost, lostPair, lacks, meets}
 use Rattle.needs.specs.Words.{Detected, Apart, Meets}
 use Rattle.needs.proofs.Entries.{tells-is, is-tells, tells-swap, tells-differ}
 
@@ -25,7 +26,7 @@ module _ (P : ℕ) (K : Patterns) (h : ℕ → Bool) where
   in-some : (p : ℕ) → p < P → K p ≡ true → h p ≡ true → anyBelow P (λ p. K p && h p) ≡ true
   in-some p l k e = any-some P (λ p. K p && h p) p l (and-both k e)
 
-module _ (E : Table) (P : ℕ) (K : Patterns) where
+module _ (E : Entries) (P : ℕ) (K : Patterns) where
   pub detects-is : (f : ℕ) → detects E P K f ≡ true → Detected E P K f
   detects-is f e = let w = some-in P K (λ p. fails (E p f)) e in (w .0, w .1, w .2, eqb-true (E (w .0) f) 1 (w .3))
 
@@ -45,7 +46,7 @@ module _ (E : Table) (P : ℕ) (K : Patterns) where
 
 -- ---- the needs
 
-module _ (E : Table) (F P : ℕ) (K : Patterns) where
+module _ (E : Entries) (F P : ℕ) (K : Patterns) where
   pub meets-is : meets E F P K ≡ true → Meets E F P K
   unfolding lost lostPair lacks
   meets-is e = record {

@@ -2,19 +2,12 @@
 -- Assumes nothing.
 use mathlib.Core.Bool.{Bool, true, not, _&&_, _||_}
 use mathlib.Core.List.{List}
-use Prim.Native.Nat.{ℕ, zero, suc, _+_, _*_}
+use Prim.Native.Nat.{ℕ, zero, suc}
 use lib.Dec.{eqb}
 use lib.ListN.{getD, set, replicate}
 use Rattle.ground.specs.Choose.{choose}
 use Rattle.ground.specs.Below.{anyBelow}
-
--- the entry of a pattern and a fault: 0 pass, 1 fail, every other number unknown
-abbrev pub Table : Type 0
-Table = ℕ → ℕ → ℕ
-
--- in memory: one row per pattern, one entry per fault in the row
-abbrev pub tableOf : ℕ → List ℕ → Table
-tableOf F t p f = getD t (p * F + f) 0
+use Rattle.tables.specs.Entries.{pass, fail, Entries}
 
 -- a set of patterns
 abbrev pub Patterns : Type 0
@@ -24,38 +17,38 @@ abbrev pub whole : Patterns
 whole p = true
 
 abbrev pub fails : ℕ → Bool
-fails e = eqb e 1
+fails e = eqb e fail
 
 abbrev pub passes : ℕ → Bool
-passes e = eqb e 0
+passes e = eqb e pass
 
 -- one entry is fail and the other is pass: unknown tells nothing
 unfoldable pub tells : ℕ → ℕ → Bool
 tells a b = (fails a && passes b) || (passes a && fails b)
 
 -- of P patterns, some entry of the fault in the set is fail
-abbrev pub detects : Table → ℕ → Patterns → ℕ → Bool
+abbrev pub detects : Entries → ℕ → Patterns → ℕ → Bool
 detects E P K f = anyBelow P (λ p. K p && fails (E p f))
 
 -- some pattern of the set tells the two faults apart
-abbrev pub apart : Table → ℕ → Patterns → ℕ → ℕ → Bool
+abbrev pub apart : Entries → ℕ → Patterns → ℕ → ℕ → Bool
 apart E P K f g = anyBelow P (λ p. K p && tells (E p f) (E p g))
 
 -- ---- the needs, taken from the whole table, by what a set of patterns loses of them
 
 -- a detected fault that does not stay detected
-unfoldable pub lost : Table → ℕ → Patterns → ℕ → Bool
+unfoldable pub lost : Entries → ℕ → Patterns → ℕ → Bool
 lost E P K f = detects E P whole f && not (detects E P K f)
 
 -- two detected faults, told apart, that do not stay told apart
-unfoldable pub lostPair : Table → ℕ → Patterns → ℕ → ℕ → Bool
+unfoldable pub lostPair : Entries → ℕ → Patterns → ℕ → ℕ → Bool
 lostPair E P K f g = detects E P whole f && (detects E P whole g && (apart E P whole f g && not (apart E P K f g)))
 
 -- some need of F faults, or of a pair f < g of them, is lost
-unfoldable pub lacks : Table → ℕ → ℕ → Patterns → Bool
+unfoldable pub lacks : Entries → ℕ → ℕ → Patterns → Bool
 lacks E F P K = anyBelow F (lost E P K) || anyBelow F (λ g. anyBelow g (λ f. lostPair E P K f g))
 
-abbrev pub meets : Table → ℕ → ℕ → Patterns → Bool
+abbrev pub meets : Entries → ℕ → ℕ → Patterns → Bool
 meets E F P K = not (lacks E F P K)
 
 -- ---- the process, on marks: 1 kept, 0 dropped
@@ -64,14 +57,14 @@ abbrev pub kept : List ℕ → Patterns
 kept m p = eqb (getD m p 0) 1
 
 -- a pattern's turn: it is dropped exactly if those still in the set without it meet every need
-unfoldable pub turn : Table → ℕ → ℕ → List ℕ → ℕ → List ℕ
+unfoldable pub turn : Entries → ℕ → ℕ → List ℕ → ℕ → List ℕ
 turn E F P m p = choose (meets E F P (kept (set m p 0))) (set m p 0) m
 
 -- the turns of the first k patterns, from the last of them to the first
-unfoldable pub turns : Table → ℕ → ℕ → ℕ → List ℕ → List ℕ
+unfoldable pub turns : Entries → ℕ → ℕ → ℕ → List ℕ → List ℕ
 turns E F P zero m = m
 turns E F P (suc k) m = turns E F P k (turn E F P m k)
 
 -- start with all patterns
-unfoldable pub compacted : Table → ℕ → ℕ → List ℕ
+unfoldable pub compacted : Entries → ℕ → ℕ → List ℕ
 compacted E F P = turns E F P P (replicate P 1)

@@ -18,7 +18,7 @@ use Rattle.records.specs.Net.{Net, gatesOf, sizeOf, placedOf, lineOf, numberOn,
 use Rattle.records.proofs.Stands.{input-kind}
 use Rattle.netlist.specs.Solved.{Right}
 use Rattle.netlist.proofs.Numbers.{order-gate, line-inside, number-line}
-use Rattle.netlist.proofs.Sources.{kind-gate, pin-before}
+use Rattle.netlist.proofs.Sources.{kind-gate}
 use Rattle.netlist.proofs.Fields.{net-lines, net-kind, net-out}
 
 -- a test that holds at the first m numbers, and at none of the next
@@ -50,14 +50,6 @@ module _ (net : Net) where
 
     pub net-inputs : inputsOf (recordsOf net) ≡ net .inputs
     net-inputs = rw (net-lines net) (count-front (net .inputs) (gatesOf net) (isInput (recordsOf net)) input-line gate-line)
-
-    -- the first gate placed has inputs as sources
-    pub some-input : 1 ≤ sizeOf net → 1 ≤ net .inputs
-    some-input h = go (net .inputs) refl
-      where
-        go : (m : ℕ) → net .inputs ≡ m → 1 ≤ m
-        go zero e = absurd (omega (arith, pin-before net r 0 1 (omega arith)))
-        go (suc m) e = omega arith
 
   -- ---- outputs
 

@@ -1,19 +1,18 @@
 -- The fields of a net's records: kind, output byte and sources of each line are those of the number that stands there.
 -- Assumes nothing.
-use mathlib.Core.Path.{_≡_, _∙_}
-use mathlib.Core.Logic.{⊎-elim}
-use Prim.Native.Nat.{ℕ, zero, suc, _+_, _*_, _≤_, _<_, _/_, _%_}
-use native.Mathlib.Nat.{eq-or-lt-of-le, le-of-suc-le-suc, not-suc-le-zero, add-zero, div-add-mod, mod-eq-of-lt, mul-div-right}
+use mathlib.Core.Path.{_≡_}
+use Prim.Native.Nat.{ℕ, _+_, _*_, _≤_, _<_, _/_, _%_}
+use native.Mathlib.Nat.{add-zero, mul-comm, div-add-mod, mod-eq-of-lt, mul-div-right}
 use native.Mathlib.Omega.{arith}
-use lib.ListN.{length, getD, List·getD-append}
-use lib.Seq.{getD-append-add}
+use lib.ListN.{length, getD}
 use Rattle.ground.specs.Choose.{one}
 use Rattle.ground.specs.Lists.{elem}
+use Rattle.ground.proofs.Gather.{gather-at}
 use Rattle.answers.specs.Area.{le}
 use Rattle.circuit.specs.Record.{wordAt, linesOf, kindAt, outAt, pinAt}
 use Rattle.circuit.proofs.Lines.{three}
 use Rattle.records.specs.Net.{Net, sizeOf, numberOn, kindOn, sourceOn, recordOn, recordsTo, recordsOf}
-use Rattle.records.proofs.Size.{records-length}
+use Rattle.records.proofs.Size.{record-length, records-length}
 use Rattle.netlist.specs.Solved.{Right}
 use Rattle.netlist.proofs.Sources.{source-inside}
 
@@ -25,16 +24,9 @@ word w l =
 
 module _ (net : Net) where
   -- byte i of the record on line k
-  byte : (m k i : ℕ) → k < m → i < 8 → getD (recordsTo net m) (8 * k + i) 0 ≡ getD (recordOn net k) i 0
+  byte : (k i : ℕ) → k < sizeOf net → i < 8 → getD (recordsOf net) (8 * k + i) 0 ≡ getD (recordOn net k) i 0
   unfolding recordsTo
-  byte zero k i l h = absurd (not-suc-le-zero l)
-  byte (suc m) k i l h =
-      ⊎-elim
-      (λ (e : k ≡ m).
-      let at : 8 * k + i ≡ length (recordsTo net m) + i = omega (arith, records-length net m) in
-      rw (at, e) (getD-append-add (recordsTo net m) (recordOn net m) i 0))
-      (λ b. List·getD-append (recordsTo net m) (recordOn net m) 0 (8 * k + i) (omega (arith, records-length net m)) ∙ byte m k i b h)
-      (eq-or-lt-of-le (le-of-suc-le-suc l))
+  byte k i l h = rw (mul-comm 8 k) (gather-at (recordOn net) 8 (record-length net) 0 (sizeOf net) k i l h)
 
   pub net-long : length (recordsOf net) ≡ 8 * sizeOf net
   net-long = records-length net (sizeOf net)
@@ -45,11 +37,11 @@ module _ (net : Net) where
   module _ (k : ℕ) (l : k < sizeOf net) where
     pub net-kind : kindAt (recordsOf net) k ≡ kindOn net k
     unfolding recordOn
-    net-kind = rw add-zero at (byte (sizeOf net) k 0 l (omega arith))
+    net-kind = rw add-zero at (byte k 0 l (omega arith))
 
     pub net-out : outAt (recordsOf net) k ≡ one (elem (net .outputs) (numberOn net k))
     unfolding recordOn
-    net-out = byte (sizeOf net) k 1 l (omega arith)
+    net-out = byte k 1 l (omega arith)
 
     module _ (r : Right net) (few : sizeOf net ≤ 65536) where
       -- bytes 2 and 3 have the source at pin 1, the next two that at pin 2, and the last that at pin 3
@@ -66,4 +58,4 @@ module _ (net : Net) where
       unfolding wordAt
       net-pin s a b =
           let next : (8 * k + 2 * s) + 1 ≡ 8 * k + (2 * s + 1) = omega arith in
-          rw (next, byte (sizeOf net) k (2 * s) l (omega arith), byte (sizeOf net) k (2 * s + 1) l (omega arith)) (words s a b)
+          rw (next, byte k (2 * s) l (omega arith), byte k (2 * s + 1) l (omega arith)) (words s a b)

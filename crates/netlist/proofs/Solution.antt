@@ -2,12 +2,11 @@
 -- By any gate rule, over any values.
 -- Assumes nothing.
 use mathlib.Core.Path.{_≡_, sym, ap, _∙_}
-use mathlib.Core.Logic.{⊎-elim}
-use Prim.Native.Nat.{ℕ, zero, suc, _+_, _≤_, _<_}
-use native.Mathlib.Nat.{eq-or-lt-of-le, le-of-suc-le-suc, not-suc-le-zero, le-refl}
+use Prim.Native.Nat.{ℕ, _+_, _≤_, _<_}
 use native.Mathlib.Omega.{arith}
 use lib.ListN.{getD}
 use Rattle.ground.specs.Lists.{indexIn}
+use Rattle.ground.proofs.Below.{each-below}
 use Rattle.circuit.specs.Record.{kindAt}
 use Rattle.gates.proofs.Laws.{two-pins}
 use Rattle.records.specs.Net.{Net, gatesOf, sizeOf, pinOf, placedOf, lineOf, numberOn, recordsOf}
@@ -61,14 +60,7 @@ module _ {A : Type 0} {gate : ℕ → (ℕ → A) → A} (own : Own gate) {net :
         (λ s a b. sym (ap v (number-line net r (pinOf net g s) (pin-inside net r g s inside))) ∙ below (lineOf net (pinOf net g s)) (pin-before net r i s l))
         ∙ sym (on-gate i l)))
 
-    upto : (m : ℕ) → m ≤ sizeOf net → (k : ℕ) → k < m → v (numberOn net k) ≡ value k
-    upto zero h k l = absurd (not-suc-le-zero l)
-    upto (suc m) h k l =
-        ⊎-elim (λ (e : k ≡ m). rw e (next m h (upto m (omega arith))))
-        (λ b. upto m (omega arith) k b)
-        (eq-or-lt-of-le (le-of-suc-le-suc l))
-
     pub unique : (x : ℕ) → x < sizeOf net → v x ≡ value (lineOf net x)
     unique x l =
         sym (ap v (number-line net r x l))
-        ∙ upto (sizeOf net) (le-refl (sizeOf net)) (lineOf net x) (line-inside net r x l)
+        ∙ each-below (λ k. v (numberOn net k) ≡ value k) (sizeOf net) next (lineOf net x) (line-inside net r x l)

@@ -1,6 +1,6 @@
 -- What simulation computes on the records of a net solves the net's equations, and nothing else does: with three values and over Bool.
 -- Assumes nothing.
-use mathlib.Core.Path.{_≡_, refl}
+use mathlib.Core.Path.{_≡_}
 use mathlib.Core.Bool.{Bool, false}
 use mathlib.Core.List.{List}
 use Prim.Native.Nat.{ℕ, _≤_, _<_}
@@ -9,27 +9,20 @@ use Rattle.gates.specs.Gate.{gateOf}
 use Rattle.gates.specs.Boolean.{boolGate}
 use Rattle.gates.proofs.Laws.{gate-same, bool-same}
 use Rattle.simulate.specs.Simulate.{unforced, gateValue, lineValue, valuesTo}
-use Rattle.simulate.specs.Boolean.{Vector, good, gateTruth, lineTruth, truthsTo, truthAt}
+use Rattle.simulate.specs.Boolean.{Vector, good, gateTruth, lineTruth, truthAt}
 use Rattle.records.specs.Net.{Net, sizeOf, lineOf, recordsOf}
 use Rattle.netlist.specs.Solved.{Solved, Right}
 use Rattle.netlist.proofs.KeepsLayout.{net-layout}
-use Rattle.netlist.proofs.Follows.{Follows, Grows, follows}
+use Rattle.netlist.proofs.Follows.{Follows, follows}
 use Rattle.netlist.proofs.Solution.{solution, unique}
-
-values-grow : (c p : List ℕ) → Grows gateOf c (λ j. getD p j 0) 0 (valuesTo unforced c p)
-unfolding valuesTo lineValue gateValue
-values-grow c p = record { none = refl; more = λ k. refl }
-
-truths-grow : (c : List ℕ) (x : Vector) → Grows boolGate c x false (truthsTo good c x)
-unfolding truthsTo lineTruth gateTruth
-truths-grow c x = record { none = refl; more = λ k. refl }
 
 module _ (net : Net) (r : Right net) (few : sizeOf net ≤ 65536) where
   -- ---- three values
 
   module _ (p : List ℕ) where
     values-follow : Follows gateOf (recordsOf net) (sizeOf net) (λ j. getD p j 0) (λ k. getD (valuesTo unforced (recordsOf net) p (sizeOf net)) k 0)
-    values-follow = follows (values-grow (recordsOf net) p) (λ kind v w _ _. gate-same kind v w) (sizeOf net) (net-layout net r few)
+    unfolding lineValue gateValue
+    values-follow = follows gateOf (recordsOf net) (λ j. getD p j 0) 0 (λ kind v w _ _. gate-same kind v w) (sizeOf net) (net-layout net r few)
 
     pub solution3 : Solved gateOf net (λ j. getD p j 0) (λ x. getD (valuesTo unforced (recordsOf net) p (sizeOf net)) (lineOf net x) 0)
     solution3 = solution (λ kind v w _ _. gate-same kind v w) r few values-follow
@@ -42,7 +35,8 @@ module _ (net : Net) (r : Right net) (few : sizeOf net ≤ 65536) where
 
   module _ (v : Vector) where
     truths-follow : Follows boolGate (recordsOf net) (sizeOf net) v (truthAt good (recordsOf net) v (sizeOf net))
-    truths-follow = follows (truths-grow (recordsOf net) v) bool-same (sizeOf net) (net-layout net r few)
+    unfolding lineTruth gateTruth
+    truths-follow = follows boolGate (recordsOf net) v false bool-same (sizeOf net) (net-layout net r few)
 
     pub solution2 : Solved boolGate net v (λ x. truthAt good (recordsOf net) v (sizeOf net) (lineOf net x))
     solution2 = solution bool-same r few truths-follow

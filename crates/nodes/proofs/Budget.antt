@@ -17,7 +17,7 @@ use Rattle.nodes.specs.Node.{Node, start, countX, fill}
 use Rattle.nodes.specs.Order.{Look, order, nodes, upto, trail}
 use Rattle.nodes.specs.Budget.{verdictOf, Decided, memoryIn, memoryOf}
 use Rattle.nodes.proofs.Node.{all-x}
-use Rattle.nodes.proofs.Verdicts.{says, said}
+use Rattle.nodes.proofs.Verdicts.{counted-more, says, said}
 use Rattle.nodes.proofs.Memory.{leaves-none, leaves-all, leaves-node}
 use Rattle.nodes.proofs.Trail.{some-node}
 
@@ -31,8 +31,8 @@ module _ (look : Look) (s : Node) where
   larger b b′ h d = go (verdictOf look b s) refl d
     where
       go : (r : Verdict) → r ≡ verdictOf look b s → Decided r → verdictOf look b′ s ≡ r
-      go (Test k) e d = let p = says look b (nodes look s) e in sym (said look b′ (nodes look s) (Test k) (record { most = omega (arith, p .most); fails-is = p .fails-is; count = p .count }))
-      go (Redundant k) e d = let p = says look b (nodes look s) e in sym (said look b′ (nodes look s) (Redundant k) (record { most = omega (arith, p .most); fails-is = p .fails-is; count = p .count }))
+      go (Test k) e d = sym (said look b′ (nodes look s) (Test k) (counted-more h (says look b (nodes look s) e)))
+      go (Redundant k) e d = sym (said look b′ (nodes look s) (Redundant k) (counted-more h (says look b (nodes look s) e)))
       go (GivenUp k) e d = absurd d
 
   -- a budget of as many nodes as the search without one looks at is enough

@@ -45,7 +45,13 @@ side look s at v = nodes look (set s at v)
 
 -- a node that says neither, and its sides 0 and 1
 module _ (look : Look) (s : Node) (at : ℕ) (unknown : look s ≡ 2) (first : FirstX s at) where
-  pub sides-trail : Trail look s (s ∷ (upto look (side look s at 0) ++ choose (found look (side look s at 0)) [] (upto look (side look s at 1)))) (found look (side look s at 0) || found look (side look s at 1)) (choose (found look (side look s at 0)) (testIn look (side look s at 0)) (testIn look (side look s at 1)))
+  pub sides-trail :
+      let side0 = side look s at 0 in
+      let side1 = side look s at 1 in
+      Trail look s
+      (s ∷ (upto look side0 ++ choose (found look side0) [] (upto look side1)))
+      (found look side0 || found look side1)
+      (choose (found look side0) (testIn look side0) (testIn look side1))
   unfolding upto found testIn
   sides-trail =
       let n : look s ≡ 1 → ⊥ = λ e. omega arith in
@@ -60,5 +66,8 @@ module _ (look : Look) (s : Node) (at : ℕ) (unknown : look s ≡ 2) (first : F
   first-trail e = simp append-nil at (rw e at sides-trail)
 
   -- the first side has none
-  pub second-trail : found look (side look s at 0) ≡ false → Trail look s (s ∷ (upto look (side look s at 0) ++ upto look (side look s at 1))) (found look (side look s at 1)) (testIn look (side look s at 1))
+  pub second-trail :
+      found look (side look s at 0) ≡ false
+      → let side1 = side look s at 1 in
+      Trail look s (s ∷ (upto look (side look s at 0) ++ upto look side1)) (found look side1) (testIn look side1)
   second-trail e = rw e at sides-trail

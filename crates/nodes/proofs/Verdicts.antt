@@ -21,6 +21,10 @@ pub record Counted (look : Look) (b : ℕ) (l : List Node) (fails : Bool) (k : �
   pub fails-is : found look l ≡ fails
   pub count : k ≡ length (upto look l)
 
+-- a count stays within a larger budget
+pub counted-more : {look : Look} {b b′ : ℕ} {l : List Node} {fails : Bool} {k : ℕ} → b ≤ b′ → Counted look b l fails k → Counted look b′ l fails k
+counted-more h p = record { most = omega (arith, p .most); fails-is = p .fails-is; count = p .count }
+
 -- the budget b is spent, and there are more nodes to look at
 pub record Spent (look : Look) (b : ℕ) (l : List Node) (k : ℕ) : Type 0 where
   pub all : k ≡ b

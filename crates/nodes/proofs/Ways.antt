@@ -1,7 +1,8 @@
 -- What a search from a node on does on each of its ways, said of the definitions: one law for each answer.
 -- Assumes nothing.
 use mathlib.Core.Path.{_≡_, refl, sym, ap, _∙_, subst}
-use mathlib.Core.List.{List, _∷_}
+use mathlib.Core.Bool.{Bool}
+use mathlib.Core.List.{List, _∷_, _++_}
 use Prim.Native.Nat.{ℕ, _+_, _-_, _≤_, _<_}
 use native.Mathlib.Omega.{arith}
 use lib.ListN.{length, set, length-append}
@@ -11,10 +12,10 @@ use Rattle.nodes.specs.declared.Verdict.the-variants.{Test, Redundant, G
 use Rattle.nodes.specs.Node.{Node, FirstX}
 use Rattle.nodes.specs.Order.{Look, nodes, upto, trail, found, testIn, testOf, lastOr}
 use Rattle.nodes.specs.Budget.{nodesOf, memoryIn, memoryOf, testBy}
-use Rattle.nodes.specs.Side.{Left, Sided}
-use Rattle.nodes.proofs.Verdicts.{Says, says, said, within}
+use Rattle.nodes.specs.Owed.{Left, Sided}
+use Rattle.nodes.proofs.Verdicts.{Counted, Says, says, said, within}
 use Rattle.nodes.proofs.Memory.{leaves, leaves-none, leaves-next, leaves-first, leaves-second}
-use Rattle.nodes.proofs.Trail.{some-node, fail-trail, left-trail, side, sides-trail, first-trail, second-trail}
+use Rattle.nodes.proofs.Trail.{Trail, some-node, fail-trail, left-trail, side, sides-trail, first-trail, second-trail}
 
 -- the memory is that of the first node, and then of those after it
 memory-next : (look : Look) (after : Node → List ℕ) (b : ℕ) (w : List ℕ) (s : Node) {l : List Node} → 0 < b → trail look s ≡ s ∷ l → memoryOf look after b w s ≡ leaves after (b - 1) (after s) l
@@ -90,7 +91,9 @@ module _ {look : Look} {after : Node → List ℕ} {b : ℕ} {s : Node} {w : Lis
       let p = told f in
       let t = first-trail look s at (o .unknown) (o .first) (p .fails-is) in
       record {
-        verdict = said look b (nodes look s) (Test (1 + m)) (record { most = omega (arith, p .most, o .more); fails-is = t .fails-is; count = omega (arith, p .count, ap length (t .looked)) });
+        verdict =
+            said look b (nodes look s) (Test (1 + m))
+            (record { most = omega (arith, p .most, o .more); fails-is = t .fails-is; count = omega (arith, p .count, ap length (t .looked)) });
         memory = f .memory ∙ sym (memory-next look after b w s (o .more) (t .looked));
         node = f .node ∙ sym (t .test-is);
       }
@@ -107,54 +110,48 @@ module _ {look : Look} {after : Node → List ℕ} {b : ℕ} {s : Node} {w : Lis
       }
 
 -- the first side has no test, in m nodes: what follows is the second side
-record Second (look : Look) (after : Node → List ℕ) (b : ℕ) (s : Node) (w : List ℕ) (at m : ℕ) (w0 : List ℕ) : Type 0 where
-  fails-is : found look (nodes look s) ≡ found look (side look s at 1)
-  test-is : testOf look s ≡ testIn look (side look s at 1)
-  count : length (trail look s) ≡ 1 + m + length (upto look (side look s at 1))
-  memory : memoryOf look after b w s ≡ memoryOf look after (b - 1 - m) w0 (set s at 1)
+module _ {look : Look} {after : Node → List ℕ} {b : ℕ} {s : Node} {at m : ℕ} {s0 : Node} {w0 : List ℕ}
+    (o : Open look b s at) (f : Sided look after (b - 1) (set s at 0) (after s) (Redundant m) s0 w0) where
+  both : let side1 = side look s at 1 in Trail look s (s ∷ (upto look (side look s at 0) ++ upto look side1)) (found look side1) (testIn look side1)
+  both = second-trail look s at (o .unknown) (o .first) (told f .fails-is)
 
-second : {look : Look} {after : Node → List ℕ} {b : ℕ} {s : Node} {w : List ℕ} {at m : ℕ} {s0 : Node} {w0 : List ℕ} → Open look b s at → Sided look after (b - 1) (set s at 0) (after s) (Redundant m) s0 w0 → Second look after b s w at m w0
-unfolding memoryIn
-second {look} {after} {b} {s} {w} {at} {m} o f =
-    let p = told f in
-    let t = second-trail look s at (o .unknown) (o .first) (p .fails-is) in
-    record {
-      fails-is = t .fails-is;
-      test-is = t .test-is;
-      count = omega (arith, p .count, simp length-append at (ap length (t .looked)));
-      memory =
-          memory-next look after b w s (o .more) (t .looked)
-          ∙ leaves-second after (b - 1) (after s) (upto look (side look s at 0)) (upto look (side look s at 1)) (omega (arith, p .most, p .count))
-          ∙ rw (← p .count, ← f .memory);
+  both-length : length (trail look s) ≡ 1 + m + length (upto look (side look s at 1))
+  both-length = omega (arith, told f .count, simp length-append at (ap length (both .looked)))
+
+  -- the count of the second side is within what is left of the budget, so the whole count is within the budget
+  both-counted : {fails : Bool} {k : ℕ} → Counted look (b - 1 - m) (side look s at 1) fails k → Counted look b (nodes look s) fails (1 + m + k)
+  both-counted p = record {
+    most = omega (arith, p .most, fits f, o .more);
+    fails-is = both .fails-is ∙ p .fails-is;
+    count = omega (arith, p .count, both-length);
+  }
+
+  both-memory : (w : List ℕ) → memoryOf look after b w s ≡ memoryOf look after (b - 1 - m) w0 (set s at 1)
+  unfolding memoryIn
+  both-memory w =
+      let p = told f in
+      memory-next look after b w s (o .more) (both .looked)
+      ∙ leaves-second after (b - 1) (after s) (upto look (side look s at 0)) (upto look (side look s at 1)) (omega (arith, p .most, p .count))
+      ∙ rw (← p .count, ← f .memory)
+
+  module _ {w : List ℕ} {k : ℕ} {s1 : Node} {w1 : List ℕ} where
+    pub second-test : Sided look after (b - 1 - m) (set s at 1) w0 (Test k) s1 w1 → Sided look after b s w (Test (1 + m + k)) s1 w1
+    second-test g = record {
+      verdict = said look b (nodes look s) (Test (1 + m + k)) (both-counted (told g));
+      memory = g .memory ∙ sym (both-memory w);
+      node = g .node ∙ sym (both .test-is);
     }
 
-module _ {look : Look} {after : Node → List ℕ} {b : ℕ} {s : Node} {w : List ℕ} {at m k : ℕ} {s0 s1 : Node} {w0 w1 : List ℕ}
-    (o : Open look b s at) (f : Sided look after (b - 1) (set s at 0) (after s) (Redundant m) s0 w0) where
-  pub second-test : Sided look after (b - 1 - m) (set s at 1) w0 (Test k) s1 w1 → Sided look after b s w (Test (1 + m + k)) s1 w1
-  second-test g =
-      let n = second {w = w} o f in
-      let p = told g in
-      record {
-        verdict = said look b (nodes look s) (Test (1 + m + k)) (record { most = omega (arith, p .most, fits f, o .more); fails-is = n .fails-is ∙ p .fails-is; count = omega (arith, p .count, n .count) });
-        memory = g .memory ∙ sym (n .memory);
-        node = g .node ∙ sym (n .test-is);
-      }
+    pub second-none : {s′ : Node} → s′ ≡ s → Sided look after (b - 1 - m) (set s at 1) w0 (Redundant k) s1 w1 → Sided look after b s w (Redundant (1 + m + k)) s′ w1
+    second-none same g = record {
+      verdict = said look b (nodes look s) (Redundant (1 + m + k)) (both-counted (told g));
+      memory = g .memory ∙ sym (both-memory w);
+      node = same;
+    }
 
-  pub second-none : {s′ : Node} → s′ ≡ s → Sided look after (b - 1 - m) (set s at 1) w0 (Redundant k) s1 w1 → Sided look after b s w (Redundant (1 + m + k)) s′ w1
-  second-none same g =
-      let n = second {w = w} o f in
-      let p = told g in
-      record {
-        verdict = said look b (nodes look s) (Redundant (1 + m + k)) (record { most = omega (arith, p .most, fits f, o .more); fails-is = n .fails-is ∙ p .fails-is; count = omega (arith, p .count, n .count) });
-        memory = g .memory ∙ sym (n .memory);
-        node = same;
-      }
-
-  pub second-spent : Sided look after (b - 1 - m) (set s at 1) w0 (GivenUp k) s1 w1 → Sided look after b s w (GivenUp b) s1 w1
-  second-spent g =
-      let n = second {w = w} o f in
-      record {
-        verdict = said look b (nodes look s) (GivenUp b) (record { all = refl; more = omega (arith, told g .more, fits f, o .more, n .count) });
-        memory = g .memory ∙ sym (n .memory);
-        node = tt;
-      }
+    pub second-spent : Sided look after (b - 1 - m) (set s at 1) w0 (GivenUp k) s1 w1 → Sided look after b s w (GivenUp b) s1 w1
+    second-spent g = record {
+      verdict = said look b (nodes look s) (GivenUp b) (record { all = refl; more = omega (arith, told g .more, fits f, o .more, both-length) });
+      memory = g .memory ∙ sym (both-memory w);
+      node = tt;
+    }

@@ -2,4 +2,4 @@ pub mod Node
 pub mod Order
 pub mod Budget
 pub mod Walk
-pub mod Side
+pub mod Owed

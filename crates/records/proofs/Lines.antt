@@ -17,7 +17,6 @@ pub record SoFar (l : Lined) (w₀ w : List ℕ) (at k : ℕ) : Type 0 where
   pub put : Put w₀ w 0 (recordsBy l k) at
 
 pub so-far-none : (l : Lined) (w : List ℕ) → SoFar l w w 0 0
-unfolding recordsBy
 so-far-none l w = record { at-most = omega arith; put = put-none w 0 }
 
 module _ {l : Lined} {w₀ w : List ℕ} {at k : ℕ} (so : SoFar l w₀ w at k) where
@@ -29,7 +28,6 @@ module _ {l : Lined} {w₀ w : List ℕ} {at k : ℕ} (so : SoFar l w₀ w at k)
   }
 
   pub so-far-more : {w′ : List ℕ} {at′ : ℕ} → k < linesIn l → Put w w′ at (recordBy l k) at′ → SoFar l w₀ w′ at′ (k + 1)
-  unfolding recordsBy
   so-far-more m p = record { at-most = omega arith; put = rw add-one (put-then (so .put) p) }
 
   pub so-far-all : length w₀ ≡ 8 * linesIn l → linesIn l ≤ k → w ≡ recordsBy l (linesIn l)

@@ -1,13 +1,14 @@
 -- How long the records are: eight bytes each.
 -- Assumes nothing.
-use mathlib.Core.Path.{_≡_, refl, ap, _∙_}
+use mathlib.Core.Path.{_≡_, refl}
 use mathlib.Core.Bool.{Bool, true, false}
-use mathlib.Core.List.{List, [], _∷_, _++_}
-use Prim.Native.Nat.{ℕ, zero, suc, _*_, _/_, _%_, _<_}
+use mathlib.Core.List.{List, [], _∷_}
+use Prim.Native.Nat.{ℕ, _*_, _/_, _%_, _<_}
 use native.Mathlib.Omega.{arith}
 use lib.Dec.{ltb}
-use lib.ListN.{length, length-append}
+use lib.ListN.{length}
 use Rattle.ground.specs.Choose.{choose}
+use Rattle.ground.proofs.Gather.{gather-length}
 use Rattle.answers.specs.Area.{le}
 use Rattle.records.specs.Net.{Net, recordOn, recordsTo}
 use Rattle.records.specs.Owed.{Lined, recordOf, gateRecord, recordBy, recordsBy}
@@ -17,19 +18,13 @@ pub two-bytes : {x : ℕ} → x < 65536 → x % 256 ∷ x / 256 ∷ [] ≡ le 2 
 unfolding le
 two-bytes {x} l = let e : x / 256 % 256 ≡ x / 256 = omega arith in rw e
 
--- pieces of eight bytes, one after the other
-module _ (whole piece : ℕ → List ℕ) (none : whole 0 ≡ []) (more : (k : ℕ) → whole (suc k) ≡ whole k ++ piece k) (eight : (k : ℕ) → length (piece k) ≡ 8) where
-  pieces-length : (k : ℕ) → length (whole k) ≡ 8 * k
-  pieces-length zero = ap length none
-  pieces-length (suc k) = ap length (more k) ∙ length-append (whole k) (piece k) ∙ omega (arith, pieces-length k, eight k)
-
 pub record-length : (net : Net) (k : ℕ) → length (recordOn net k) ≡ 8
 unfolding recordOn le
 record-length net k = refl
 
 pub records-length : (net : Net) (k : ℕ) → length (recordsTo net k) ≡ 8 * k
 unfolding recordsTo
-records-length net k = pieces-length (recordsTo net) (recordOn net) refl (λ i. refl) (record-length net) k
+records-length net k = omega (arith, gather-length (recordOn net) 8 (record-length net) k)
 
 -- as they are written
 record-by-length : (l : Lined) (k : ℕ) → length (recordBy l k) ≡ 8
@@ -41,5 +36,4 @@ record-by-length l k = chosen (ltb k (l .inputs)) _ _ refl refl
     chosen false a b e f = f
 
 pub records-by-length : (l : Lined) (k : ℕ) → length (recordsBy l k) ≡ 8 * k
-unfolding recordsBy
-records-by-length l k = pieces-length (recordsBy l) (recordBy l) refl (λ i. refl) (record-by-length l) k
+records-by-length l k = omega (arith, gather-length (recordBy l) 8 (record-by-length l) k)

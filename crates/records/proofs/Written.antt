@@ -4,13 +4,14 @@ use mathlib.Core.Path.{_≡_, refl, _∙_}
 use mathlib.Core.Logic.{_⊎_, inl, inr, ⊎-elim}
 use mathlib.Core.Bool.{true}
 use mathlib.Core.List.{List}
-use Prim.Native.Nat.{ℕ, zero, suc, _+_, _-_, _≤_, _<_}
+use Prim.Native.Nat.{ℕ, _+_, _-_, _≤_, _<_}
 use native.Mathlib.Decide.{decLt}
 use native.Mathlib.Omega.{arith}
 use lib.ListN.{length, getD}
 use borrow.Author.Tests.{lt-ltb, le-ltb}
 use Rattle.ground.proofs.Tests.{either}
 use Rattle.ground.specs.Lists.{elem}
+use Rattle.ground.proofs.Gather.{gather-same}
 use Rattle.ground.proofs.Elem.{elem-front}
 use Rattle.order.proofs.Says.{order-inside, sources-before}
 use Rattle.records.specs.Net.{Net, gatesOf, sizeOf, pinOf, placedOf, lineOf, numberOn, kindOn, sourceOn, recordOn, recordsTo}
@@ -88,6 +89,5 @@ module _ {net : Net} {order line flag : List ℕ} (t : Told net order line flag)
     same-record m = ⊎-elim same-input (λ l. same-gate l m) (either k (net .inputs))
 
   pub same-records : (k : ℕ) → k ≤ sizeOf net → recordsBy (lined net order line flag) k ≡ recordsTo net k
-  unfolding recordsBy recordsTo
-  same-records zero l = refl
-  same-records (suc k) l = rw (same-records k (omega arith), same-record k (omega arith))
+  unfolding recordsTo
+  same-records k l = gather-same (recordBy (lined net order line flag)) (recordOn net) k (λ i m. same-record i (omega arith))

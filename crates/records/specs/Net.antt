@@ -1,12 +1,12 @@
 -- A net, which is what a text says once its names are numbers, and the circuit records of it.
 -- Gates are numbered in the text's order from 0, then come the inputs.
 -- Assumes nothing.
-use mathlib.Core.List.{List, [], _∷_, _++_}
-use Prim.Native.Nat.{ℕ, zero, suc, _+_, _-_}
+use mathlib.Core.List.{List, _∷_, _++_}
+use Prim.Native.Nat.{ℕ, _+_, _-_}
 use lib.Dec.{eqb, ltb, leb}
 use lib.ListN.{length, getD}
 use Rattle.ground.specs.Choose.{choose, one}
-use Rattle.ground.specs.Lists.{elem, indexIn}
+use Rattle.ground.specs.Lists.{elem, indexIn, gather}
 use Rattle.answers.specs.Area.{le}
 use Rattle.gates.specs.Gate.{pinsOf}
 use Rattle.order.specs.Order.{orderOf}
@@ -56,9 +56,9 @@ unfoldable pub recordOn : Net → ℕ → List ℕ
 recordOn net k =
     kindOn net k ∷ one (elem (net .outputs) (numberOn net k)) ∷ (le 2 (sourceOn net k 1) ++ (le 2 (sourceOn net k 2) ++ le 2 (sourceOn net k 3)))
 
+-- of the first n lines
 unfoldable pub recordsTo : Net → ℕ → List ℕ
-recordsTo net zero = []
-recordsTo net (suc k) = recordsTo net k ++ recordOn net k
+recordsTo net n = gather (recordOn net) n
 
 abbrev pub recordsOf : Net → List ℕ
 recordsOf net = recordsTo net (sizeOf net)

@@ -2,12 +2,12 @@
 -- Assumes nothing.
 use mathlib.Core.Path.{_≡_}
 use mathlib.Core.Bool.{true}
-use mathlib.Core.List.{List, [], _∷_, _++_}
-use Prim.Native.Nat.{ℕ, zero, suc, _+_, _-_, _*_, _≤_, _<_}
+use mathlib.Core.List.{List, _∷_, _++_}
+use Prim.Native.Nat.{ℕ, _+_, _-_, _*_, _≤_, _<_}
 use lib.Dec.{ltb, leb}
 use lib.ListN.{length, getD}
 use Rattle.ground.specs.Choose.{choose, one}
-use Rattle.ground.specs.Lists.{elem, indexIn}
+use Rattle.ground.specs.Lists.{elem, indexIn, gather}
 use Rattle.answers.specs.Area.{le}
 use Rattle.gates.specs.Gate.{pinsOf}
 use Rattle.records.specs.Net.{Net, gatesOf, sizeOf, placedOf}
@@ -101,9 +101,8 @@ recordBy l k =
     (recordOf 0 (getD (l .flag) (length (l .line) + k) 0) 0 0)
     (gateRecord (l .kinds) (l .firsts) (l .seconds) (l .line) (l .flag) (getD (l .order) (k - l .inputs) 0))
 
-unfoldable pub recordsBy : Lined → ℕ → List ℕ
-recordsBy l zero = []
-recordsBy l (suc k) = recordsBy l k ++ recordBy l k
+abbrev pub recordsBy : Lined → ℕ → List ℕ
+recordsBy l n = gather (recordBy l) n
 
 -- gate g has what is read of it
 pub record HasGate (kinds firsts seconds flag : List ℕ) (g : ℕ) : Type 0 where

@@ -126,7 +126,8 @@ fn put_line(
     at: usize,
 ) -> usize
     requires { ⌜ LineRoom (linedOf inputs (now kinds) (now firsts) (now seconds) (now order) (now line) (now flag)) k (now records) at ⌝ }
-    ensures { λ r. ⌜ Put (now (records .entry)) (now (records .exit)) at (recordBy (linedOf inputs (now (kinds .entry)) (now (firsts .entry)) (now (seconds .entry)) (now (order .entry)) (now (line .entry)) (now (flag .entry))) k) r ⌝ }
+    ensures { λ r. ⌜ Put (now (records .entry)) (now (records .exit)) at
+        (recordBy (linedOf inputs (now (kinds .entry)) (now (firsts .entry)) (now (seconds .entry)) (now (order .entry)) (now (line .entry)) (now (flag .entry))) k) r ⌝ }
 {
     if k < inputs {
         let number = line.len() + k;
@@ -150,7 +151,9 @@ fn put_lines(
 )
     requires { ⌜ HasLines (linedOf inputs (now kinds) (now firsts) (now seconds) (now order) (now line) (now flag)) ⌝ }
     requires { ⌜ length (now records) ≡ 8 * (inputs + length (now order)) ⌝ }
-    ensures { λ _. ⌜ now (records .exit) ≡ recordsBy (linedOf inputs (now (kinds .entry)) (now (firsts .entry)) (now (seconds .entry)) (now (order .entry)) (now (line .entry)) (now (flag .entry))) (inputs + length (now (order .entry))) ⌝ }
+    ensures { λ _. ⌜ now (records .exit) ≡
+        recordsBy (linedOf inputs (now (kinds .entry)) (now (firsts .entry)) (now (seconds .entry)) (now (order .entry)) (now (line .entry)) (now (flag .entry)))
+        (inputs + length (now (order .entry))) ⌝ }
 {
     let size = inputs + order.len();
     let mut at = 0;

@@ -1,55 +1,32 @@
 -- The table by its entries: the definition has at each place the entry that the words ask for, and only that table has.
 -- Assumes nothing.
-use mathlib.Core.Path.{_≡_, refl, sym, ap, subst, _∙_}
-use mathlib.Core.Logic.{⊎-elim}
-use mathlib.Core.List.{List, [], _++_}
-use Prim.Native.Nat.{ℕ, zero, suc, _+_, _*_, _/_, _%_, _≤_, _<_}
-use native.Mathlib.Nat.{eq-or-lt-of-le, le-of-suc-le-suc, not-suc-le-zero, suc-mul, zero-mul, mul-comm, mul-le-mul-right, div-add-mod', div-lt-iff-lt-mul, mod-lt}
+use mathlib.Core.Path.{_≡_, refl, sym, subst, _∙_}
+use mathlib.Core.List.{List}
+use Prim.Native.Nat.{ℕ, zero, suc, _+_, _*_, _/_, _%_, _<_}
+use native.Mathlib.Nat.{zero-mul, mul-comm, div-add-mod', div-lt-iff-lt-mul, mod-lt}
 use native.Mathlib.Omega.{arith}
-use lib.ListN.{length, getD, List·getD-append}
-use lib.Seq.{getD-at, getD-append-add, ext-getD}
+use lib.ListN.{length, getD}
+use lib.Seq.{ext-getD}
+use Rattle.ground.proofs.Grow.{table-length, table-at}
+use Rattle.ground.proofs.Gather.{gather-length, gather-at}
 use Rattle.lists.specs.Faults.{faultCount, faultAt}
 use Rattle.lists.specs.Patterns.{patternCount, patternAt}
 use Rattle.entry.specs.Entry.{entryAt}
-use Rattle.rows.specs.Table.{rowTo, rowOf, tableTo, tableOf, workOf}
+use Rattle.rows.specs.Table.{rowOf, tableOf, workOf}
 use Rattle.rows.specs.Words.{Made}
-use Rattle.rows.proofs.Tables.{row-length, table-length}
 
 module _ (c : List ℕ) (n m : ℕ) (fs ps : List ℕ) where
-  row-entry : (p : List ℕ) (w j : ℕ) → j < w → getD (rowTo c n fs p w) j 0 ≡ entryAt (faultAt fs j) c p n
-  unfolding rowTo
-  row-entry p zero j h = absurd (not-suc-le-zero h)
-  row-entry p (suc w) j h =
-      ⊎-elim (λ e. rw e (getD-at (rowTo c n fs p w) _ [] 0 w (row-length c n fs p w)))
-      (λ l. List·getD-append (rowTo c n fs p w) _ 0 j (rw (row-length c n fs p w) l) ∙ row-entry p w j l)
-      (eq-or-lt-of-le (le-of-suc-le-suc h))
-
-  last-row : (k j : ℕ) → j < faultCount fs → getD (tableTo c n m fs ps (suc k)) (k * faultCount fs + j) 0 ≡ entryAt (faultAt fs j) c (patternAt m ps k) n
-  unfolding tableTo
-  last-row k j g =
-      ap (λ (x : ℕ). getD (tableTo c n m fs ps k ++ rowOf c n fs (patternAt m ps k)) (x + j) 0) (sym (table-length c n m fs ps k))
-      ∙ getD-append-add (tableTo c n m fs ps k) _ j 0
-      ∙ row-entry (patternAt m ps k) (faultCount fs) j g
-
-  -- the entry of pattern i and fault j
-  table-entry : (k i j : ℕ) → i < k → j < faultCount fs → getD (tableTo c n m fs ps k) (i * faultCount fs + j) 0 ≡ entryAt (faultAt fs j) c (patternAt m ps i) n
-  unfolding tableTo
-  table-entry zero i j h g = absurd (not-suc-le-zero h)
-  table-entry (suc k) i j h g =
-      ⊎-elim
-      (λ e. subst (λ (x : ℕ). getD (tableTo c n m fs ps (suc k)) (x * faultCount fs + j) 0 ≡ entryAt (faultAt fs j) c (patternAt m ps x) n) (sym e) (last-row k j g))
-      (λ l. List·getD-append (tableTo c n m fs ps k) _ 0 (i * faultCount fs + j) (rw (table-length c n m fs ps k) (below l)) ∙ table-entry k i j l g)
-      (eq-or-lt-of-le (le-of-suc-le-suc h))
-    where
-      below : i < k → i * faultCount fs + j < k * faultCount fs
-      below l = let q : suc i * faultCount fs ≤ k * faultCount fs = mul-le-mul-right (faultCount fs) l in omega (arith, suc-mul i (faultCount fs))
+  row-long : (i : ℕ) → length (rowOf c n fs (patternAt m ps i)) ≡ faultCount fs
+  row-long i = table-length (λ j. entryAt (faultAt fs j) c (patternAt m ps i) n) (faultCount fs)
 
   -- the definition meets the words
   pub made : Made c n m fs ps (tableOf c n m fs ps) (workOf c n m fs ps)
   unfolding tableOf workOf
   made = record {
-    size = table-length c n m fs ps (patternCount m ps) ∙ mul-comm (patternCount m ps) (faultCount fs);
-    entry = table-entry (patternCount m ps);
+    size = gather-length (λ i. rowOf c n fs (patternAt m ps i)) (faultCount fs) row-long (patternCount m ps) ∙ mul-comm (patternCount m ps) (faultCount fs);
+    entry = λ i j h g.
+        gather-at (λ k. rowOf c n fs (patternAt m ps k)) (faultCount fs) row-long 0 (patternCount m ps) i j h g
+        ∙ table-at (λ k. entryAt (faultAt fs k) c (patternAt m ps i) n) (faultCount fs) 0 j g;
     work = refl;
   }
 

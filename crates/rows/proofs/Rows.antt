@@ -8,23 +8,24 @@ use native.Mathlib.Numerals.{add-one}
 use native.Mathlib.Omega.{arith}
 use lib.ListN.{length, take, drop, set, length-set, length-append, length-drop}
 use lib.Seq.{take-at, take-all, take-suc-set}
+use Rattle.ground.specs.Lists.{grow}
+use Rattle.ground.proofs.Grow.{grow-length}
 use Rattle.lists.specs.declared.Fault.{Fault}
 use Rattle.lists.specs.Faults.{faultCount, faultAt}
-use Rattle.simulate.specs.Simulate.{unforced, stuckAt}
+use Rattle.simulate.specs.Simulate.{unforced, stuckAt, lineValue}
 use Rattle.simulate.specs.Work.{goodOf, faultyOf, bothOf}
-use Rattle.simulate.proofs.Values.{values-length}
 use Rattle.entry.specs.Owed.{Looked, LooksFrom}
 use Rattle.rows.specs.Table.{rowTo}
 use Rattle.rows.specs.Owed.{RowFilled}
 
 good-long : (c p x : List ℕ) (n : ℕ) → length (goodOf c p n ++ x) ≡ n + length x
-good-long c p x n = simp (length-append, values-length unforced c p n)
+good-long c p x n = simp (length-append, grow-length (lineValue unforced c p) n)
 
 good-front : (c p x : List ℕ) (n : ℕ) → take n (goodOf c p n ++ x) ≡ goodOf c p n
-good-front c p x n = take-at (goodOf c p n) x n (values-length unforced c p n)
+good-front c p x n = take-at (goodOf c p n) x n (grow-length (lineValue unforced c p) n)
 
 pub both-length : (fault : Fault) (c p : List ℕ) (n : ℕ) → length (bothOf fault c p n) ≡ n + n
-both-length fault c p n = good-long c p (faultyOf fault c p n) n ∙ rw (values-length (stuckAt fault) c p n)
+both-length fault c p n = good-long c p (faultyOf fault c p n) n ∙ rw (grow-length (lineValue (stuckAt fault) c p) n)
 
 -- the first j entries are in the row, and the work memory holds the good values and those of the last fault looked at
 pub record SoFar (c : List ℕ) (n : ℕ) (p fs : List ℕ) (width : ℕ) (row work : List ℕ) (j : ℕ) : Type 0 where
@@ -36,7 +37,7 @@ pub record SoFar (c : List ℕ) (n : ℕ) (p fs : List ℕ) (width : ℕ) (row w
   pub last : 1 ≤ j → work ≡ bothOf (faultAt fs (j - 1)) c p n
 
 pub start : (c : List ℕ) (n : ℕ) (p fs row w : List ℕ) {work : List ℕ} → length w ≡ n + n → work ≡ goodOf c p n ++ drop n w → SoFar c n p fs (length row) row work 0
-unfolding rowTo
+unfolding grow
 start c n p fs row w two e = record {
   at-most = omega arith;
   long = refl;
@@ -52,7 +53,7 @@ module _ {c : List ℕ} {n : ℕ} {p fs : List ℕ} {width : ℕ} {row work : Li
       → fault ≡ faultAt fs j
       → LooksFrom fault c n work work′ e
       → SoFar c n p fs width (set row j e) work′ (j + 1)
-  unfolding rowTo
+  unfolding grow
   more {fault} {work′} {e} l is looks =
       let k : Looked (faultAt fs j) c p n work′ e = rw is at (looks p (so .good)) in
       let back : j + 1 - 1 ≡ j = omega arith in

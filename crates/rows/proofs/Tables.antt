@@ -1,30 +1,21 @@
 -- The loop of `fill_table`, as facts about lists.
 -- Assumes nothing.
-use mathlib.Core.Path.{_≡_, refl, sym, ap, _∙_}
+use mathlib.Core.Path.{_≡_, sym, ap, _∙_}
 use mathlib.Core.List.{List, _++_, append-assoc}
-use Prim.Native.Nat.{ℕ, zero, suc, _+_, _*_, _-_, _≤_, _<_}
+use Prim.Native.Nat.{ℕ, _+_, _*_, _-_, _≤_, _<_}
 use native.Mathlib.Nat.{suc-mul, zero-mul, mul-comm}
 use native.Mathlib.Numerals.{add-one}
 use native.Mathlib.Omega.{arith}
 use lib.ListN.{length, take, length-append, length-take, length-drop}
 use lib.Seq.{take-at, take-all, length-take-le}
+use Rattle.ground.proofs.Grow.{grow-length}
 use Rattle.lists.specs.Faults.{faultCount}
 use Rattle.lists.specs.Patterns.{patternCount, patternAt}
 use Rattle.simulate.specs.Work.{bothOf}
-use Rattle.rows.specs.Table.{rowTo, rowOf, tableTo, tableOf, lastFault, workOf}
+use Rattle.rows.specs.Table.{rowOf, tableTo, tableOf, lastFault, workOf}
 use Rattle.rows.specs.Owed.{Ready, Put, Filled}
 use Rattle.rows.proofs.Rows.{both-length}
 use Rattle.rows.proofs.Part.{row-fits}
-
-pub row-length : (c : List ℕ) (n : ℕ) (fs p : List ℕ) (j : ℕ) → length (rowTo c n fs p j) ≡ j
-unfolding rowTo
-row-length c n fs p zero = refl
-row-length c n fs p (suc j) = simp (length-append, row-length c n fs p j, add-one)
-
-pub table-length : (c : List ℕ) (n m : ℕ) (fs ps : List ℕ) (i : ℕ) → length (tableTo c n m fs ps i) ≡ i * faultCount fs
-unfolding tableTo
-table-length c n m fs ps zero = rw zero-mul
-table-length c n m fs ps (suc i) = simp (length-append, table-length c n m fs ps i, row-length, suc-mul)
 
 -- the first i rows are in the table, and the work memory holds what the last of them left
 pub record SoFar (c : List ℕ) (n m : ℕ) (fs ps t w : List ℕ) (i : ℕ) : Type 0 where
@@ -35,7 +26,6 @@ pub record SoFar (c : List ℕ) (n m : ℕ) (fs ps t w : List ℕ) (i : ℕ) : T
   pub last : 1 ≤ i → w ≡ bothOf (lastFault fs) c (patternAt m ps (i - 1)) n
 
 pub start : {c : List ℕ} {n m : ℕ} {fs ps : List ℕ} (t w : List ℕ) → Ready c n m fs ps (length t) (length w) → SoFar c n m fs ps t w 0
-unfolding tableTo
 start {c} {n} {m} {fs} {ps} t w r = record {
   at-most = omega arith;
   long = r .entries;
@@ -58,18 +48,17 @@ module _ {c : List ℕ} {n m : ℕ} {fs ps t w : List ℕ} {i : ℕ} (so : SoFar
   }
 
   pub more : {t′ w′ : List ℕ} → Ready c n m fs ps (length t) (length w) → i < patternCount m ps → Put c n m fs ps i t t′ w′ → SoFar c n m fs ps t′ w′ (i + 1)
-  unfolding tableTo
   more {t′} {w′} r l p =
       let k = faultCount fs in
       let row = rowOf c n fs (patternAt m ps i) in
       let fits = row-fits r l in
       let head : length (take (i * k) t) ≡ i * k = length-take-le (i * k) t (omega arith) in
       let front : length (take (i * k) t ++ row) ≡ i * k + k =
-      length-append (take (i * k) t) row ∙ rw (head, row-length c n fs (patternAt m ps i) k) in
+      length-append (take (i * k) t) row ∙ rw (head, grow-length) in
       let back : i + 1 - 1 ≡ i = omega arith in
       record {
         at-most = omega arith;
-        long = ap length (p .table-is) ∙ simp (length-append, length-take, length-drop, row-length) (omega (arith, so .long));
+        long = ap length (p .table-is) ∙ simp (length-append, length-take, length-drop, grow-length) (omega (arith, so .long));
         room = ap length (p .work-is) ∙ both-length (lastFault fs) c (patternAt m ps i) n;
         done =
             rw (add-one, suc-mul, p .table-is, ← append-assoc, take-at (take (i * k) t ++ row) _ (i * k + k) front, so .done);

@@ -1,7 +1,8 @@
 -- The table, row by row, and the work memory afterwards: of a circuit c with n lines and m inputs, faults fs and patterns ps.
 -- Assumes nothing.
-use mathlib.Core.List.{List, [], _∷_, _++_}
-use Prim.Native.Nat.{ℕ, zero, suc, _-_}
+use mathlib.Core.List.{List}
+use Prim.Native.Nat.{ℕ, _-_}
+use Rattle.ground.specs.Lists.{table, gather}
 use Rattle.lists.specs.declared.Fault.{Fault}
 use Rattle.lists.specs.Faults.{faultCount, faultAt}
 use Rattle.lists.specs.Patterns.{patternCount, patternAt}
@@ -9,18 +10,16 @@ use Rattle.simulate.specs.Work.{bothOf}
 use Rattle.entry.specs.Entry.{entryAt}
 
 -- the first j entries of the row of pattern p
-unfoldable pub rowTo : List ℕ → ℕ → List ℕ → List ℕ → ℕ → List ℕ
-rowTo c n fs p zero = []
-rowTo c n fs p (suc j) = rowTo c n fs p j ++ (entryAt (faultAt fs j) c p n ∷ [])
+abbrev pub rowTo : List ℕ → ℕ → List ℕ → List ℕ → ℕ → List ℕ
+rowTo c n fs p j = table (λ k. entryAt (faultAt fs k) c p n) j
 
 -- one entry per fault in the row
 abbrev pub rowOf : List ℕ → ℕ → List ℕ → List ℕ → List ℕ
 rowOf c n fs p = rowTo c n fs p (faultCount fs)
 
 -- the first i rows
-unfoldable pub tableTo : List ℕ → ℕ → ℕ → List ℕ → List ℕ → ℕ → List ℕ
-tableTo c n m fs ps zero = []
-tableTo c n m fs ps (suc i) = tableTo c n m fs ps i ++ rowOf c n fs (patternAt m ps i)
+abbrev pub tableTo : List ℕ → ℕ → ℕ → List ℕ → List ℕ → ℕ → List ℕ
+tableTo c n m fs ps i = gather (λ k. rowOf c n fs (patternAt m ps k)) i
 
 -- one row per pattern
 unfoldable pub tableOf : List ℕ → ℕ → ℕ → List ℕ → List ℕ → List ℕ

@@ -1,18 +1,15 @@
 -- The truths of a circuit's lines are the one column of values in which every line follows from its sources.
 -- Assumes nothing.
 use mathlib.Core.Path.{_≡_, refl, sym, ap, _∙_}
-use mathlib.Core.Logic.{⊎-elim}
 use mathlib.Core.Bool.{Bool, true, false}
-use mathlib.Core.List.{List, []}
-use Prim.Native.Nat.{ℕ, zero, suc, _≤_, _<_}
-use native.Mathlib.Nat.{eq-or-lt-of-le, le-of-suc-le-suc, not-suc-le-zero, le-refl}
-use native.Mathlib.Numerals.{add-one}
+use mathlib.Core.List.{List}
+use Prim.Native.Nat.{ℕ, _≤_, _<_}
 use native.Mathlib.Omega.{arith}
 use lib.Dec.{eqb, leb}
-use lib.ListN.{length, length-append, List·getD-append}
-use lib.Seq.{getD-at}
 use borrow.Author.Tests.{eqb-false}
 use Rattle.ground.specs.Choose.{choose}
+use Rattle.ground.proofs.Below.{each-below}
+use Rattle.ground.proofs.Grow.{grow-at, grow-meet}
 use Rattle.gates.specs.Gate.{pinsOf}
 use Rattle.gates.specs.Boolean.{boolGate}
 use Rattle.gates.proofs.Laws.{bool-same}
@@ -60,17 +57,7 @@ module _ {c : List ℕ} {m n : ℕ} (w : WellFormed c m n) (F : Truths) (x : Vec
       go false e = ap (F k 0) (gate-pins w l e _ _ (λ s a b. ap (F k s) (below (pinAt c k s) b)))
 
   pub one-column : {g h : ℕ → Bool} → Column F c x n g → Column F c x n h → (k : ℕ) → k < n → g k ≡ h k
-  one-column {g} {h} p q k l = up-to n (le-refl n) k l
-    where
-      at : (k : ℕ) → k < n → ((j : ℕ) → j < k → g j ≡ h j) → g k ≡ h k
-      at k l below = p .line k l ∙ follows-same g h k l below ∙ sym (q .line k l)
-
-      up-to : (i : ℕ) → i ≤ n → (k : ℕ) → k < i → g k ≡ h k
-      up-to zero b k l = absurd (not-suc-le-zero l)
-      up-to (suc i) b k l =
-          ⊎-elim (λ e. rw e (at i (omega arith) (up-to i (omega arith))))
-          (λ g. up-to i (omega arith) k g)
-          (eq-or-lt-of-le (le-of-suc-le-suc l))
+  one-column {g} {h} p q = each-below (λ k. g k ≡ h k) n (λ k l below. p .line k l ∙ follows-same g h k l below ∙ sym (q .line k l))
 
   pub same-column : {g h : ℕ → Bool} → ((k : ℕ) → k < n → g k ≡ h k) → Column F c x n h → Column F c x n g
   same-column {g} {h} same q = record {
@@ -80,25 +67,12 @@ module _ {c : List ℕ} {m n : ℕ} (w : WellFormed c m n) (F : Truths) (x : Vec
 -- ---- the truths are one
 
 module _ (F : Truths) (c : List ℕ) (x : Vector) where
-  truths-length : (k : ℕ) → length (truthsTo F c x k) ≡ k
-  unfolding truthsTo
-  truths-length zero = refl
-  truths-length (suc k) = simp (length-append, truths-length k, add-one)
-
-  truth-line : (n k : ℕ) → k < n → truthAt F c x n k ≡ lineTruth F c x (truthsTo F c x k) k
-  unfolding truthsTo
-  truth-line zero k l = absurd (not-suc-le-zero l)
-  truth-line (suc n) k l =
-      ⊎-elim (λ e. rw e (getD-at (truthsTo F c x n) _ [] false n (truths-length n)))
-      (λ m. List·getD-append (truthsTo F c x n) _ false k (rw (truths-length n) m) ∙ truth-line n k m)
-      (eq-or-lt-of-le (le-of-suc-le-suc l))
-
   pub truths-column : {m n : ℕ} → WellFormed c m n → Column F c x n (truthAt F c x n)
   unfolding follows lineTruth gateTruth
-  truths-column {m} {n} w = record { line = λ k l. truth-line n k l ∙ go k l (isInput c k) refl }
+  truths-column {m} {n} w = record { line = λ k l. grow-at (lineTruth F c x) false n k l ∙ go k l (isInput c k) refl }
     where
       go : (k : ℕ) → k < n → (t : Bool) → isInput c k ≡ t
           → F k 0 (choose t (x (inputsBefore c k)) (gateTruth F c (truthsTo F c x k) k))
           ≡ F k 0 (choose t (x (inputsBefore c k)) (boolGate (kindAt c k) (λ s. F k s (truthAt F c x n (pinAt c k s)))))
       go k l true e = refl
-      go k l false e = ap (F k 0) (gate-pins w l e _ _ (λ s a b. ap (F k s) (truth-line k (pinAt c k s) b ∙ sym (truth-line n (pinAt c k s) (omega arith)))))
+      go k l false e = ap (F k 0) (gate-pins w l e _ _ (λ s a b. ap (F k s) (grow-meet (lineTruth F c x) false k n (pinAt c k s) b (omega arith))))

@@ -17,7 +17,8 @@ use Rattle.simulate.specs.Boolean.{Vector, faulty}
 use Rattle.cnf.specs.Cnf.{Assignment, satisfied, variablesTo}
 use Rattle.cnf.specs.Table.{gateClauses, sites}
 use Rattle.cnf.proofs.Gate.{NumberTo, gate-law, gate-variables, no-clauses}
-use Rattle.line_clauses.specs.Clauses.{goodVar, faultyVar, stuckVar, differenceVar, variablesOf, lineAt, isAt, faultySite, bufferClauses, goodClauses, faultyClauses, differenceClauses}
+use Rattle.lists.specs.Faults.{isAt}
+use Rattle.line_clauses.specs.Clauses.{goodVar, faultyVar, stuckVar, differenceVar, variablesOf, lineAt, faultySite, bufferClauses, goodClauses, faultyClauses, differenceClauses}
 use Rattle.satisfied.proofs.Columns.{follows, gate-pins}
 
 -- ---- numbers of variables are numbers from 1 on
@@ -75,7 +76,7 @@ buffer-law σ y a p q = gate-law σ 1 (sites y a a) (sites-some y a a p q q) (om
 -- a line follows from its sources as in the good and in the faulty circuit, where the assignment extends the vector
 module _ (σ : Assignment) {c : List ℕ} {m n : ℕ} (w : WellFormed c m n) (x : Vector) (f : Fault) (stuck : σ (stuckVar n) ≡ eqb (f .value) 1) {k : ℕ} (l : k < n) where
   pub faulty-law : (isInput c k ≡ true → σ (goodVar k) ≡ x (inputsBefore c k)) → satisfied σ (faultyClauses c f n k) ≡ Bool·beq (σ (faultyVar k)) (follows (faulty f) c x (λ j. σ (faultyVar j)) k)
-  unfolding faultyClauses follows faulty isAt
+  unfolding faultyClauses follows faulty
   faulty-law input = go (isAt f k 0) refl (isInput c k) refl
     where
       go : (s : Bool) → isAt f k 0 ≡ s → (t : Bool) → isInput c k ≡ t
@@ -148,7 +149,9 @@ module _ {c : List ℕ} {m n : ℕ} (w : WellFormed c m n) {k : ℕ} (l : k < n)
   faulty-variables f = go (isAt f k 0) refl (isInput c k) refl
     where
       go : (s : Bool) → isAt f k 0 ≡ s → (t : Bool) → isInput c k ≡ t
-          → variablesTo (variablesOf c n) (choose s (bufferClauses (faultyVar k) (stuckVar n)) (choose t (bufferClauses (faultyVar k) (goodVar k)) (gateClauses (kindAt c k) (faultySite c f n k)))) ≡ true
+          → variablesTo (variablesOf c n)
+          (choose s (bufferClauses (faultyVar k) (stuckVar n)) (choose t (bufferClauses (faultyVar k) (goodVar k)) (gateClauses (kindAt c k) (faultySite c f n k))))
+          ≡ true
       go true e t q = buffer-variables (omega arith) (omega arith) (omega arith) (omega arith)
       go false e true q = buffer-variables (omega arith) (omega arith) (omega arith) (omega arith)
       go false e false q = faulty-gate-variables q f e
@@ -160,5 +163,6 @@ module _ {c : List ℕ} {m n : ℕ} (w : WellFormed c m n) {k : ℕ} (l : k < n)
       go : (t : Bool) → isOutput c k ≡ t → variablesTo (variablesOf c n) (choose t (gateClauses 7 (sites (differenceVar n (outputsBefore c k)) (goodVar k) (faultyVar k))) []) ≡ true
       go true o =
           let h : outputsBefore c k < outputsBefore c n = count-below (isOutput c) k n l o in
-          gate-variables (variablesOf c n) 7 (sites (differenceVar n (outputsBefore c k)) (goodVar k) (faultyVar k)) (omega arith) (omega arith, omega arith) (up (omega arith) (omega arith)) (up (omega arith) (omega arith))
+          gate-variables (variablesOf c n) 7 (sites (differenceVar n (outputsBefore c k)) (goodVar k) (faultyVar k))
+          (omega arith) (omega arith, omega arith) (up (omega arith) (omega arith)) (up (omega arith) (omega arith))
       go false o = refl

@@ -12,7 +12,8 @@ use Rattle.ground.proofs.Tests.{both, and-both}
 use Rattle.circuit.specs.Record.{outputsBefore}
 use Rattle.circuit.specs.Formed.{WellFormed}
 use Rattle.lists.specs.declared.Fault.{Fault}
-use Rattle.cnf.specs.Lists.{allOf, gather}
+use Rattle.ground.specs.Lists.{gather}
+use Rattle.cnf.specs.Lists.{allOf}
 use Rattle.cnf.specs.Cnf.{decode, wordsOf, literalTo, variablesTo}
 use Rattle.cnf.proofs.Lists.{all-append, all-gather, gather-all}
 use Rattle.cnf.proofs.Decode.{decode-words, plus-literal, minus-literal}

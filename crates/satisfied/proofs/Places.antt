@@ -2,16 +2,15 @@
 -- Assumes nothing.
 use mathlib.Core.Path.{_≡_, refl}
 use mathlib.Core.Logic.{⊎-elim}
-use mathlib.Core.Bool.{Bool, true, false, _&&_, and-false}
+use mathlib.Core.Bool.{Bool, true, _&&_, and-false}
 use Prim.Native.Nat.{ℕ, zero, suc, _<_}
 use native.Mathlib.Nat.{not-suc-le-zero, eq-or-lt-of-le, le-of-suc-le-suc}
-use native.Mathlib.Decide.{decLt}
 use native.Mathlib.Omega.{arith}
 use lib.Dec.{eqb}
 use borrow.Author.Tests.{eq-eqb, ne-eqb}
 use Rattle.ground.specs.Choose.{choose}
 use Rattle.ground.specs.Below.{countBelow}
-use Rattle.ground.proofs.Counting.{count-below}
+use Rattle.ground.proofs.Counting.{count-below, nth}
 
 -- from the top, as the counting goes
 unfoldable pub placeOf : (ℕ → Bool) → ℕ → ℕ → ℕ
@@ -31,13 +30,4 @@ module _ (t : ℕ → Bool) where
 
   -- so what holds at each such number holds at each place
   pub at-places : (P : ℕ → Type 0) (n : ℕ) → ((k : ℕ) → k < n → t k ≡ true → P (countBelow k t)) → (j : ℕ) → j < countBelow n t → P j
-  unfolding countBelow
-  at-places P zero h j l = absurd (not-suc-le-zero l)
-  at-places P (suc n) h j l = go (decLt j (countBelow n t)) (at-places P n (λ k g. h k (omega arith)) j) (t n) refl
-    where
-      go : Dec (j < countBelow n t) → (j < countBelow n t → P j) → (b : Bool) → t n ≡ b → P j
-      go (yes m) below b e = below m
-      go (no m) below true e =
-          let q : countBelow n t ≡ j = omega (arith, rw e at l) in
-          rw q at (h n (omega arith) e)
-      go (no m) below false e = absurd (omega (arith, rw e at l))
+  at-places P n h j l = let w = nth t n j l in rw (w .before) at (h (w .place) (w .below) (w .passes))

@@ -1,24 +1,25 @@
 -- Demand 3 about the very words that the clause writer writes: after success they are faithful to the circuit and the fault.
 -- Assumes nothing.
-use mathlib.Core.Path.{_≡_, refl, sym}
+use mathlib.Core.Path.{_≡_, refl, sym, _∙_}
 use mathlib.Core.List.{List}
 use Prim.Native.Nat.{ℕ}
-use native.Mathlib.Omega.{arith}
 use lib.IntN.{ℤ}
 use lib.ListN.{length, take, drop}
 use lib.Seq.{take-at}
 use Rattle.answers.specs.declared.Ruling.{Ruling}
-use Rattle.answers.specs.Rules.{refusal, unless}
+use Rattle.answers.specs.Rules.{refusal}
 use Rattle.answers.proofs.Rules.{both-fine}
+use Rattle.answers.proofs.Answer.{was-ruled}
 use Rattle.circuit.specs.Record.{linesOf}
-use Rattle.circuit.specs.Check.{circuitRules}
+use Rattle.circuit.specs.Promise.{circuitRules}
 use Rattle.circuit.proofs.Accepted as Accepted
 use Rattle.lists.specs.declared.Fault.{Fault}
 use Rattle.lists.specs.Faults.{faultAt}
 use Rattle.simulate.specs.Boolean.{Vector, Detects}
-use Rattle.clauses.specs.declared.Written.the-variants.{Success, Refused}
+use Rattle.clauses.specs.declared.Written.the-variants.{Success}
 use Rattle.line_clauses.specs.Clauses.{variablesOf}
-use Rattle.clauses.specs.Promise.{clausesFor, wordsFor, clauseRules, answered, writtenOf, laidOn, Writes}
+use Rattle.clauses.specs.Promise.{clausesFor, wordsFor, clauseRules, writtenOf, laidOn, Writes}
+use Rattle.clauses.proofs.Answer.{ruled}
 use Rattle.satisfied.specs.Satisfied.{Faithful}
 use Rattle.satisfied.proofs.Faithful.{faithful}
 
@@ -26,22 +27,18 @@ module _ {c fs : List ℕ} {w w′ : List ℤ} {a b v : ℕ} (p : Writes c fs w 
   -- after success nothing was refused, the first words are the list, and the numbers are its own
   record Succeeded : Type 0 where
     fine : refusal (clauseRules c fs (length w)) ≡ Ruling.Fine
-    words : take a w′ ≡ wordsFor c fs
-    clauses : b ≡ length (clausesFor c fs)
+    words : take a w′ ≡ wordsFor c (faultAt fs 0)
+    clauses : b ≡ length (clausesFor c (faultAt fs 0))
     variables : v ≡ variablesOf c (linesOf c)
 
   succeeded : Succeeded
   unfolding writtenOf
-  succeeded = go (refusal (clauseRules c fs (length w))) refl (p .answer) (p .words)
-    where
-      go : (r : Ruling) → refusal (clauseRules c fs (length w)) ≡ r
-          → Success a b v ≡ answered r (length (wordsFor c fs)) (length (clausesFor c fs)) (variablesOf c (linesOf c))
-          → w′ ≡ unless r w (laidOn w (wordsFor c fs))
-          → Succeeded
-      go Ruling.Fine q e l =
-          let n : a ≡ length (wordsFor c fs) = cc in
-          record { fine = q; words = rw l (take-at (wordsFor c fs) (drop (length (wordsFor c fs)) w) a (sym n)); clauses = cc; variables = cc }
-      go (Ruling.Refused x y) q e l = let z : _≡_ {A = ℕ} 0 1 = cc in absurd (omega arith)
+  succeeded =
+      let q : refusal (clauseRules c fs (length w)) ≡ Ruling.Fine = was-ruled (ruled _ _ _) (p .answer) refl in
+      let e : Success a b v ≡ Success (length (wordsFor c (faultAt fs 0))) (length (clausesFor c (faultAt fs 0))) (variablesOf c (linesOf c)) = p .answer ∙ rw q in
+      let l : w′ ≡ laidOn w (wordsFor c (faultAt fs 0)) = p .words ∙ rw q in
+      let n : a ≡ length (wordsFor c (faultAt fs 0)) = cc in
+      record { fine = q; words = rw l (take-at (wordsFor c (faultAt fs 0)) (drop (length (wordsFor c (faultAt fs 0))) w) a (sym n)); clauses = cc; variables = cc }
 
   pub written-faithful : Faithful c (faultAt fs 0) (take a w′) b v
   written-faithful =

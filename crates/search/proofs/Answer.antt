@@ -6,13 +6,15 @@ use Prim.Native.Nat.{ℕ, _*_, _≤_}
 use native.Mathlib.Omega.{arith}
 use lib.ListN.{length, length-replicate}
 use Rattle.answers.specs.declared.Ruling.{Ruling}
-use Rattle.answers.specs.Rules.{refusal, Applies, AllSay, AllHold}
-use Rattle.answers.specs.Area.{told}
-use Rattle.answers.proofs.Rules.{applies, refused, all-hold, after-refused, after-fine, both-fine, both-say}
-use Rattle.answers.proofs.Same.{eq-same}
+use Rattle.answers.specs.Rules.{refusal, Applies, AllSay}
+use Rattle.answers.specs.Answer.{answered}
+use Rattle.answers.proofs.Rules.{refused, after-refused, after-fine, both-fine, both-say}
+use Rattle.answers.proofs.Lent.{lent-says, lent-sizes}
+use Rattle.answers.proofs.Answer as answer
+use Rattle.answers.proofs.Answer.{numbers-told, Ruled}
 use Rattle.circuit.specs.Record.{linesOf, inputsOf, Inside}
-use Rattle.circuit.specs.Check.{circuitRules}
-use Rattle.circuit.specs.Formed.{Good, Accepts}
+use Rattle.circuit.specs.Promise.{circuitRules}
+use Rattle.circuit.specs.Formed.{Accepts, Known}
 use Rattle.circuit.proofs.Answer.{circuit-says}
 use Rattle.lists.specs.declared.Fault.{Fault}
 use Rattle.lists.specs.Faults.{faultAt, faultRules}
@@ -25,17 +27,14 @@ use Rattle.nodes.proofs.Node.{start-is}
 use Rattle.search.specs.declared.Searched.{Searched}
 use Rattle.search.specs.declared.Searched.the-variants as searched
 use Rattle.sides.specs.Look.{lookOf, workOf}
-use Rattle.search.specs.Search.{lentRules, restRules, searchRules, verdictFor, testFor, workFor, answered, verdictNumbers, numbersOf, Searches}
+use Rattle.sides.proofs.Look.{prepared}
+use Rattle.search.specs.Promise.{restRules, searchRules, verdictFor, testFor, workFor, numbersOf, Searches}
 use Rattle.search.specs.Owed.{Runs, Ran, Answers}
 
 -- ---- the rules in words
 
-pub lent-says : (inputs lines test work : ℕ) → AllSay (lentRules inputs lines test work)
-unfolding lentRules AllSay
-lent-says inputs lines test work = (eq-same test inputs, (eq-same work (2 * lines), tt))
-
 rest-says : (c f : List ℕ) (inputs lines test work : ℕ) → AllSay (restRules c f inputs lines test work)
-rest-says c f inputs lines test work = both-say (faultRules 1 c f) _ (faults-say 1 c f) (lent-says inputs lines test work)
+rest-says c f inputs lines test work = both-say (faultRules 1 c f) _ (faults-say 1 c f) (lent-says inputs test (2 * lines) work)
 
 pub search-says : (c f : List ℕ) (test work : ℕ) → AllSay (searchRules c f test work)
 search-says c f test work = both-say (circuitRules c) _ (circuit-says c) (rest-says c f (inputsOf c) (linesOf c) test work)
@@ -48,16 +47,18 @@ module _ (c f : List ℕ) (n inputs test work : ℕ) (fine : refusal (restRules 
       let g = good-faults 1 c f (both-fine (faultRules 1 c f) _ fine .0) in
       record { inside = omega (arith, g .records .some, g .records .multiple) }
 
-  pub runs : {at : Fault} → at ≡ faultAt f 0 → n ≡ linesOf c → inputs ≡ inputsOf c → Good c → (inputs ≤ 64) × Runs c at n (start inputs) test work
-  unfolding lentRules AllHold
-  runs at-is lines inputs-is good =
-      let b = both-fine (faultRules 1 c f) (lentRules inputs n test work) fine in
+  pub runs : {at : Fault} → at ≡ faultAt f 0 → Known c n inputs → (inputs ≤ 64) × Runs c at n (start inputs) test work
+  runs at-is known =
+      let lines = known .lines in
+      let inputs-is = known .inputs in
+      let good = known .good in
+      let b = both-fine (faultRules 1 c f) _ fine in
       let g = good-faults 1 c f (b .0) in
       let layout = g .faults 0 (omega (arith, g .records .some)) in
-      let l = all-hold (lentRules inputs n test work) (lent-says inputs n test work) (b .1) in (
+      let l = lent-sizes inputs test (2 * n) work (b .1) in (
         rw inputs-is (good .most-inputs),
         record {
-          ready = record { well = rw lines (good .well); line = rw (at-is, lines) (layout .line); value = rw at-is (layout .value); two = omega (arith, l .1 .0) };
+          ready = prepared _ c n work (rw lines (good .well)) (rw (at-is, lines) (layout .line)) (rw at-is (layout .value)) (omega (arith, l .1));
           node = rw (lines, inputs-is) (start-is (inputsOf c));
           test-size = l .0 ∙ sym (length-replicate inputs 2);
         },
@@ -72,23 +73,17 @@ module _ {c f : List ℕ} {inputs n b : ℕ} {t w : List ℕ} where
   pub rest-fine : {at : Fault} {r : Verdict} {t′ w′ : List ℕ}
       → refusal (restRules c f inputs n (length t) (length w)) ≡ Ruling.Fine
       → at ≡ faultAt f 0
-      → n ≡ linesOf c
-      → inputs ≡ inputsOf c
+      → Known c n inputs
       → Ran (lookOf at c n) (workOf at c n) (start inputs) b t w r t′ w′
       → Answers c f inputs n b t w (searched.Verdict r) t′ w′
   unfolding verdictFor testFor workFor
-  rest-fine {at} e at-is lines inputs-is p = record {
-    answer = rw (e, ← inputs-is, ← lines, ← at-is) (ap searched.Verdict (p .verdict));
-    test = rw (e, ← inputs-is, ← lines, ← at-is) (p .test ∙ ap (λ (v : Verdict). testBy v t (testOf (lookOf at c n) (start inputs))) (p .verdict));
-    work = rw (e, ← inputs-is, ← lines, ← at-is) (p .work);
+  rest-fine {at} e at-is known p = record {
+    answer = rw (e, ← known .inputs, ← known .lines, ← at-is) (ap searched.Verdict (p .verdict));
+    test = rw (e, ← known .inputs, ← known .lines, ← at-is) (p .test ∙ ap (λ (v : Verdict). testBy v t (testOf (lookOf at c n) (start inputs))) (p .verdict));
+    work = rw (e, ← known .inputs, ← known .lines, ← at-is) (p .work);
   }
 
 -- ---- the promise
-
-numbers-are : (v : Ruling) (r : Verdict) → numbersOf (answered v r) ≡ told v (verdictNumbers r)
-unfolding numbersOf
-numbers-are Ruling.Fine r = refl
-numbers-are (Ruling.Refused x y) r = refl
 
 module _ {c f : List ℕ} {b : ℕ} {t w : List ℕ} where
   pub circuit-refused : {x y : ℕ} → refusal (circuitRules c) ≡ Ruling.Refused x y → Searches c f b t w (searched.Refused x y) t w
@@ -98,13 +93,14 @@ module _ {c f : List ℕ} {b : ℕ} {t w : List ℕ} where
       record { answer = rw a; numbers = rw a; test = rw a; work = rw a }
 
   pub circuit-fine : {n m o : ℕ} {r : Searched} {t′ w′ : List ℕ} → Accepts c n m o → Answers c f m n b t w r t′ w′ → Searches c f b t w r t′ w′
+  unfolding numbersOf
   circuit-fine {n} {m} {o} {r} {t′} {w′} k p =
       let q : Answers c f (inputsOf c) (linesOf c) b t w r t′ w′ = rw (k .inputs, k .lines) at p in
       let a = after-fine (circuitRules c) (restRules c f (inputsOf c) (linesOf c) (length t) (length w)) (k .fine) in
-      let answer : r ≡ answered (refusal (searchRules c f (length t) (length w))) (verdictFor c f b) = rw a (q .answer) in
+      let answer : r ≡ answered searched.Refused (refusal (searchRules c f (length t) (length w))) (searched.Verdict (verdictFor c (faultAt f 0) b)) = rw a (q .answer) in
       record {
         answer = answer;
-        numbers = ap numbersOf answer ∙ numbers-are (refusal (searchRules c f (length t) (length w))) (verdictFor c f b);
+        numbers = ap numbersOf answer ∙ numbers-told numbersOf (λ x y. refl) (refusal (searchRules c f (length t) (length w))) (searched.Verdict (verdictFor c (faultAt f 0) b));
         test = rw a (q .test);
         work = rw a (q .work);
       }
@@ -115,16 +111,18 @@ module _ {c f : List ℕ} {b : ℕ} {t w : List ℕ} where
 
 -- ---- the refusals in the paper's words
 
-refused-ruling : (v : Ruling) (u : Verdict) (x y : ℕ) → searched.Refused x y ≡ answered v u → v ≡ Ruling.Refused x y
-refused-ruling Ruling.Fine u x y e = let z : _≡_ {A = ℕ} 0 1 = cc in absurd (omega arith)
-refused-ruling (Ruling.Refused m k) u x y e = cc
+-- what was ruled, by the answer
+abbrev pub rulingOf : Searched → Ruling
+rulingOf (searched.Verdict v) = Ruling.Fine
+rulingOf (searched.Refused number place) = Ruling.Refused number place
+
+pub ruled : (v : Verdict) → Ruled searched.Refused rulingOf (searched.Verdict v)
+ruled v = record { refuses = λ x y. refl; accepts = refl }
 
 module _ {c f : List ℕ} {b : ℕ} {t w : List ℕ} {r : Searched} {t′ w′ : List ℕ} (p : Searches c f b t w r t′ w′) (number place : ℕ) where
   -- a refusal is the first that applies, with the lowest place
   pub refused-applies : r ≡ searched.Refused number place → Applies (searchRules c f (length t) (length w)) number place
-  refused-applies e =
-      applies (searchRules c f (length t) (length w)) (search-says c f (length t) (length w)) number place
-      (refused-ruling (refusal (searchRules c f (length t) (length w))) (verdictFor c f b) number place (sym e ∙ p .answer))
+  refused-applies = answer.refused-applies (ruled (verdictFor c (faultAt f 0) b)) (searchRules c f (length t) (length w)) (search-says c f (length t) (length w)) (p .answer) number place
 
   -- and where one applies, it is given, and nothing is written
   pub applies-refused : Applies (searchRules c f (length t) (length w)) number place → (r ≡ searched.Refused number place) × (t′ ≡ t) × (w′ ≡ w)

@@ -5,15 +5,18 @@ use mathlib.Core.List.{List}
 use Prim.Native.Nat.{ℕ}
 use lib.ListN.{length}
 use Rattle.answers.specs.Rules.{refusal, unless}
+use Rattle.answers.specs.Answer.{answered}
 use Rattle.circuit.specs.Record.{inputsBefore}
 use Rattle.lists.specs.declared.Fault.{Fault}
+use Rattle.lists.specs.Faults.{faultAt}
 use Rattle.nodes.specs.declared.Verdict.{Verdict}
 use Rattle.nodes.specs.Node.{Node, IsNode}
 use Rattle.nodes.specs.Order.{Look, testOf}
 use Rattle.nodes.specs.Budget.{verdictOf, testBy, memoryOf}
 use Rattle.search.specs.declared.Searched.{Searched}
+use Rattle.search.specs.declared.Searched.the-variants as searched
 use Rattle.sides.specs.Owed.{Prepared}
-use Rattle.search.specs.Search.{answered, restRules, verdictFor, testFor, workFor}
+use Rattle.search.specs.Promise.{restRules, verdictFor, testFor, workFor}
 
 -- what a search from s on needs, and leaves
 pub record Runs (c : List ℕ) (fault : Fault) (n : ℕ) (s : Node) (test room : ℕ) : Type 0 where
@@ -28,6 +31,6 @@ pub record Ran (look : Look) (after : Node → List ℕ) (s : Node) (b : ℕ) (t
 
 -- the answer for an accepted circuit
 pub record Answers (c f : List ℕ) (inputs n b : ℕ) (t w : List ℕ) (r : Searched) (t′ w′ : List ℕ) : Type 0 where
-  pub answer : r ≡ answered (refusal (restRules c f inputs n (length t) (length w))) (verdictFor c f b)
-  pub test : t′ ≡ unless (refusal (restRules c f inputs n (length t) (length w))) t (testFor c f b t)
-  pub work : w′ ≡ unless (refusal (restRules c f inputs n (length t) (length w))) w (workFor c f b w)
+  pub answer : r ≡ answered searched.Refused (refusal (restRules c f inputs n (length t) (length w))) (searched.Verdict (verdictFor c (faultAt f 0) b))
+  pub test : t′ ≡ unless (refusal (restRules c f inputs n (length t) (length w))) t (testFor c (faultAt f 0) b t)
+  pub work : w′ ≡ unless (refusal (restRules c f inputs n (length t) (length w))) w (workFor c (faultAt f 0) b w)

@@ -1,5 +1,6 @@
 // Part 4, the test search.
 use answers::Ruling;
+use answers::check_lent;
 use bytes::copy;
 use circuit::Checked;
 use circuit::check;
@@ -12,12 +13,11 @@ ghost use mathlib.Core.Path.{_≡_};
 ghost use Prim.Native.Nat.{_≤_};
 ghost use lib.ListN.{length};
 ghost use Rattle.answers.specs.Rules.{refusal};
-ghost use Rattle.circuit.specs.Record.{linesOf, inputsOf};
-ghost use Rattle.circuit.specs.Formed.{Good};
+ghost use Rattle.circuit.specs.Formed.{Known};
 ghost use Rattle.nodes.specs.Node.{start};
 ghost use Rattle.nodes.specs.Budget.{testBy};
 ghost use Rattle.sides.specs.Look.{lookOf, workOf};
-ghost use Rattle.search.specs.Search.{lentRules, restRules, Searches};
+ghost use Rattle.search.specs.Promise.{restRules, Searches};
 ghost use Rattle.search.specs.Owed.{Runs, Ran, Answers};
 
 // What the search answers: a verdict, or the number of a refusal and its place.
@@ -51,15 +51,16 @@ fn run(
     work: &mut [u8],
 ) -> Verdict
     requires { ⌜ Runs (now circuit) fault n (now node) (length (now test)) (length (now work)) ⌝ }
-    ensures { λ r. ⌜ Ran (lookOf fault (now (circuit .entry)) n) (workOf fault (now (circuit .entry)) n) (now (node .entry)) budget (now (test .entry)) (now (work .entry)) r (now (test .exit)) (now (work .exit)) ⌝ }
+    ensures { λ r. ⌜ Ran (lookOf fault (now (circuit .entry)) n) (workOf fault (now (circuit .entry)) n) (now (node .entry)) budget
+        (now (test .entry)) (now (work .entry)) r (now (test .exit)) (now (work .exit)) ⌝ }
 {
     let found = side(circuit, fault, n, node, work, budget);
     put_test(found, node, test);
     found
 }
 
-// The search from all X on.
-fn run_all_x(
+// The search from all X on, for any fault.
+pub fn run_all_x(
     circuit: &[u8],
     fault: Fault,
     n: usize,
@@ -69,28 +70,15 @@ fn run_all_x(
     work: &mut [u8],
 ) -> Verdict
     requires { ⌜ (inputs ≤ 64) × Runs (now circuit) fault n (start inputs) (length (now test)) (length (now work)) ⌝ }
-    ensures { λ r. ⌜ Ran (lookOf fault (now (circuit .entry)) n) (workOf fault (now (circuit .entry)) n) (start inputs) budget (now (test .entry)) (now (work .entry)) r (now (test .exit)) (now (work .exit)) ⌝ }
+    ensures { λ r. ⌜ Ran (lookOf fault (now (circuit .entry)) n) (workOf fault (now (circuit .entry)) n) (start inputs) budget
+        (now (test .entry)) (now (work .entry)) r (now (test .exit)) (now (work .exit)) ⌝ }
 {
     let mut node = [2u8; 64];
     run(circuit, fault, n, &mut node[..inputs], budget, test, work)
 }
 
-// Refusal 10.
-fn check_lent(inputs: usize, n: usize, test: usize, work: usize) -> Ruling
-    requires { ⌜ n ≤ 2048 ⌝ }
-    ensures { λ r. ⌜ r ≡ refusal (lentRules inputs n test work) ⌝ }
-{
-    if test != inputs {
-        return Ruling::Refused(10, 0);
-    }
-    if work != 2 * n {
-        return Ruling::Refused(10, 0);
-    }
-    Ruling::Fine
-}
-
 // Refusals 6, 7 and 10.
-fn check_rest(
+pub fn check_rest(
     circuit: &[u8],
     fault: &[u8],
     inputs: usize,
@@ -104,7 +92,7 @@ fn check_rest(
     let v = check_faults(circuit, fault, 1);
     match v {
         Ruling::Refused(number, place) => Ruling::Refused(number, place),
-        Ruling::Fine => check_lent(inputs, n, test, work),
+        Ruling::Fine => check_lent(inputs, test, 2 * n, work),
     }
 }
 
@@ -118,7 +106,7 @@ fn accepted(
     test: &mut [u8],
     work: &mut [u8],
 ) -> Searched
-    requires { ⌜ (n ≡ linesOf (now circuit)) × (inputs ≡ inputsOf (now circuit)) × Good (now circuit) ⌝ }
+    requires { ⌜ Known (now circuit) n inputs ⌝ }
     ensures { λ r. ⌜ Answers (now (circuit .entry)) (now (fault .entry)) inputs n budget (now (test .entry)) (now (work .entry)) r (now (test .exit)) (now (work .exit)) ⌝ }
 {
     let v = check_rest(circuit, fault, inputs, n, test.len(), work.len());

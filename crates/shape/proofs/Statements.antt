@@ -8,7 +8,7 @@ use native.Mathlib.Omega.{arith}
 use lib.ListN.{length, getD, length-map, List·getD-map}
 use lib.Seq.{ext-getD}
 use Rattle.ground.specs.Lists.{table}
-use Rattle.ground.proofs.Lists.{table-length, table-get}
+use Rattle.ground.proofs.Grow.{table-length, table-at}
 use Rattle.words.specs.Words.{wordAt, wordsOf, endsOf}
 use Rattle.syntax.specs.Kinds.{portWords, kindWords, Among}
 use Rattle.syntax.specs.Syntax.{Formed}
@@ -24,7 +24,7 @@ unfolding sizeAt
 row-table {t} {ws} {es} {k} r =
     let n : length (r .row) ≡ sizeAt es k = omega (arith, r .end) in
     ext-getD 0 (r .row) (table (wordIn ws es k) (sizeAt es k)) (n ∙ sym (table-length (wordIn ws es k) (sizeAt es k)))
-    (λ j h. sym (table-get (wordIn ws es k) (sizeAt es k) j (omega (arith, n)) ∙ r .words j h))
+    (λ j h. sym (table-at (wordIn ws es k) (sizeAt es k) 0 j (omega (arith, n)) ∙ r .words j h))
 
 -- they are a statement's, or there are none
 pub line-shape : (t : List ℕ) → Formed t → (k : ℕ) → k < length (endsOf t) → Shape (wordsOn t k)
@@ -44,7 +44,7 @@ module _ (t : List ℕ) (k : ℕ) where
   unfolding wordsOn
   words-at j l =
       List·getD-map (wordAt t) (table (wordIn (wordsOf t) (endsOf t) k) (sizeAt (endsOf t) k)) j 0
-      ∙ ap (wordAt t) (table-get (wordIn (wordsOf t) (endsOf t) k) (sizeAt (endsOf t) k) j l)
+      ∙ ap (wordAt t) (table-at (wordIn (wordsOf t) (endsOf t) k) (sizeAt (endsOf t) k) 0 j l)
 
 -- ---- what a line says
 

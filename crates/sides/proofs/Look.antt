@@ -4,8 +4,7 @@ use mathlib.Core.Path.{_≡_, refl}
 use mathlib.Core.Logic.{⊎-elim}
 use mathlib.Core.Bool.{Bool, true, false}
 use mathlib.Core.List.{List}
-use Prim.Native.Nat.{ℕ, _≤_, _<_}
-use native.Mathlib.Nat.{le-refl}
+use Prim.Native.Nat.{ℕ, _+_, _≤_, _<_}
 use native.Mathlib.Omega.{arith}
 use lib.ListN.{length}
 use Rattle.ground.specs.Choose.{choose}
@@ -25,7 +24,9 @@ use Rattle.entry.proofs.Words.{fail-some, pass-every, entry-words}
 use Rattle.entry.proofs.Fill.{known-decided}
 use Rattle.nodes.specs.Node.{Node, IsNode, countX}
 use Rattle.nodes.proofs.Node.{all-set}
+use Rattle.simulate.proofs.Settled.{shaped}
 use Rattle.sides.specs.Look.{settled, Settled, lookOf}
+use Rattle.sides.specs.Owed.{Prepared}
 
 -- ---- the search's own word
 
@@ -81,6 +82,15 @@ module _ (fault : Fault) (c : List ℕ) (n : ℕ) (s : Node) where
           let sized : WellFormed c (length s) n = rw (i .size) well in
           known-decided settled Settled settled-says apart (λ a b h. record { good-known = h .good-known; faulty-known = h .faulty-known; equal = h .equal }) c (goodOf c s n) (faultyOf fault c s n) n
           (λ k l. (
-            values-known unforced unforced-keeps c s n sized full n (le-refl n) k l,
-            values-known (stuckAt fault) (stuck-keeps fault (omega arith)) c s n sized full n (le-refl n) k l,
+            values-known unforced unforced-keeps c s n sized full k,
+            values-known (stuckAt fault) (stuck-keeps fault (omega arith)) c s n sized full k,
           ))
+
+-- what a search of an accepted circuit needs
+pub prepared : (fault : Fault) (c : List ℕ) (n room : ℕ) → WellFormed c (inputsBefore c n) n → fault .line < n → fault .value ≤ 1 → room ≡ n + n → Prepared c fault n room
+prepared fault c n room well line small two = record {
+  shaped = shaped well;
+  line = line;
+  looks = record { three = λ s i. look-three fault c n s; unknown = λ s i. unknown-has-x fault c n s small well i };
+  two = two;
+}

@@ -2,18 +2,19 @@
 -- Assumes nothing.
 use mathlib.Core.Path.{_≡_}
 use mathlib.Core.List.{List}
-use Prim.Native.Nat.{ℕ, _+_, _≤_, _<_}
+use Prim.Native.Nat.{ℕ, _+_, _<_}
 use Rattle.circuit.specs.Record.{inputsBefore}
-use Rattle.circuit.specs.Formed.{WellFormed}
 use Rattle.lists.specs.declared.Fault.{Fault}
+use Rattle.simulate.specs.Owed.{Shaped}
 use Rattle.nodes.specs.Node.{Node}
+use Rattle.nodes.specs.Walk.{Looks}
 use Rattle.sides.specs.Look.{lookOf, workOf}
 
--- a circuit of n lines, a fault on one of them, and room for two values a line
+-- a circuit of n lines, a fault on one of them, of which a node without X always says something, and room for two values a line
 pub record Prepared (c : List ℕ) (fault : Fault) (n room : ℕ) : Type 0 where
-  pub well : WellFormed c (inputsBefore c n) n
+  pub shaped : Shaped c (inputsBefore c n) n
   pub line : fault .line < n
-  pub value : fault .value ≤ 1
+  pub looks : Looks (inputsBefore c n) (lookOf fault c n)
   pub two : room ≡ n + n
 
 pub record Visited (fault : Fault) (c : List ℕ) (n : ℕ) (s : Node) (r : ℕ) (w′ : List ℕ) : Type 0 where

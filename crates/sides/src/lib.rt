@@ -6,7 +6,7 @@ use nodes::first_x;
 ghost use lib.ListN.{length};
 ghost use Rattle.circuit.specs.Record.{inputsBefore};
 ghost use Rattle.nodes.specs.Node.{IsNode};
-ghost use Rattle.nodes.specs.Side.{Sided};
+ghost use Rattle.nodes.specs.Owed.{Sided};
 ghost use Rattle.sides.specs.Look.{lookOf, workOf};
 ghost use Rattle.sides.specs.Owed.{Prepared, Visited};
 

@@ -3,19 +3,19 @@
 use mathlib.Core.Path.{_≡_, refl, sym, ap, _∙_}
 use mathlib.Core.Bool.{Bool, true, false, _&&_}
 use mathlib.Core.List.{List}
-use Prim.Native.Nat.{ℕ, zero, suc, _+_, _≤_, _<_}
+use Prim.Native.Nat.{ℕ, _+_, _≤_, _<_}
 use native.Mathlib.Omega.{arith}
 use lib.Dec.{eqb}
 use lib.ListN.{length, getD, set}
 use borrow.Author.Tests.{eq-eqb, ne-eqb, eqb-true}
 use Rattle.ground.specs.Choose.{choose}
 use Rattle.ground.proofs.Tests.{both}
+use Rattle.ground.proofs.Grow.{grow-length, grow-at, grow-front, grow-same}
 use Rattle.circuit.specs.Record.{isInput, inputsBefore}
 use Rattle.lists.specs.declared.Fault.{Fault}
-use Rattle.simulate.specs.Simulate.{unforced, stuckAt, gateValue, lineValue, valuesTo}
+use Rattle.simulate.specs.Simulate.{unforced, stuckAt, gateValue, lineValue}
 use Rattle.simulate.specs.Work.{goodOf, faultyOf}
 use Rattle.simulate.specs.Owed.{Ordered, lineIn, Settled, Leaves, Simulates, MakesFaulty}
-use Rattle.simulate.proofs.Values.{values-length, value-at, values-front}
 use Rattle.simulate.proofs.Settled.{settled-more}
 
 module _ (fault : Fault) where
@@ -41,20 +41,19 @@ module _ (fault : Fault) where
   line-below c p vs k h = simp (ne-eqb k (fault .line) (λ e. omega arith))
 
   pub values-below : (c p : List ℕ) (k : ℕ) → k ≤ fault .line → faultyOf fault c p k ≡ goodOf c p k
-  unfolding valuesTo
-  values-below c p zero h = refl
-  values-below c p (suc k) h = rw (values-below c p k (omega arith), line-below c p (goodOf c p k) k (omega arith))
+  values-below c p k h =
+      grow-same (lineValue (stuckAt fault) c p) (lineValue unforced c p) k (λ j l. line-below c p (goodOf c p j) j (omega arith))
 
   -- an input's line has its value in the pattern
   good-input : (c p : List ℕ) (n j : ℕ) → j < n → isInput c j ≡ true → getD (goodOf c p n) j 0 ≡ getD p (inputsBefore c j) 0
   unfolding lineValue
-  good-input c p n j l e = value-at unforced c p n j l ∙ rw e
+  good-input c p n j l e = grow-at (lineValue unforced c p) 0 n j l ∙ rw e
 
   -- the good values are settled below the fault's line
   good-settled : (c p : List ℕ) (n : ℕ) → fault .line < n → Settled (stuckAt fault) c p (goodOf c p n) (fault .line)
   good-settled c p n l = record {
-    done = values-front unforced c p (fault .line) n (omega arith) ∙ sym (values-below c p (fault .line) (omega arith));
-    inputs = λ j a b e. good-input c p n j (omega (arith, values-length unforced c p n)) e;
+    done = grow-front (lineValue unforced c p) (fault .line) n (omega arith) ∙ sym (values-below c p (fault .line) (omega arith));
+    inputs = λ j a b e. good-input c p n j (omega (arith, grow-length (lineValue unforced c p) n)) e;
   }
 
   -- with the fault's line and the lines above it simulated, they are the faulty ones

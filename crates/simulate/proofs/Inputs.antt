@@ -14,11 +14,10 @@ use Rattle.ground.specs.Choose.{one}
 use Rattle.ground.specs.Below.{countBelow}
 use Rattle.ground.proofs.Counting.{count-suc, count-most, count-below}
 use Rattle.circuit.specs.Record.{kindAt, isInput, inputsBefore}
-use Rattle.circuit.specs.Formed.{WellFormed}
-use Rattle.simulate.specs.Owed.{inputOr, InputsFrom}
+use Rattle.simulate.specs.Owed.{Shaped, inputOr, InputsFrom}
 
 -- an input's number is below that of inputs
-pub input-below : {c : List ℕ} {m n k : ℕ} → WellFormed c m n → k < n → kindAt c k ≡ 0 → inputsBefore c k < m
+pub input-below : {c : List ℕ} {m n k : ℕ} → Shaped c m n → k < n → kindAt c k ≡ 0 → inputsBefore c k < m
 input-below {c} {m} {n} {k} w l e = omega (arith, count-below (isInput c) k n l (eq-eqb _ _ e), w .inputs-are)
 
 -- the inputs' lines below k are set, and i inputs stand there

@@ -1,4 +1,3 @@
-pub mod Values
 pub mod Line
 pub mod Settled
 pub mod Inputs

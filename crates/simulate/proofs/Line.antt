@@ -3,7 +3,6 @@
 use mathlib.Core.Path.{_≡_, ap, _∙_}
 use mathlib.Core.List.{List}
 use Prim.Native.Nat.{ℕ, _≤_, _<_}
-use native.Mathlib.Omega.{arith}
 use lib.ListN.{getD}
 use borrow.Author.Tests.{eq-eqb, ne-eqb}
 use Rattle.gates.specs.Gate.{gateOf, atPins}
@@ -29,4 +28,4 @@ module _ (f : Forcing) (c vs : List ℕ) (k : ℕ) where
 
 -- a source stands among the lines
 pub source-inside : {c : List ℕ} {n k : ℕ} → Ordered c n → k < n → (kindAt c k ≡ 0 → ⊥) → (s : ℕ) → 1 ≤ s → s ≤ 3 → pinAt c k s < n
-source-inside {c} {n} {k} o l ne s a b = omega (arith, o .lower k l ne s a b)
+source-inside o l ne s a b = o .inside _ l ne s a b

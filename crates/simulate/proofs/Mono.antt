@@ -1,19 +1,18 @@
 -- Simulation is monotone in the pattern: what is known under a pattern is the same under every refinement of it.
 -- Assumes nothing.
-use mathlib.Core.Path.{_≡_, refl, sym, _∙_}
+use mathlib.Core.Path.{refl}
 use mathlib.Core.Bool.{Bool, true, false, _&&_}
-use mathlib.Core.List.{List, [], _∷_, _++_}
-use Prim.Native.Nat.{ℕ, zero, suc}
-use native.Mathlib.Omega.{arith}
+use mathlib.Core.List.{List}
+use Prim.Native.Nat.{ℕ}
 use lib.Dec.{eqb}
-use lib.ListN.{length, getD}
+use lib.ListN.{getD}
 use Rattle.ground.specs.Choose.{choose}
+use Rattle.ground.proofs.Grow.{grow-related}
 use Rattle.gates.specs.Gate.{Refines}
 use Rattle.gates.proofs.Laws.{gate-mono}
 use Rattle.circuit.specs.Record.{kindAt, pinAt, isInput, inputsBefore}
 use Rattle.lists.specs.declared.Fault.{Fault}
 use Rattle.simulate.specs.Simulate.{Forcing, unforced, stuckAt, gateValue, lineValue, valuesTo}
-use Rattle.simulate.proofs.Values.{values-length}
 
 -- place by place
 abbrev pub RefinesAll : List ℕ → List ℕ → Type 0
@@ -37,14 +36,6 @@ choose-mono : (b : Bool) (x y x′ y′ : ℕ) → Refines x x′ → Refines y 
 choose-mono true x y x′ y′ h h′ = h
 choose-mono false x y x′ y′ h h′ = h′
 
-snoc-mono : (xs ys : List ℕ) (x y : ℕ) → length xs ≡ length ys → RefinesAll xs ys → Refines x y → RefinesAll (xs ++ (x ∷ [])) (ys ++ (y ∷ []))
-snoc-mono [] [] x y e h g zero = g
-snoc-mono [] [] x y e h g (suc i) = λ _. refl
-snoc-mono [] (b ∷ ys) x y e h g i = absurd (omega arith)
-snoc-mono (a ∷ xs) [] x y e h g i = absurd (omega arith)
-snoc-mono (a ∷ xs) (b ∷ ys) x y e h g zero = h 0
-snoc-mono (a ∷ xs) (b ∷ ys) x y e h g (suc i) = snoc-mono xs ys x y (omega arith) (λ j. h (suc j)) g i
-
 module _ (f : Forcing) (mono : Monotone f) (c p q : List ℕ) (finer : RefinesAll p q) where
   gate-value-mono : (vs ws : List ℕ) (k : ℕ) → RefinesAll vs ws → Refines (gateValue f c vs k) (gateValue f c ws k)
   unfolding gateValue
@@ -55,8 +46,4 @@ module _ (f : Forcing) (mono : Monotone f) (c p q : List ℕ) (finer : RefinesAl
   line-mono vs ws k h = mono k 0 _ _ (choose-mono (isInput c k) _ _ _ _ (finer (inputsBefore c k)) (gate-value-mono vs ws k h))
 
   pub values-mono : (k : ℕ) → RefinesAll (valuesTo f c p k) (valuesTo f c q k)
-  unfolding valuesTo
-  values-mono zero = λ i _. refl
-  values-mono (suc k) =
-      snoc-mono (valuesTo f c p k) (valuesTo f c q k) _ _ (values-length f c p k ∙ sym (values-length f c q k)) (values-mono k)
-      (line-mono (valuesTo f c p k) (valuesTo f c q k) k (values-mono k))
+  values-mono k = grow-related Refines 0 0 (λ _. refl) (lineValue f c p) (lineValue f c q) k (λ j _. line-mono (valuesTo f c p j) (valuesTo f c q j) j)

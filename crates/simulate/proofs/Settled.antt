@@ -1,6 +1,7 @@
 -- The loop over the lines, as facts about lists: where it starts, one line more, and its end.
 -- Assumes nothing.
 use mathlib.Core.Path.{_≡_, refl, sym, ap, _∙_}
+use mathlib.Core.Logic.{⊎-elim}
 use mathlib.Core.Bool.{Bool, true, false}
 use mathlib.Core.List.{List}
 use Prim.Native.Nat.{ℕ, _+_, _≤_, _<_}
@@ -10,25 +11,39 @@ use lib.ListN.{length, getD, take, set, length-set}
 use lib.Seq.{getD-take, take-suc-set, take-all, getD-set-other}
 use borrow.Author.Tests.{eqb-false}
 use Rattle.ground.specs.Choose.{choose}
+use Rattle.ground.specs.Lists.{grow}
+use Rattle.ground.proofs.Tests.{either}
+use Rattle.gates.specs.Gate.{lastKind}
 use Rattle.gates.proofs.Laws.{gate-same, two-pins}
+use Rattle.gates.proofs.Clip.{other}
 use Rattle.circuit.specs.Record.{kindAt, pinAt, isInput, inputsBefore}
 use Rattle.circuit.specs.Formed.{Lower, WellFormed}
 use Rattle.simulate.specs.Simulate.{Forcing, unforced, gateValue, lineValue, valuesTo}
 use Rattle.simulate.specs.Work.{goodOf}
-use Rattle.simulate.specs.Owed.{Ordered, lineIn, InputsFrom, Settled, Leaves, Simulates}
+use Rattle.simulate.specs.Owed.{Ordered, Shaped, lineIn, InputsFrom, Settled, Leaves, Simulates}
 
 pub ordered : {c : List ℕ} {m n : ℕ} → WellFormed c m n → Ordered c n
-ordered w = record { size = w .size; lower = w .lower }
+ordered w = record {
+  size = w .size;
+  inside = λ k l ne s a b. omega (arith, w .lower k l ne s a b);
+  lower = λ k l ne _. w .lower k l ne;
+}
+
+pub shaped : {c : List ℕ} {m n : ℕ} → WellFormed c m n → Shaped c m n
+shaped w = record { ordered = ordered w; inputs-are = w .inputs-are }
 
 -- a gate's value takes no notice of what stands at its place and above
-gate-take : (f : Forcing) (c vs : List ℕ) (k : ℕ) → Lower c k → gateValue f c vs k ≡ gateValue f c (take k vs) k
+gate-take : (f : Forcing) (c vs : List ℕ) (k : ℕ) → (kindAt c k ≤ lastKind → Lower c k) → gateValue f c vs k ≡ gateValue f c (take k vs) k
 unfolding gateValue
 gate-take f c vs k low =
-    gate-same (kindAt c k) _ _ (λ s l m. ap (f k s) (sym (getD-take k vs (pinAt c k s) 0 (low s l (omega (arith, two-pins (kindAt c k)))))))
+    ⊎-elim
+    (λ h. gate-same (kindAt c k) _ _ (λ s l m. ap (f k s) (sym (getD-take k vs (pinAt c k s) 0 (low (omega arith) s l (omega (arith, two-pins (kindAt c k))))))))
+    (λ h. other (kindAt c k) _ h ∙ sym (other (kindAt c k) _ h))
+    (either (kindAt c k) 9)
 
 -- nor does a line's value: it is that of the definition, where the lines below it are settled
 line-settled : {f : Forcing} {c p vs : List ℕ} {k : ℕ}
-    → ((kindAt c k ≡ 0 → ⊥) → Lower c k)
+    → ((kindAt c k ≡ 0 → ⊥) → kindAt c k ≤ lastKind → Lower c k)
     → k < length vs
     → Settled f c p vs k
     → lineIn f c vs k ≡ lineValue f c p (valuesTo f c p k) k
@@ -43,11 +58,11 @@ line-settled {f} {c} {p} {vs} {k} low l s = go (isInput c k) refl
 
 -- a line more
 pub settled-more : {f : Forcing} {c p vs : List ℕ} {k : ℕ}
-    → ((kindAt c k ≡ 0 → ⊥) → Lower c k)
+    → ((kindAt c k ≡ 0 → ⊥) → kindAt c k ≤ lastKind → Lower c k)
     → k < length vs
     → Settled f c p vs k
     → Settled f c p (set vs k (lineIn f c vs k)) (k + 1)
-unfolding valuesTo
+unfolding grow
 settled-more {f} {c} {p} {vs} {k} low l s = record {
   done = rw (add-one, take-suc-set vs k (lineIn f c vs k) l, s .done, line-settled low l s);
   inputs = λ j a b e.
@@ -92,6 +107,6 @@ module _ {c vs₀ vs : List ℕ} {k start : ℕ} (so : SoFar c vs₀ start vs k)
 
 -- with the inputs' lines set, all lines simulated have the good values
 pub all-good : (c p vs₀ : List ℕ) {vs vs′ : List ℕ} → length vs ≡ length vs₀ → InputsFrom c p vs 0 → Simulates c vs 0 vs′ → vs′ ≡ goodOf c p (length vs₀)
-unfolding valuesTo
+unfolding grow
 all-good c p vs₀ long inputs simulated =
     simulated unforced p (λ l s v _. refl) (record { done = refl; inputs = inputs }) ∙ ap (goodOf c p) long

@@ -1,15 +1,17 @@
 -- What a complete input vector does, over Bool and on its own: good and faulty truths, and when a vector detects a fault.
 -- Assumes nothing.
 use mathlib.Core.Path.{_≡_}
-use mathlib.Core.Bool.{Bool, true, false, _&&_}
-use mathlib.Core.List.{List, [], _∷_, _++_}
-use Prim.Native.Nat.{ℕ, zero, suc, _<_}
+use mathlib.Core.Bool.{Bool, true, false}
+use mathlib.Core.List.{List}
+use Prim.Native.Nat.{ℕ, _<_}
 use lib.Dec.{eqb}
 use lib.ListN.{getD}
 use Rattle.ground.specs.Choose.{choose}
+use Rattle.ground.specs.Lists.{grow}
 use Rattle.gates.specs.Boolean.{boolGate}
 use Rattle.circuit.specs.Record.{kindAt, pinAt, isInput, isOutput, inputsBefore}
 use Rattle.lists.specs.declared.Fault.{Fault}
+use Rattle.lists.specs.Faults.{isAt}
 
 -- the value of each input, by its number
 abbrev pub Vector : Type 0
@@ -23,7 +25,7 @@ abbrev pub good : Truths
 good line site b = b
 
 unfoldable pub faulty : Fault → Truths
-faulty fault line site b = choose (eqb line (fault .line) && eqb site (fault .site)) (eqb (fault .value) 1) b
+faulty fault line site b = choose (isAt fault line site) (eqb (fault .value) 1) b
 
 unfoldable pub gateTruth : Truths → List ℕ → List Bool → ℕ → Bool
 gateTruth f c ts k = boolGate (kindAt c k) (λ s. f k s (getD ts (pinAt c k s) false))
@@ -31,10 +33,9 @@ gateTruth f c ts k = boolGate (kindAt c k) (λ s. f k s (getD ts (pinAt c k s) f
 unfoldable pub lineTruth : Truths → List ℕ → Vector → List Bool → ℕ → Bool
 lineTruth f c x ts k = f k 0 (choose (isInput c k) (x (inputsBefore c k)) (gateTruth f c ts k))
 
--- the truths of the first k lines
-unfoldable pub truthsTo : Truths → List ℕ → Vector → ℕ → List Bool
-truthsTo f c x zero = []
-truthsTo f c x (suc k) = truthsTo f c x k ++ (lineTruth f c x (truthsTo f c x k) k ∷ [])
+-- the truths of the first n lines, each after those below it
+abbrev pub truthsTo : Truths → List ℕ → Vector → ℕ → List Bool
+truthsTo f c x n = grow (lineTruth f c x) n
 
 -- the truth of line k of a circuit of n lines
 abbrev pub truthAt : Truths → List ℕ → Vector → ℕ → ℕ → Bool

@@ -6,20 +6,27 @@ use mathlib.Core.List.{List}
 use Prim.Native.Nat.{ℕ, _+_, _*_, _≤_, _<_}
 use lib.ListN.{length, getD, take}
 use Rattle.ground.specs.Choose.{choose}
-use Rattle.circuit.specs.Record.{kindAt, isInput, inputsBefore}
-use Rattle.circuit.specs.Formed.{Lower, WellFormed}
+use Rattle.gates.specs.Gate.{lastKind}
+use Rattle.circuit.specs.Record.{kindAt, pinAt, isInput, inputsBefore}
+use Rattle.circuit.specs.Formed.{Lower}
 use Rattle.lists.specs.declared.Fault.{Fault}
 use Rattle.simulate.specs.Simulate.{Forcing, gateValue, valuesTo}
 use Rattle.simulate.specs.Work.{goodOf, faultyOf, bothOf}
 
--- so many lines, every gate above its sources
+-- so many lines, every gate above its sources; a line whose kind has no rule is X, and its sources are just lines
 pub record Ordered (c : List ℕ) (n : ℕ) : Type 0 where
   pub size : length c ≡ 8 * n
-  pub lower : (k : ℕ) → k < n → (kindAt c k ≡ 0 → ⊥) → Lower c k
+  pub inside : (k : ℕ) → k < n → (kindAt c k ≡ 0 → ⊥) → (s : ℕ) → 1 ≤ s → s ≤ 3 → pinAt c k s < n
+  pub lower : (k : ℕ) → k < n → (kindAt c k ≡ 0 → ⊥) → kindAt c k ≤ lastKind → Lower c k
+
+-- and so many of them inputs
+pub record Shaped (c : List ℕ) (inputs n : ℕ) : Type 0 where
+  pub ordered : Ordered c n
+  pub inputs-are : inputsBefore c n ≡ inputs
 
 -- a circuit of n lines, and room for two values a line
 pub record Room (c : List ℕ) (inputs n room : ℕ) : Type 0 where
-  pub well : WellFormed c inputs n
+  pub shaped : Shaped c inputs n
   pub two : room ≡ n + n
 
 -- the same with a fault on one of the lines

@@ -1,16 +1,16 @@
 -- Patterns and complete input vectors.
 -- Assumes nothing.
-use mathlib.Core.List.{List, [], _∷_, _++_}
-use Prim.Native.Nat.{ℕ, zero, suc, _<_}
+use mathlib.Core.List.{List}
+use Prim.Native.Nat.{ℕ, _<_}
 use lib.ListN.{length, getD}
 use Rattle.ground.specs.Choose.{one}
+use Rattle.ground.specs.Lists.{table}
 use Rattle.gates.specs.Gate.{Refines}
 use Rattle.simulate.specs.Boolean.{Vector}
 
 -- a vector as a pattern of so many inputs
-unfoldable pub patternOf : ℕ → Vector → List ℕ
-patternOf zero x = []
-patternOf (suc n) x = patternOf n x ++ (one (x n) ∷ [])
+abbrev pub patternOf : ℕ → Vector → List ℕ
+patternOf n x = table (λ i. one (x i)) n
 
 -- the pattern p has no X
 abbrev pub NoX : List ℕ → Type 0

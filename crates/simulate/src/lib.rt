@@ -9,10 +9,9 @@ ghost use mathlib.Core.List.{_++_};
 ghost use Prim.Native.Nat.{_+_, _<_, _≤_};
 ghost use lib.ListN.{length, take, drop};
 ghost use Rattle.circuit.specs.Record.{kindAt, Inside};
-ghost use Rattle.circuit.specs.Formed.{WellFormed};
 ghost use Rattle.simulate.specs.Simulate.{unforced, stuckAt};
 ghost use Rattle.simulate.specs.Work.{goodOf};
-ghost use Rattle.simulate.specs.Owed.{Ordered, Room, FaultRoom, inputOr, lineIn, InputsFrom, Simulates, MakesFaulty, AddsFaulty};
+ghost use Rattle.simulate.specs.Owed.{Ordered, Shaped, Room, FaultRoom, inputOr, lineIn, InputsFrom, Simulates, MakesFaulty, AddsFaulty};
 
 // The value of line k; an input's line has it already.
 fn line_value(circuit: &[u8], values: &[u8], k: usize) -> u8
@@ -54,7 +53,7 @@ fn input_or(circuit: &[u8], pattern: &[u8], k: usize, used: usize) -> u8
 
 // Gives every input's line its value in the pattern.
 fn put_inputs(circuit: &[u8], pattern: &[u8], values: &mut [u8])
-    requires { ⌜ WellFormed (now circuit) (length (now pattern)) (length (now values)) ⌝ }
+    requires { ⌜ Shaped (now circuit) (length (now pattern)) (length (now values)) ⌝ }
     ensures { λ _. ⌜ InputsFrom (now (circuit .entry)) (now (pattern .entry)) (now (values .exit)) 0 ⌝ }
 {
     let mut k = 0;
@@ -69,7 +68,7 @@ fn put_inputs(circuit: &[u8], pattern: &[u8], values: &mut [u8])
 
 // The good values of all lines.
 fn simulate(circuit: &[u8], pattern: &[u8], values: &mut [u8])
-    requires { ⌜ WellFormed (now circuit) (length (now pattern)) (length (now values)) ⌝ }
+    requires { ⌜ Shaped (now circuit) (length (now pattern)) (length (now values)) ⌝ }
     ensures { λ _. ⌜ now (values .exit) ≡ goodOf (now (circuit .entry)) (now (pattern .entry)) (length (now (values .entry))) ⌝ }
 {
     put_inputs(circuit, pattern, values);

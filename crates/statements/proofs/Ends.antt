@@ -13,9 +13,9 @@ use Rattle.ground.specs.Choose.{one}
 use Rattle.ground.specs.Below.{countBelow}
 use Rattle.ground.specs.Lists.{collect}
 use Rattle.ground.proofs.Tests.{either}
-use Rattle.ground.proofs.Counting.{count-mono}
+use Rattle.ground.proofs.Counting.{count-mono, nth}
 use Rattle.ground.proofs.Lists.{collect-length}
-use Rattle.ground.proofs.Collect.{collect-from, collect-below}
+use Rattle.ground.proofs.Collect.{collect-nth, collect-below}
 use Rattle.words.specs.Words.{begins, feeds, wordsTo, wordsOf, endsOf}
 use Rattle.statements.specs.Lines.{startAt, wordIn, sizeAt}
 
@@ -63,12 +63,12 @@ end t k l = go (ℕ-discrete (length fed) k)
       is = getD-at fed (wordsTo t (length t)) [] 0 k e;
     }
     go (no e) =
-        let w = collect-from (feeds t) (wordsTo t) (length t) k (omega (arith, ends-length t, long)) in
+        let w = nth (feeds t) (length t) k (omega (arith, ends-length t, long)) in
         record {
           place = w .place;
           inside = omega (arith, w .below);
           before = w .before;
-          is = List·getD-append fed (wordsTo t (length t) ∷ []) 0 k (omega (arith, ends-length t, long)) ∙ w .is;
+          is = List·getD-append fed (wordsTo t (length t) ∷ []) 0 k (omega (arith, ends-length t, long)) ∙ collect-nth (feeds t) (wordsTo t) (length t) k w;
         }
 
 module _ (t : List ℕ) where

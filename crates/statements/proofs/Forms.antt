@@ -8,13 +8,14 @@ use native.Mathlib.Decide.{decLt}
 use native.Mathlib.Numerals.{add-one}
 use native.Mathlib.Omega.{arith}
 use lib.Dec.{eqb, leb}
-use lib.ListN.{length, getD, set, length-set, List·getD-eq-default}
+use lib.ListN.{length, getD, take, set, length-set, List·getD-eq-default}
+use lib.Seq.{take-all, take-suc-set}
 use borrow.Author.Tests.{eqb-true}
 use Rattle.ground.specs.Choose.{choose, one}
 use Rattle.ground.specs.Below.{countBelow}
-use Rattle.ground.specs.Lists.{table}
+use Rattle.ground.specs.Lists.{grow, table}
 use Rattle.ground.proofs.Counting.{Sum, no-sum, sum-more, sum-all, count-same}
-use Rattle.ground.proofs.Lists.{table-length, table-get, Tabled, tabled-none, tabled-more, tabled-all}
+use Rattle.ground.proofs.Grow.{table-length, table-at}
 use Rattle.words.specs.Words.{wordAt, same}
 use Rattle.syntax.specs.Kinds.{inputWord}
 use Rattle.statements.specs.Lines.{wordIn, sizeAt, formOf, formsOf}
@@ -62,7 +63,7 @@ forms-length t ws es = table-length (formOf t ws es) (length es)
 
 pub forms-get : (t ws es : List ℕ) (k : ℕ) → k < length es → getD (formsOf t ws es) k 0 ≡ formOf t ws es k
 unfolding formsOf
-forms-get t ws es k l = table-get (formOf t ws es) (length es) k l
+forms-get t ws es k l = table-at (formOf t ws es) (length es) 0 k l
 
 pub forms-small : (t ws es : List ℕ) (k : ℕ) → getD (formsOf t ws es) k 0 < 5
 forms-small t ws es k = go (decLt k (length es))
@@ -77,18 +78,20 @@ forms-small t ws es k = go (decLt k (length es))
 
 pub record Forming (t ws es fs : List ℕ) (gates k : ℕ) : Type 0 where
   pub lines : length fs ≡ length es
-  pub forms : Tabled (formOf t ws es) fs k
+  pub forms : take k fs ≡ table (formOf t ws es) k
   pub counted : Sum (λ i. leb 3 (formOf t ws es i)) (length es) k gates
 
 module _ {t ws es fs : List ℕ} where
   pub start : length fs ≡ length es → Forming t ws es fs 0 0
-  start l = record { lines = l; forms = tabled-none _ _; counted = no-sum _ _ }
+  unfolding grow
+  start l = record { lines = l; forms = refl; counted = no-sum _ _ }
 
   module _ {gates k : ℕ} (s : Forming t ws es fs gates k) where
     pub next : k < length es → {x b : ℕ} → x ≡ formOf t ws es k → b ≡ one (leb 3 x) → Forming t ws es (set fs k x) (gates + b) (k + 1)
+    unfolding grow
     next l {x} ex eb = record {
       lines = length-set fs k x ∙ s .lines;
-      forms = rw (add-one k) (tabled-more (s .forms) (omega (arith, s .lines)) x ex);
+      forms = rw (add-one, take-suc-set fs k x (omega (arith, s .lines)), s .forms, ex);
       counted = sum-more (s .counted) l (eb ∙ ap (λ (i : ℕ). one (leb 3 i)) ex);
     }
 
@@ -96,7 +99,7 @@ module _ {t ws es fs : List ℕ} where
     unfolding formsOf
     finished h =
         let e : k ≡ length es = omega (arith, s .counted .at-most) in
-        let all : fs ≡ formsOf t ws es = tabled-all (s .forms) (omega (arith, s .lines)) ∙ ap (table (formOf t ws es)) e in
+        let all : fs ≡ formsOf t ws es = sym (take-all k fs (omega (arith, s .lines))) ∙ s .forms ∙ ap (table (formOf t ws es)) e in
         record {
           forms-are = all;
           gates-are =

@@ -8,14 +8,14 @@ use Prim.Native.Nat.{ℕ, _≤_}
 use lib.Dec.{eqb, leb}
 use borrow.Author.Tests.{eqb-true, leb-true}
 use Rattle.ground.specs.Choose.{choose}
-use Rattle.ground.specs.Lists.{table}
+use Rattle.ground.specs.Lists.{grow}
 use Rattle.ground.proofs.Tests.{both}
 use Rattle.gates.specs.Gate.{lastKind, pinsOf}
 use Rattle.words.specs.Words.{same}
 use Rattle.syntax.specs.Kinds.{Kind, kinds, wordsWith, kindWords, kindOf, EachKind, Among}
 
 pub each-kind : EachKind
-unfolding kinds kindOf same table pinsOf
+unfolding kinds kindOf same grow pinsOf
 each-kind = record { numbers = refl; sources = refl; words = refl }
 
 -- ---- a word of a kind with n sources

@@ -5,12 +5,12 @@ use mathlib.Core.List.{List}
 use Prim.Native.Nat.{ℕ, _+_, _*_, _-_, _/_, _≤_, _<_}
 use native.Mathlib.Numerals.{add-one}
 use native.Mathlib.Omega.{arith}
-use lib.ListN.{length, getD, set, length-set}
-use Rattle.ground.specs.Lists.{table}
-use Rattle.ground.proofs.Lists.{table-get, Tabled, tabled-none, tabled-more, tabled-all}
-use Rattle.syntax.specs.Derivative.{next}
+use lib.ListN.{length, getD, take, set, length-set}
+use lib.Seq.{take-all, take-suc-set}
+use Rattle.ground.specs.Lists.{grow, table}
+use Rattle.ground.proofs.Grow.{table-at}
 use Rattle.syntax.specs.Owed.{StateTable, Row, Follows, RowTable, stateOf}
-use Rattle.syntax.proofs.Table.{Character, state-at}
+use Rattle.syntax.proofs.Table.{state-at}
 
 -- the row of the state with a character
 abbrev pub rowOf : List ℕ → ℕ → ℕ
@@ -19,24 +19,26 @@ rowOf states k = 23 * (getD states k 0 - 46)
 pub record Filling (states rows : List ℕ) (k : ℕ) : Type 0 where
   pub at-most : k ≤ 1817
   pub long : length rows ≡ 1817
-  pub rows-are : Tabled (rowOf states) rows k
+  pub rows-are : take k rows ≡ table (rowOf states) k
 
 pub start : (states : List ℕ) {rows : List ℕ} → length rows ≡ 1817 → Filling states rows 0
-start states e = record { at-most = omega arith; long = e; rows-are = tabled-none _ _ }
+unfolding grow
+start states e = record { at-most = omega arith; long = e; rows-are = refl }
 
 module _ {states rows : List ℕ} {k : ℕ} (f : Filling states rows k) where
   pub more : k < 1817 → {x : ℕ} → x ≡ rowOf states k → Filling states (set rows k x) (k + 1)
+  unfolding grow
   more l {x} e = record {
     at-most = omega arith;
     long = length-set rows k x ∙ f .long;
-    rows-are = rw (add-one k) (tabled-more (f .rows-are) (omega (arith, f .long)) x e);
+    rows-are = rw (add-one, take-suc-set rows k x (omega (arith, f .long)), f .rows-are, e);
   }
 
   pub all : StateTable states → 1817 ≤ k → RowTable rows
   all s l =
       let e : k ≡ 1817 = omega (arith, f .at-most) in
-      let whole : rows ≡ table (rowOf states) 1817 = tabled-all (f .rows-are) (omega (arith, f .long)) ∙ ap (table (rowOf states)) e in
-      record { long = f .long; follows = λ q c h g. go q c h g (ap (λ (t : List ℕ). getD t (23 * q + 2 + c) 0) whole ∙ table-get (rowOf states) 1817 (23 * q + 2 + c) (omega arith)) }
+      let whole : rows ≡ table (rowOf states) 1817 = sym (take-all k rows (omega (arith, f .long))) ∙ f .rows-are ∙ ap (table (rowOf states)) e in
+      record { long = f .long; follows = λ q c h g. go q c h g (ap (λ (t : List ℕ). getD t (23 * q + 2 + c) 0) whole ∙ table-at (rowOf states) 1817 0 (23 * q + 2 + c) (omega arith)) }
     where
       go : (q c : ℕ) → q < 79 → c < 21 → getD rows (23 * q + 2 + c) 0 ≡ rowOf states (23 * q + 2 + c) → Follows q c (getD rows (23 * q + 2 + c) 0)
       go q c h g e =

@@ -12,11 +12,11 @@ use lib.Seq.{getD-append-add}
 use borrow.Author.Tests.{leb-true, ltb-true, lt-ltb}
 use Rattle.ground.specs.Choose.{one}
 use Rattle.ground.specs.Below.{allBelow}
-use Rattle.ground.specs.Lists.{table}
+use Rattle.ground.specs.Lists.{grow, table}
 use Rattle.ground.proofs.Tests.{both, one-same}
 use Rattle.ground.proofs.Below.{at-below}
 use Rattle.ground.proofs.Map.{map-at}
-use Rattle.ground.proofs.Lists.{table-length, table-get}
+use Rattle.ground.proofs.Grow.{table-length, table-at}
 use Rattle.words.specs.Words.{within, wordByte}
 use Rattle.syntax.specs.Regular.{Re, none, has}
 use Rattle.syntax.specs.Derivative.{cat, orElse, either, empty, next, after, live}
@@ -28,7 +28,7 @@ use Rattle.syntax.specs.Owed.{SymbolTable, then, inName, inKeyword, inKi
 
 pub symbol-at : (t : List ℕ) → SymbolTable t → (b : ℕ) → b < 256 → getD t b 0 ≡ 97 + symbol b
 unfolding SymbolTable
-symbol-at t e b h = ap (λ (l : List ℕ). getD l b 0) e ∙ table-get (λ k. 97 + symbol k) 256 b h
+symbol-at t e b h = ap (λ (l : List ℕ). getD l b 0) e ∙ table-at (λ k. 97 + symbol k) 256 0 b h
 
 pub symbol-small : (b : ℕ) → b < 256 → symbol b < 21
 unfolding symbol has signs within wordByte placeIn
@@ -41,7 +41,7 @@ unfolding states inName inputWord outputWord inKeyword inKind
 count = refl
 
 row-length : (r : Re) → length (row r) ≡ 23
-unfolding row table
+unfolding row grow
 row-length r = refl
 
 row-at : (r : Re) (c : ℕ) (d : Bool × Re) → c < 21 → getD (row r) (2 + c) d ≡ (true, next r c)
@@ -50,7 +50,7 @@ row-at r c d h =
     let e : 2 + c ≡ suc (suc c) = omega arith in
     rw e
     (map-at (λ k. (true, next r k)) (table (λ k. k) 21) c d 0 (rw (table-length (λ k. k) 21) h)
-    ∙ ap (λ (k : ℕ). (true, next r k)) (table-get (λ k. k) 21 c h))
+    ∙ ap (λ (k : ℕ). (true, next r k)) (table-at (λ k. k) 21 0 c h))
 
 rows-at : (s : List Re) (q c : ℕ) (d : Bool × Re) → q < length s → c < 21 → getD (rows s) (23 * q + 2 + c) d ≡ (true, next (getD s q none) c)
 unfolding rows

@@ -1,6 +1,6 @@
 -- The loop of `cut`: the words and the ends of lines so far.
 -- Assumes nothing.
-use mathlib.Core.Path.{_≡_, refl, ap, _∙_}
+use mathlib.Core.Path.{_≡_, refl, sym, ap, _∙_}
 use mathlib.Core.Bool.{Bool, true, false, _&&_}
 use mathlib.Core.List.{List, [], _∷_, _++_}
 use Prim.Native.Nat.{ℕ, suc, _+_, _*_, _≤_, _<_}
@@ -14,6 +14,7 @@ use Rattle.ground.specs.Below.{countBelow}
 use Rattle.ground.specs.Lists.{collect}
 use Rattle.ground.proofs.Counting.{count-most}
 use Rattle.ground.proofs.Lists.{Collected, collected-none, collected-more}
+use Rattle.ground.proofs.Collect.{collect-no}
 use Rattle.words.specs.Words.{wordByte, mode, modeTo, begins, feeds, wordsTo, wordsOf, endsOf}
 use Rattle.words.specs.Owed.{Room, Cut}
 use Rattle.words.proofs.Halves.{half}
@@ -53,7 +54,7 @@ collected-if {test} {f} {out} {d} {k} s room x e = go (test k) refl
     go true q = rw q at (collected-more s room x (λ p. e))
     go false q =
         let z : d + 0 ≡ d = omega arith in
-        rw z (record { count = rw q (omega (arith, s .count)); are = rw q (s .are) })
+        rw z (record { count = rw q (omega (arith, s .count)); are = s .are ∙ sym (collect-no test f k q) })
 
 long-if : (b : Bool) (l : List ℕ) (d x : ℕ) → length (choose b (set l d x) l) ≡ length l
 long-if true l d x = length-set l d x

@@ -7,7 +7,7 @@ use Prim.Native.Nat.{ℕ, _<_}
 use lib.Dec.{eqb}
 use lib.ListN.{getD}
 use Rattle.ground.specs.Choose.{choose}
-use Rattle.ground.proofs.Lists.{table-get}
+use Rattle.ground.proofs.Grow.{table-at}
 use Rattle.words.specs.Words.{wordByte}
 use Rattle.words.specs.Owed.{WordTable}
 
@@ -19,5 +19,5 @@ pub byte-at : (t : List ℕ) → WordTable t → (b : ℕ) → b < 256 → eqb (
 unfolding WordTable
 byte-at t e b h =
     ap (λ (l : List ℕ). eqb (getD l b 0) 119) e
-    ∙ ap (λ (y : ℕ). eqb y 119) (table-get (λ k. choose (wordByte k) 119 46) 256 b h)
+    ∙ ap (λ (y : ℕ). eqb y 119) (table-at (λ k. choose (wordByte k) 119 46) 256 0 b h)
     ∙ letter (wordByte b)

@@ -1,20 +1,19 @@
 //! What the C entries return and leave behind.
-use crate::{Dictionary, Refusal, Searched, Written};
+use crate::{Dictionary, Refusal, Searched, Slice, Written};
 
 /// What a caller in C sees: the number returned, the answer area, and the lent memory in order.
 #[derive(Clone, Debug, PartialEq, Eq)]
-pub struct Seen<T = u8> {
+pub struct Seen {
     pub returned: u32,
     pub answer: Vec<u8>,
-    pub lent: Vec<Vec<T>>,
+    pub lent: Vec<Slice>,
 }
 
 /// What an entry does with the outcome of its part, which on success is the numbers of the answer and what lent memory then holds.
 ///
 /// An area of 32 bytes takes the numbers, or the place of the refusal; lent memory stays where something was refused. An area of another
 /// size is refused before all else, and everything stays.
-pub fn seen<T: Clone>(area: &[u8], lent: &[&[T]], outcome: Result<(Vec<u64>, Vec<Vec<T>>), Refusal>) -> Seen<T> {
-    let untouched = lent.iter().map(|slice| slice.to_vec()).collect();
+pub fn seen(area: &[u8], untouched: Vec<Slice>, outcome: Result<(Vec<u64>, Vec<Slice>), Refusal>) -> Seen {
     if area.len() != 32 {
         return Seen { returned: 10, answer: area.to_vec(), lent: untouched };
     }
@@ -28,39 +27,40 @@ pub fn seen<T: Clone>(area: &[u8], lent: &[&[T]], outcome: Result<(Vec<u64>, Vec
 }
 
 pub fn check(circuit: &[u8], answer: &[u8]) -> Seen {
-    seen(answer, &[], crate::check(circuit).map(|counts| (counts.numbers(), vec![])))
+    seen(answer, vec![], crate::check(circuit).map(|counts| (counts.numbers(), vec![])))
 }
 
 pub fn dictionary(circuit: &[u8], faults: &[u8], patterns: &[u8], table: &[u8], work: &[u8], answer: &[u8]) -> Seen {
     let made = crate::dictionary(circuit, faults, patterns, table.len(), work.len());
-    seen(answer, &[table, work], made.map(|Dictionary { table, work }| (vec![], vec![table, work])))
+    let untouched = vec![table.to_vec().into(), work.to_vec().into()];
+    seen(answer, untouched, made.map(|Dictionary { table, work }| (vec![], vec![table.into(), work.into()])))
 }
 
 pub fn compact(fault_count: u64, pattern_count: u64, table: &[u8], marks: &[u8], answer: &[u8]) -> Seen {
     let compacted = crate::compact(fault_count, pattern_count, table, marks.len());
-    seen(answer, &[marks], compacted.map(|marks| (vec![], vec![marks])))
+    seen(answer, vec![marks.to_vec().into()], compacted.map(|marks| (vec![], vec![marks.into()])))
 }
 
 pub fn search(circuit: &[u8], fault: &[u8], budget: u64, test: &[u8], work: &[u8], answer: &[u8]) -> Seen {
     let searched = crate::search(circuit, fault, budget, test.len(), work.len());
     let written = |Searched { outcome, nodes, test: found, work: last }| {
-        (vec![outcome as u64, nodes], vec![found.unwrap_or(test.to_vec()), last.unwrap_or(work.to_vec())])
+        (vec![outcome as u64, nodes], vec![found.unwrap_or(test.to_vec()).into(), last.unwrap_or(work.to_vec()).into()])
     };
-    seen(answer, &[test, work], searched.map(written))
+    seen(answer, vec![test.to_vec().into(), work.to_vec().into()], searched.map(written))
 }
 
-pub fn clauses(circuit: &[u8], fault: &[u8], words: &[i32], answer: &[u8]) -> Seen<i32> {
+pub fn clauses(circuit: &[u8], fault: &[u8], words: &[i32], answer: &[u8]) -> Seen {
     let written = crate::clauses(circuit, fault, words.len()).map(|Written { words: new, clauses, variables }| {
         let numbers = [new.len(), clauses, variables].map(|number| number as u64).to_vec();
-        (numbers, vec![[&new[..], &words[new.len()..]].concat()])
+        (numbers, vec![[&new[..], &words[new.len()..]].concat().into()])
     });
-    seen(answer, &[words], written)
+    seen(answer, vec![words.to_vec().into()], written)
 }
 
 pub fn bench(text: &[u8], circuit: &[u8], answer: &[u8]) -> Seen {
     let read = crate::bench(text, circuit.len()).map(|records| {
         let rest = &circuit[records.len()..];
-        (vec![records.len() as u64 / 8], vec![[&records[..], rest].concat()])
+        (vec![records.len() as u64 / 8], vec![[&records[..], rest].concat().into()])
     });
-    seen(answer, &[circuit], read)
+    seen(answer, vec![circuit.to_vec().into()], read)
 }

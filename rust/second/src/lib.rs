@@ -15,6 +15,7 @@ pub mod pattern;
 pub mod program;
 pub mod refusal;
 pub mod search;
+pub mod slice;
 pub mod values;
 
 pub use bench::bench;
@@ -27,4 +28,5 @@ pub use pattern::Pattern;
 pub use program::{program, Files};
 pub use refusal::Refusal;
 pub use search::{search, Outcome, Search, Searched};
+pub use slice::Slice;
 pub use values::Value;

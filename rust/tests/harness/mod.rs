@@ -1,65 +1,44 @@
 //! Calls the library for many cases at once, and holds what it does to what another program says: the number returned, every byte of the
 //! answer area and every element of lent memory.
-use cases::{Lent, Tally};
+mod parameters;
+
+use cases::Tally;
+pub use parameters::*;
 use second::entries::Seen;
-use std::fmt::Debug;
 use std::time::Instant;
-use ullimaqsu::raw::{enter_all, Call};
+use ullimaqsu::raw::enter_all;
 
-/// What an entry is given: numbers, slices that are only read, lent slices of one kind of element, and the answer area, each as it is before
-/// the call.
-pub trait Case: Debug {
-    type Element: Copy + PartialEq + Debug;
-    const GUARD: Self::Element;
-
-    fn read(&self) -> Vec<&[u8]>;
-    fn lent(&self) -> Vec<&[Self::Element]>;
-    fn answer(&self) -> &[u8];
-
-    /// The call, over copies of what this case has.
-    fn call<'a>(&self, read: Vec<&'a [u8]>, lent: Vec<&'a mut [Self::Element]>, answer: &'a mut [u8]) -> Call<'a>;
-
+/// What an entry is given, and what is said of it.
+pub trait Case: Parameters {
     /// What the second program says.
-    fn second(&self) -> Seen<Self::Element>;
+    fn second(&self) -> Seen;
 
     /// What is counted: the number returned, unless there is more to tell.
-    fn counted(seen: &Seen<Self::Element>) -> u32 {
+    fn counted(seen: &Seen) -> u32 {
         seen.returned
     }
 }
 
-/// The memory of one call, each slice between guards.
-struct Memory<T> {
-    read: Vec<Lent<u8>>,
-    lent: Vec<Lent<T>>,
-    answer: Lent<u8>,
+/// What a caller sees of the memory of a call.
+fn seen<C: Case>(returned: u32, memory: &C::Memory) -> Seen {
+    let mut lent = C::lent(memory);
+    let mut answer = lent.pop().expect("the answer area is lent last");
+    Seen { returned, answer: std::mem::take(answer.u8()), lent }
 }
 
 /// What the library does.
-pub fn library<C: Case>(cases: &[C]) -> Vec<Seen<C::Element>> {
-    let memory_of = |case: &C| Memory {
-        read: case.read().into_iter().map(|slice| Lent::new(slice, 0x5a)).collect(),
-        lent: case.lent().into_iter().map(|slice| Lent::new(slice, C::GUARD)).collect(),
-        answer: Lent::new(case.answer(), 0xa5),
-    };
-    let mut memories: Vec<_> = cases.iter().map(memory_of).collect();
-    let call_of = |(case, memory): (&C, _)| {
-        let Memory { read, lent, answer }: &mut Memory<_> = memory;
-        case.call(read.iter().map(Lent::back).collect(), lent.iter_mut().map(Lent::inside).collect(), answer.inside())
-    };
-    let mut calls: Vec<_> = cases.iter().zip(&mut memories).map(call_of).collect();
-    let returned = enter_all(&mut calls);
-    drop(calls);
-    let seen_of = |((case, memory), returned): ((&C, &Memory<_>), _)| {
-        assert_eq!(case.read(), memory.read.iter().map(Lent::back).collect::<Vec<_>>(), "what is only read stays");
-        let lent = memory.lent.iter().map(|lent| lent.back().to_vec()).collect();
-        Seen { returned, answer: memory.answer.back().to_vec(), lent }
+pub fn library<C: Case>(cases: &[C]) -> Vec<Seen> {
+    let mut memories: Vec<_> = cases.iter().map(C::memory).collect();
+    let returned = enter_all(&mut memories.iter_mut().map(C::call).collect::<Vec<_>>());
+    let seen_of = |((case, memory), returned): ((&C, &C::Memory), _)| {
+        assert_eq!(C::read(memory), C::read(&case.memory()), "what is only read stays");
+        seen::<C>(returned, memory)
     };
     cases.iter().zip(&memories).zip(returned).map(seen_of).collect()
 }
 
 /// The first case, if any, in which the library and another program do not agree.
-pub fn first_difference<C: Case>(cases: &[C], library: &[Seen<C::Element>], other: &[Seen<C::Element>]) -> Option<String> {
+pub fn first_difference<C: Case>(cases: &[C], library: &[Seen], other: &[Seen]) -> Option<String> {
     assert_eq!((library.len(), other.len()), (cases.len(), cases.len()));
     let differs = (0..cases.len()).find(|&k| library[k] != other[k])?;
     Some(format!("{:?}\nlibrary: {:?}\n  other: {:?}", cases[differs], library[differs], other[differs]))
@@ -87,7 +66,7 @@ pub fn compare<C: Case>(name: &str, mut cases: impl Iterator<Item = C>) -> Tally
 pub type Defect<C> = (u32, fn(&mut C));
 
 /// Of two defects, the one that is earlier in this list is told, and nothing that was lent is written.
-pub fn first_defect_is_told<C: Case + Clone>(sound: &C, defects: &[Defect<C>]) {
+pub fn first_defect_is_told<C: Case>(sound: &C, defects: &[Defect<C>]) {
     assert_eq!(library(std::slice::from_ref(sound))[0].returned, 0);
     for (order, (number, defect)) in defects.iter().enumerate() {
         let nothing: Defect<C> = (0, |_| ());
@@ -98,13 +77,13 @@ pub fn first_defect_is_told<C: Case + Clone>(sound: &C, defects: &[Defect<C>]) {
             let seen = library(std::slice::from_ref(&case)).remove(0);
             assert_eq!(seen, case.second(), "{case:?}");
             assert_eq!(seen.returned, *number, "{case:?}");
-            assert_eq!(seen.lent, case.lent(), "{case:?}");
+            assert_eq!(seen.lent, self::seen::<C>(0, &case.memory()).lent, "{case:?}");
         }
     }
 }
 
 /// The comparison tells each of these programs, wrong in one way each, from the library.
-pub fn wrong_programs_are_seen<C: Case, P: Fn(&C) -> Seen<C::Element>>(cases: &[C], wrong: impl IntoIterator<Item = (&'static str, P)>) {
+pub fn wrong_programs_are_seen<C: Case, P: Fn(&C) -> Seen>(cases: &[C], wrong: impl IntoIterator<Item = (&'static str, P)>) {
     let library = library(cases);
     let right: Vec<_> = cases.iter().map(C::second).collect();
     assert_eq!(first_difference(cases, &library, &right), None);

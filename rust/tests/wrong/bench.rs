@@ -54,7 +54,7 @@ fn by(case: &Bench, pick: fn(&[usize]) -> usize) -> Seen {
             line_of.insert(word.name, line_of.len());
         }
         let records = Circuit { lines }.write();
-        seen.lent[0][..records.len()].copy_from_slice(&records);
+        seen.lent[0].u8()[..records.len()].copy_from_slice(&records);
     })
 }
 
@@ -62,7 +62,7 @@ fn by(case: &Bench, pick: fn(&[usize]) -> usize) -> Seen {
 fn with_records(case: &Bench, change: impl Fn(&mut [u8])) -> Seen {
     then(case, 0, |seen| {
         let records = number(seen);
-        seen.lent[0].chunks_exact_mut(8).take(records).for_each(&change);
+        seen.lent[0].u8().chunks_exact_mut(8).take(records).for_each(&change);
     })
 }
 
@@ -71,9 +71,11 @@ fn counted_outputs(case: &Bench) -> Seen {
     then(case, 0, |seen| {
         let text = Text::read(&case.text).expect("sound");
         let line_of = text.place().expect("sound").line_of;
-        (0..number(seen)).for_each(|line| seen.lent[0][8 * line + 1] = 0);
+        let records = number(seen);
+        let circuit = seen.lent[0].u8();
+        (0..records).for_each(|line| circuit[8 * line + 1] = 0);
         let flag = |word: &Word| 8 * line_of[word.name] + 1;
-        text.outputs.iter().for_each(|word| seen.lent[0][flag(word)] = seen.lent[0][flag(word)].saturating_add(1));
+        text.outputs.iter().for_each(|word| circuit[flag(word)] = circuit[flag(word)].saturating_add(1));
     })
 }
 
@@ -101,7 +103,7 @@ pub const PROGRAMS: [Wrong; 21] = [
     ("clears the rest of the buffer", |case| {
         then(case, 0, |seen| {
             let records = number(seen);
-            seen.lent[0][8 * records..].fill(0)
+            seen.lent[0].u8()[8 * records..].fill(0)
         })
     }),
     ("gives the byte behind that of a wrong name", |case| then(case, 15, |seen| set_number(seen, number(seen) + 1))),
@@ -143,8 +145,8 @@ pub const PROGRAMS: [Wrong; 21] = [
     }),
     ("writes what fits, whatever the buffer's size", |case| {
         then(case, 10, |seen| {
-            let full = entries::bench(&case.text, &[7; 16_384], &case.answer);
-            seen.lent[0].iter_mut().zip(&full.lent[0]).for_each(|(to, from)| *to = *from)
+            let mut full = entries::bench(&case.text, &[7; 16_384], &case.answer);
+            seen.lent[0].u8().iter_mut().zip(full.lent[0].u8()).for_each(|(to, from)| *to = *from)
         })
     }),
     ("takes small letters for capitals", |case| with_bytes(case, |byte| byte.to_ascii_uppercase())),
@@ -155,7 +157,7 @@ pub const PROGRAMS: [Wrong; 21] = [
     ("wants a line feed at the end", |case| {
         then(case, 0, |seen| {
             if case.text.last() != Some(&b'\n') {
-                seen.lent = vec![case.circuit.clone()];
+                seen.lent = vec![case.circuit.clone().into()];
                 refuse(seen, 14, case.text.len())
             }
         })

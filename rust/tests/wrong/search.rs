@@ -30,11 +30,11 @@ fn by(case: &Search, sides: [bool; 2], leaves: fn(&[(Value, Value)]) -> bool) ->
         }
     };
     seen.answer = [outcome, looked.len() as u64, 0, 0].map(u64::to_le_bytes).concat();
-    seen.lent = vec![case.test.clone(), case.work.clone()];
+    seen.lent = vec![case.test.clone().into(), case.work.clone().into()];
     if let Some(last) = looked.last() {
-        seen.lent[1] = circuit.work(last, fault);
+        seen.lent[1] = circuit.work(last, fault).into();
         if outcome == 0 {
-            seen.lent[0] = last.iter().map(byte).collect();
+            *seen.lent[0].u8() = last.iter().map(byte).collect();
         }
     }
     seen
@@ -75,11 +75,11 @@ pub const PROGRAMS: [Wrong; 9] = [
             case.second()
         }
     }),
-    ("writes the test buffer without a test", |case| then(case, &[REDUNDANT, GIVEN_UP], |seen| seen.lent[0].fill(2))),
+    ("writes the test buffer without a test", |case| then(case, &[REDUNDANT, GIVEN_UP], |seen| seen.lent[0].u8().fill(2))),
     ("leaves the work of its start", |case| {
         then(case, &[TEST, REDUNDANT, GIVEN_UP], |seen| {
             let (circuit, fault) = case.parts();
-            seen.lent[1] = circuit.work(&vec![None; case.test.len()], fault);
+            seen.lent[1] = circuit.work(&vec![None; case.test.len()], fault).into();
         })
     }),
 ];

@@ -8,40 +8,36 @@ use borrow.Author.Needs.{needs}
 use Rattle.bench.proofs.read_defs_in.Statement.{statement}
 use Rattle.bench.proofs.read_defs_in.Tie as tie
 
+-- the entry of the place behind the definitions
+abbrev entry : tie.After-put-defs → tie.Start
+entry c = c .before .before .before .before .before .before .before .before .before .before
+
 put-defs-requires : tie.Need-put-defs-requires
-put-defs-requires c κs = let p = c .before .before .before .before .before .before .before .before .before .pre in defs-room (p .0 .0) (p .0 .1) (p .1 .0) (p .1 .1)
+put-defs-requires c κs =
+    let p = c .before .before .before .before .before .before .before .before .before .pre in
+    defs-room (p .0 .0) (p .0 .1) (p .1 .0) (p .1 .1)
 
 slice-reshare-prefix-read-uses : tie.Need-slice-reshare-prefix-read-uses
 slice-reshare-prefix-read-uses c = search needs
 
 slice-aggregate-read-uses : tie.Need-slice-aggregate-read-uses
 slice-aggregate-read-uses c =
-    sym
-    (length-take-le _ _
-    (omega (
-      arith,
-      c .before .before .before .before .before .put-defs .ensures .few,
-      c .before .before .before .before .before .before .before .before .before .before .before .before .before .before .before .pre .1 .0,
-    )))
+    let defs = c .before .before .before .before .before in
+    sym (length-take-le _ _ (omega (arith, defs .put-defs .ensures .few, entry defs .pre .1 .0)))
 
 slice-reshare-prefix-read-uses-2 : tie.Need-slice-reshare-prefix-read-uses-2
 slice-reshare-prefix-read-uses-2 c = search needs
 
 slice-aggregate-read-uses-2 : tie.Need-slice-aggregate-read-uses-2
 slice-aggregate-read-uses-2 c =
-    sym
-    (length-take-le _ _
-    (omega (
-      arith,
-      c .before .before .before .before .before .before .put-defs .ensures .few,
-      c .before .before .before .before .before .before .before .before .before .before .before .before .before .before .before .before .pre .1 .1,
-    )))
+    let defs = c .before .before .before .before .before .before in
+    sym (length-take-le _ _ (omega (arith, defs .put-defs .ensures .few, entry defs .pre .1 .1)))
 
 read-uses-requires : tie.Need-read-uses-requires
 read-uses-requires c κs =
-    let at-put-defs = c .before .before .before .before .before .before .before in
-    let p = at-put-defs .before .before .before .before .before .before .before .before .before .before .pre in
-    (defined (p .0 .0) (p .0 .1) (at-put-defs .put-defs .ensures), p .0 .1)
+    let defs = c .before .before .before .before .before .before .before in
+    let p = entry defs .pre in
+    (defined (p .0 .0) (p .0 .1) (defs .put-defs .ensures), p .0 .1)
 
 same-length : tie.Need-same-length
 same-length c = search needs

@@ -9,23 +9,30 @@ use borrow.Author.Needs.{needs}
 use Rattle.bench.proofs.read_kinds_in.Statement.{statement}
 use Rattle.bench.proofs.read_kinds_in.Tie as tie
 
+-- the entry of the place behind the kinds
+abbrev entry : tie.After-put-kinds → tie.Start
+entry c = c .before .before .before .before .before .before .before .before .before .before .before
+
 put-kinds-requires : tie.Need-put-kinds-requires
 put-kinds-requires c κs =
-    kinds-room (c .before .before .before .before .before .before .before .before .before .before .pre .0 .told)
-    (c .before .before .before .before .before .before .before .before .before .before .pre .1)
+    let p = c .before .before .before .before .before .before .before .before .before .before .pre in
+    kinds-room (p .0 .told) (p .1)
 
 slice-reshare-prefix-read-net : tie.Need-slice-reshare-prefix-read-net
-slice-reshare-prefix-read-net c = let s = c .before .before .before .before .before .before .before .before .before .before .before .before .before in omega (arith, few-gates (s .pre .0), s .pre .1)
+slice-reshare-prefix-read-net c =
+    let p = entry (c .before .before) .pre in
+    omega (arith, few-gates (p .0), p .1)
 
 slice-aggregate-read-net : tie.Need-slice-aggregate-read-net
 slice-aggregate-read-net c =
-    let s = c .before .before .before .before .before .before .before .before .before .before .before .before .before .before in
-    sym (length-take-le _ _ (omega (arith, few-gates (s .pre .0), s .pre .1)))
+    let p = entry (c .before .before .before) .pre in
+    sym (length-take-le _ _ (omega (arith, few-gates (p .0), p .1)))
 
 read-net-requires : tie.Need-read-net-requires
 read-net-requires c κs =
-    let s = c .before .before .before .before .before .before .before .before .before .before .before .before .before .before .before in
-    rw (net-is (s .pre .0) _ (c .before .before .before .before .put-kinds .ensures)) (resolved (s .pre .0))
+    let kinds = c .before .before .before .before in
+    let p = entry kinds .pre in
+    rw (net-is (p .0) _ (kinds .put-kinds .ensures)) (resolved (p .0))
 
 same-length : tie.Need-same-length
 same-length c = search needs
@@ -35,9 +42,8 @@ same-length-2 c = search needs
 
 returns : tie.Need-returns
 returns c =
-    let at-put-kinds = c .before .before .before .before .before .before .before in
-    let s = at-put-kinds .before .before .before .before .before .before .before .before .before .before .before in
-    of-net (net-is (s .pre .0) _ (at-put-kinds .put-kinds .ensures)) (c .before .before .read-net .ensures)
+    let kinds = c .before .before .before .before .before .before .before in
+    of-net (net-is (entry kinds .pre .0) _ (kinds .put-kinds .ensures)) (c .before .before .read-net .ensures)
 
 pub read-kinds-in-spec : {M : Type 1} → statement M
 read-kinds-in-spec =

@@ -7,6 +7,14 @@ use borrow.Author.Needs.{needs}
 use Rattle.bench.proofs.read_names_in.Statement.{statement}
 use Rattle.bench.proofs.read_names_in.Tie as tie
 
+-- the places: the entry, behind the look-up of the names, and in the arm where none is wrong
+
+abbrev entry : tie.After-resolve → tie.Start
+entry c = c .before .before .before .before .before .before .before .before .before .before .before .before .before .before .before .before .before
+
+abbrev resolve-of : tie.After-enum-told → tie.After-resolve
+resolve-of c = c .before .before .before .before .before .before .before .before
+
 resolve-requires : tie.Need-resolve-requires
 resolve-requires c κs =
     let p = c .before .before .before .before .before .before .before .before .before .before .before .before .before .before .before .before .pre in
@@ -20,10 +28,10 @@ enum-told c = search needs
 
 read-kinds-requires : tie.Need-read-kinds-requires
 read-kinds-requires c κs =
-    let at-enum-told = c .before .before .before .before in
-    let at-resolve = at-enum-told .before .before .before .before .before .before .before .before in
-    let p = at-resolve .before .before .before .before .before .before .before .before .before .before .before .before .before .before .before .before .before .pre in
-    named (p .0 .0) (p .0 .1) (at-resolve .resolve .ensures) (at-enum-told .enum-told .given .1)
+    let told = c .before .before .before .before in
+    let resolved = resolve-of told in
+    let p = entry resolved .pre in
+    named (p .0 .0) (p .0 .1) (resolved .resolve .ensures) (told .enum-told .given .1)
 
 same-length : tie.Need-same-length
 same-length c = search needs
@@ -36,9 +44,9 @@ same-length-3 c = search needs
 
 returns : tie.Need-returns
 returns c =
-    let at-resolve = c .before .before .before .before .before .before .before .before .before in
-    let p = at-resolve .before .before .before .before .before .before .before .before .before .before .before .before .before .before .before .before .before .pre in
-    first-refused _ _ (sym (names-ruling (p .0 .0) (p .0 .1) (at-resolve .resolve .ensures)) ∙ c .before .v .given .1)
+    let resolved = c .before .before .before .before .before .before .before .before .before in
+    let p = entry resolved .pre in
+    first-refused _ _ (sym (names-ruling (p .0 .0) (p .0 .1) (resolved .resolve .ensures)) ∙ c .before .v .given .1)
 
 same-length-4 : tie.Need-same-length-4
 same-length-4 c = search needs
@@ -54,14 +62,11 @@ same-length-7 c = search needs
 
 returns-2 : tie.Need-returns-2
 returns-2 c =
-    let at-enum-told = c .before .before .before .before .before .before .before in
-    let at-resolve = at-enum-told .before .before .before .before .before .before .before .before in
-    let p = at-resolve .before .before .before .before .before .before .before .before .before .before .before .before .before .before .before .before .before .pre in
-    first-fine _ _
-    (sym
-    (names-ruling (p .0 .0) (p .0 .1)
-    (at-resolve .resolve .ensures))
-    ∙ at-enum-told .enum-told .given .1) (c .before .before .read-kinds .ensures)
+    let told = c .before .before .before .before .before .before .before in
+    let resolved = resolve-of told in
+    let p = entry resolved .pre in
+    let fine = sym (names-ruling (p .0 .0) (p .0 .1) (resolved .resolve .ensures)) ∙ told .enum-told .given .1 in
+    first-fine _ _ fine (c .before .before .read-kinds .ensures)
 
 pub read-names-in-spec : {M : Type 1} → statement M
 read-names-in-spec =

@@ -8,42 +8,50 @@ use borrow.Author.Needs.{needs}
 use Rattle.bench.proofs.read_uses_in.Statement.{statement}
 use Rattle.bench.proofs.read_uses_in.Tie as tie
 
+-- the places: the entry, behind the sources of the gates, and behind the outputs; each accessor goes back by one
+
+abbrev entry : tie.After-put-sources → tie.Start
+entry c = c .before .before .before .before .before .before .before .before .before .before .before .before .before
+
+abbrev sources-of : tie.After-put-outs → tie.After-put-sources
+sources-of c = c .before .before .before .before .before .before
+
+abbrev start : tie.After-put-outs → tie.Start
+start c = entry (sources-of c)
+
 put-sources-requires : tie.Need-put-sources-requires
-put-sources-requires c κs = let p = c .before .before .before .before .before .before .before .before .before .before .before .before .pre in gates-room (p .0 .0 .told) (p .1 .0) (p .1 .1)
+put-sources-requires c κs =
+    let p = c .before .before .before .before .before .before .before .before .before .before .before .before .pre in
+    gates-room (p .0 .0 .told) (p .1 .0) (p .1 .1)
 
 put-outs-requires : tie.Need-put-outs-requires
 put-outs-requires c κs =
-    let p = c .before .before .before .before .before .before .before .before .before .before .before .before .before .before .before .before .before .before .pre in
+    let p = entry (c .before .before .before .before .before) .pre in
     outs-room (p .0 .0 .told) (p .1 .2)
 
 sub-inputs : tie.Need-sub-inputs
 sub-inputs c =
-    let sources = c .before .before .before .before .before .before .before .before in
-    let p = sources .before .before .before .before .before .before .before .before .before .before .before .before .before .pre in
+    let p = start (c .before .before) .pre in
     some-gates (p .0 .0) (p .0 .1)
 
 slice-reshare-prefix-read-names : tie.Need-slice-reshare-prefix-read-names
 slice-reshare-prefix-read-names c =
-    let sources = c .before .before .before .before .before .before .before .before in
-    let p = sources .before .before .before .before .before .before .before .before .before .before .before .before .before .pre in
+    let p = start (c .before .before) .pre in
     omega (arith, gates-few (p .0 .0 .told) (p .0 .1), p .1 .0)
 
 slice-aggregate-read-names : tie.Need-slice-aggregate-read-names
 slice-aggregate-read-names c =
-    let sources = c .before .before .before .before .before .before .before .before .before in
-    let p = sources .before .before .before .before .before .before .before .before .before .before .before .before .before .pre in
+    let p = start (c .before .before .before) .pre in
     sym (length-take-le _ _ (omega (arith, gates-few (p .0 .0 .told) (p .0 .1), p .1 .0)))
 
 slice-reshare-prefix-read-names-2 : tie.Need-slice-reshare-prefix-read-names-2
 slice-reshare-prefix-read-names-2 c =
-    let sources = c .before .before .before .before .before .before .before .before .before in
-    let p = sources .before .before .before .before .before .before .before .before .before .before .before .before .before .pre in
+    let p = start (c .before .before .before) .pre in
     omega (arith, gates-few (p .0 .0 .told) (p .0 .1), p .1 .1)
 
 slice-aggregate-read-names-2 : tie.Need-slice-aggregate-read-names-2
 slice-aggregate-read-names-2 c =
-    let sources = c .before .before .before .before .before .before .before .before .before .before in
-    let p = sources .before .before .before .before .before .before .before .before .before .before .before .before .before .pre in
+    let p = start (c .before .before .before .before) .pre in
     sym (length-take-le _ _ (omega (arith, gates-few (p .0 .0 .told) (p .0 .1), p .1 .1)))
 
 slice-reshare-prefix-read-names-3 : tie.Need-slice-reshare-prefix-read-names-3
@@ -51,21 +59,14 @@ slice-reshare-prefix-read-names-3 c = search needs
 
 slice-aggregate-read-names-3 : tie.Need-slice-aggregate-read-names-3
 slice-aggregate-read-names-3 c =
-    let at-put-outs = c .before .before .before .before .before in
-    sym
-    (length-take-le _ _
-    (omega (
-      arith,
-      at-put-outs .put-outs .ensures .few,
-      at-put-outs .before .before .before .before .before .before .before .before .before .before .before .before .before .before .before .before .before .before .before .pre .1 .2,
-    )))
+    let outs = c .before .before .before .before .before in
+    sym (length-take-le _ _ (omega (arith, outs .put-outs .ensures .few, start outs .pre .1 .2)))
 
 read-names-requires : tie.Need-read-names-requires
 read-names-requires c κs =
-    let at-put-outs = c .before .before .before .before .before .before in
-    let at-put-sources = at-put-outs .before .before .before .before .before .before in
-    let p = at-put-sources .before .before .before .before .before .before .before .before .before .before .before .before .before .pre in
-    (p .0 .0, used (p .0 .0 .told) (p .0 .1) (at-put-outs .put-outs .ensures) (at-put-sources .put-sources .ensures))
+    let outs = c .before .before .before .before .before .before in
+    let p = start outs .pre in
+    (p .0 .0, used (p .0 .0 .told) (p .0 .1) (outs .put-outs .ensures) (sources-of outs .put-sources .ensures))
 
 same-length : tie.Need-same-length
 same-length c = search needs

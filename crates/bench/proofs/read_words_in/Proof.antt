@@ -8,6 +8,10 @@ use borrow.Author.Needs.{needs}
 use Rattle.bench.proofs.read_words_in.Statement.{statement}
 use Rattle.bench.proofs.read_words_in.Tie as tie
 
+-- the entry of the place behind the cut into words
+abbrev entry : tie.After-cut → tie.Start
+entry c = c .before .before .before .before .before .before .before
+
 cut-requires : tie.Need-cut-requires
 cut-requires c κs = search needs
 
@@ -16,34 +20,21 @@ slice-reshare-prefix-read-lines c = search needs
 
 slice-aggregate-read-lines : tie.Need-slice-aggregate-read-lines
 slice-aggregate-read-lines c =
-    sym
-    (length-take-le _ _
-    (omega (
-      arith,
-      c .before .before .before .before .before .cut .ensures .most-words,
-      c .before .before .before .before .before .before .before .before .before .before .before .before .pre .for-words,
-    )))
+    let cut = c .before .before .before .before .before in
+    sym (length-take-le _ _ (omega (arith, cut .cut .ensures .most-words, entry cut .pre .for-words)))
 
 slice-reshare-prefix-read-lines-2 : tie.Need-slice-reshare-prefix-read-lines-2
 slice-reshare-prefix-read-lines-2 c = search needs
 
 slice-aggregate-read-lines-2 : tie.Need-slice-aggregate-read-lines-2
 slice-aggregate-read-lines-2 c =
-    sym
-    (length-take-le _ _
-    (omega (
-      arith,
-      c .before .before .before .before .before .before .cut .ensures .most-lines,
-      c .before .before .before .before .before .before .before .before .before .before .before .before .before .pre .for-ends,
-    )))
+    let cut = c .before .before .before .before .before .before in
+    sym (length-take-le _ _ (omega (arith, cut .cut .ensures .most-lines, entry cut .pre .for-ends)))
 
 read-lines-requires : tie.Need-read-lines-requires
-read-lines-requires c κs = (
-  lined (c .before .before .before .before .before .before .before .before .before .before .before .before .before .before .pre .short)
-      (c .before .before .before .before .before .before .before .cut .ensures),
-  few-lines _ _
-      (c .before .before .before .before .before .before .before .cut .ensures .most-lines),
-)
+read-lines-requires c κs =
+    let cut = c .before .before .before .before .before .before .before in
+    (lined (entry cut .pre .short) (cut .cut .ensures), few-lines _ _ (cut .cut .ensures .most-lines))
 
 same-length : tie.Need-same-length
 same-length c = search needs

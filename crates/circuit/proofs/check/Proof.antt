@@ -28,7 +28,13 @@ returns : tie.Need-returns
 returns c = checks _ (layout-refused _ _ _ (sym (c .before .before .before .check-layout .ensures) ∙ c .before .v .given .1))
 
 returns-2 : tie.Need-returns-2
-returns-2 c = checks _ (layout-fine _ (sym (c .before .before .before .before .before .check-layout .ensures) ∙ c .before .before .before .enum-told .given .1) (c .before .before .count-lines .ensures) (c .before .count-lines2 .ensures) (c .counted .ensures))
+returns-2 c =
+    let inputs = c .before .before in
+    let told = inputs .before in
+    let layout = told .before .before in
+    checks _
+    (layout-fine _ (sym (layout .check-layout .ensures) ∙ told .enum-told .given .1)
+    (inputs .count-lines .ensures) (c .before .count-lines2 .ensures) (c .counted .ensures))
 
 pub check-spec : {M : Type 1} → statement M
 check-spec =

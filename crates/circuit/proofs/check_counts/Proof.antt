@@ -1,7 +1,7 @@
 -- `circuit::check_counts` meets its contract: one answer for each branch.
 -- Assumes nothing.
 use borrow.Author.Tests.{lt-leb, le-leb}
-use Rattle.circuit.specs.Check.{countRules}
+use Rattle.circuit.specs.Promise.{countRules}
 use Rattle.answers.specs.Rules.{said, refusal}
 use Rattle.circuit.proofs.check_counts.Statement.{statement}
 use Rattle.circuit.proofs.check_counts.Tie as tie

@@ -1,11 +1,31 @@
 -- `circuit::line_ok` meets its contract: one answer for each field.
 -- Assumes nothing.
 use borrow.Author.Tests.{le-leb, lt-leb, not-true, not-false}
-use mathlib.Core.Path.{sym, _∙_}
-use Rattle.circuit.specs.Layout.{lineOk}
+use mathlib.Core.Path.{_≡_, sym, _∙_}
+use mathlib.Core.Bool.{true}
+use lib.Dec.{leb}
+use Rattle.gates.specs.Gate.{lastKind}
+use Rattle.circuit.specs.Record.{kindAt, outAt}
+use Rattle.circuit.specs.Layout.{pinOk, fieldOk, lineOk}
 use borrow.Author.Needs.{needs}
 use Rattle.circuit.proofs.line_ok.Statement.{statement}
 use Rattle.circuit.proofs.line_ok.Tie as tie
+
+-- ---- the places: the entry of what is behind the test of the output byte
+
+abbrev entry : tie.Else2 → tie.Start
+entry c = c .before .before .before .before .before
+
+-- ---- the fields: a test that the code goes past says that its field is kept
+
+kind-kept : (c : tie.Else2) → leb (kindAt (entry c .args .circuit .now) (entry c .args .k)) lastKind ≡ true
+kind-kept c = le-leb _ _ (c .before .before .if1 .left)
+
+out-kept : (c : tie.Else2) → leb (outAt (entry c .args .circuit .now) (entry c .args .k)) 1 ≡ true
+out-kept c = le-leb _ _ (c .if2 .left)
+
+first-kept : (c : tie.Else3) → pinOk (entry (c .before .before) .args .circuit .now) (entry (c .before .before) .args .k) 1 ≡ true
+first-kept c = sym (c .before .pin-ok .ensures) ∙ not-false _ (c .if3 .left)
 
 mul-if1 : tie.Need-mul-if1
 mul-if1 c = search needs
@@ -14,7 +34,7 @@ shared-slice-read-if1 : tie.Need-shared-slice-read-if1
 shared-slice-read-if1 c = search needs
 
 returns : tie.Need-returns
-unfolding lineOk
+unfolding lineOk fieldOk
 returns c = simp (lt-leb _ _ (c .if1 .taken))
 
 mul-if2 : tie.Need-mul-if2
@@ -27,29 +47,39 @@ shared-slice-read-if2 : tie.Need-shared-slice-read-if2
 shared-slice-read-if2 c = search needs
 
 returns-2 : tie.Need-returns-2
-unfolding lineOk
+unfolding lineOk fieldOk
 returns-2 c = simp (le-leb _ _ (c .before .before .if1 .left), lt-leb _ _ (c .if2 .taken))
 
 pin-ok-requires : tie.Need-pin-ok-requires
 pin-ok-requires c κs = search needs
 
 returns-3 : tie.Need-returns-3
-unfolding lineOk
-returns-3 c = simp (le-leb _ _ (c .before .before .before .before .if1 .left), le-leb _ _ (c .before .before .if2 .left), sym (c .before .pin-ok .ensures) ∙ not-true _ (c .if3 .taken))
+unfolding lineOk fieldOk
+returns-3 c =
+    let out = c .before .before in
+    simp (kind-kept out, out-kept out, sym (c .before .pin-ok .ensures) ∙ not-true _ (c .if3 .taken))
 
 pin-ok-requires-2 : tie.Need-pin-ok-requires-2
 pin-ok-requires-2 c κs = search needs
 
 returns-4 : tie.Need-returns-4
-unfolding lineOk
-returns-4 c = simp (le-leb _ _ (c .before .before .before .before .before .before .if1 .left), le-leb _ _ (c .before .before .before .before .if2 .left), sym (c .before .before .before .pin-ok .ensures) ∙ not-false _ (c .before .before .if3 .left), sym (c .before .pin-ok2 .ensures) ∙ not-true _ (c .if4 .taken))
+unfolding lineOk fieldOk
+returns-4 c =
+    let first = c .before .before in
+    let out = first .before .before in
+    simp (kind-kept out, out-kept out, first-kept first, sym (c .before .pin-ok2 .ensures) ∙ not-true _ (c .if4 .taken))
 
 pin-ok-requires-3 : tie.Need-pin-ok-requires-3
 pin-ok-requires-3 c κs = search needs
 
 returns-5 : tie.Need-returns-5
-unfolding lineOk
-returns-5 c = simp (le-leb _ _ (c .before .before .before .before .before .before .before .if1 .left), le-leb _ _ (c .before .before .before .before .before .if2 .left), sym (c .before .before .before .before .pin-ok .ensures) ∙ not-false _ (c .before .before .before .if3 .left), sym (c .before .before .pin-ok2 .ensures) ∙ not-false _ (c .before .if4 .left)) (c .pin-ok3 .ensures)
+unfolding lineOk fieldOk
+returns-5 c =
+    let second = c .before in
+    let first = second .before .before in
+    let out = first .before .before in
+    let second-kept = sym (second .before .pin-ok2 .ensures) ∙ not-false _ (second .if4 .left) in
+    simp (kind-kept out, out-kept out, first-kept first, second-kept) (c .pin-ok3 .ensures)
 
 pub line-ok-spec : {M : Type 1} → statement M
 line-ok-spec =

@@ -2,7 +2,7 @@
 -- Assumes nothing.
 use mathlib.Core.Path.{sym, _∙_}
 use borrow.Author.Needs.{needs}
-use Rattle.clauses.proofs.Answer.{first-refused, first-fine, counted, writes}
+use Rattle.clauses.proofs.Answer.{first-refused, first-fine, any-inputs, writes}
 use Rattle.circuit.proofs.Accepted.{accepts, refuses}
 use Rattle.clauses.proofs.clauses.Statement.{statement}
 use Rattle.clauses.proofs.clauses.Tie as tie
@@ -17,7 +17,7 @@ enum-known-v-2 : tie.Need-enum-known-v-2
 enum-known-v-2 c = search needs
 
 accepted-requires : tie.Need-accepted-requires
-accepted-requires c κs = counted (accepts _ _ _ _ (sym (c .before .before .v2 .given .1) ∙ c .before .before .before .before .check .ensures .answer))
+accepted-requires c κs = any-inputs (accepts _ _ _ _ (sym (c .before .before .v2 .given .1) ∙ c .before .before .before .before .check .ensures .answer))
 
 returns : tie.Need-returns
 returns c = writes (first-refused _ _ (refuses _ _ _ (sym (c .before .v .given .1) ∙ c .before .before .before .check .ensures .answer)))

@@ -28,7 +28,11 @@ same-length : tie.Need-same-length
 same-length c = search needs
 
 returns-2 : tie.Need-returns-2
-returns-2 c = fits (c .before .before .before .before .whole-size .ensures) (rw (c .before .before .before .before .before .before .pre .outputs-are)) (c .before .before .before .if1 .left) (c .before .put-all .ensures)
+returns-2 c =
+    let room = c .before .before .before in
+    let sized = room .before in
+    let start = sized .before .before in
+    fits (sized .whole-size .ensures) (rw (start .pre .outputs-are)) (room .if1 .left) (c .before .put-all .ensures)
 
 pub fitted-spec : {M : Type 1} → statement M
 fitted-spec =

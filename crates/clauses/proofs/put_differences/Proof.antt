@@ -20,7 +20,10 @@ loop-holds : tie.Need-loop-holds Inv-loop μ-loop
 loop-holds c = (so-far-none _ _ _ _, no-sum _ _)
 
 put-difference-requires : tie.Need-put-difference-requires Inv-loop μ-loop
-put-difference-requires c κs = difference-room (line-room (c .before .before .loop .inv .0) (c .before .before .before .before .pre .circuit) (c .before .before .before .before .pre .room) (c .before .loop-test .taken)) (c .before .before .loop .inv .1)
+put-difference-requires c κs =
+    let turn = c .before .before in
+    let pre = turn .before .before .pre in
+    difference-room (line-room (turn .loop .inv .0) (pre .circuit) (pre .room) (c .before .loop-test .taken)) (turn .loop .inv .1)
 
 mul-equal : tie.Need-mul-equal Inv-loop μ-loop
 mul-equal c = omega arith
@@ -44,7 +47,11 @@ loop-less : tie.Need-loop-less Inv-loop μ-loop
 loop-less c = omega arith
 
 loop-again : tie.Need-loop-again Inv-loop μ-loop
-loop-again c = (so-far-more (c .before .before .before .before .before .before .loop .inv .0) (c .before .before .before .before .before .loop-test .taken) (c .before .before .before .put-difference .ensures), sum-more (c .before .before .before .before .before .before .loop .inv .1) (c .before .before .before .before .before .loop-test .taken) (c .equal .ensures .0))
+loop-again c =
+    let put = c .before .before .before in
+    let below = put .before .before .loop-test .taken in
+    let inv = put .before .before .before .loop .inv in
+    (so-far-more (inv .0) below (put .put-difference .ensures), sum-more (inv .1) below (c .equal .ensures .0))
 
 same-length : tie.Need-same-length Inv-loop μ-loop
 same-length c = put-long (c .before .loop .inv .0 .put)

@@ -25,7 +25,12 @@ same-length : tie.Need-same-length
 same-length c = search needs
 
 returns : tie.Need-returns
-returns c = rw (eq-eqb _ _ (c .before .before .before .before .if1 .taken), ← plus-back {v = 2 * c .before .before .before .before .before .before .args .n + 1} (variable (omega arith)) (c .before .before .plus .ensures)) (c .before .put-single .ensures)
+returns c =
+    let signed = c .before .before in
+    let test = signed .before .before in
+    let number = 2 * test .before .before .args .n + 1 in
+    rw (eq-eqb _ _ (test .if1 .taken), ← plus-back {v = number} (variable (omega arith)) (signed .plus .ensures))
+    (c .before .put-single .ensures)
 
 mul-minus : tie.Need-mul-minus
 mul-minus c = search needs
@@ -43,7 +48,12 @@ same-length-2 : tie.Need-same-length-2
 same-length-2 c = search needs
 
 returns-2 : tie.Need-returns-2
-returns-2 c = rw (ne-eqb _ _ (c .before .before .before .before .if1 .left), ← minus-back {v = 2 * c .before .before .before .before .before .before .args .n + 1} (variable (omega arith)) (c .before .before .minus .ensures)) (c .before .put-single2 .ensures)
+returns-2 c =
+    let signed = c .before .before in
+    let test = signed .before .before in
+    let number = 2 * test .before .before .args .n + 1 in
+    rw (ne-eqb _ _ (test .if1 .left), ← minus-back {v = number} (variable (omega arith)) (signed .minus .ensures))
+    (c .before .put-single2 .ensures)
 
 pub put-stuck-spec : {M : Type 1} → statement M
 put-stuck-spec =

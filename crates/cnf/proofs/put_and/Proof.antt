@@ -20,9 +20,12 @@ same-length c = search needs
 
 returns : tie.Need-returns
 returns c =
-    let s = c .before .before .before .before .before .before .before .before .before in
-    simp (toZ-ofZ (s .fits .y), toZ-ofZ (s .fits .not-y), toZ-ofZ (s .fits .a), toZ-ofZ (s .fits .not-a), toZ-ofZ (s .fits .b), toZ-ofZ (s .fits .not-b)) at
-    (put-then (c .before .before .before .before .before .before .before .put-pair .ensures) (put-then (c .before .before .before .before .put-pair2 .ensures) (c .before .put-triple .ensures)))
+    let third = c .before in
+    let second = third .before .before .before in
+    let first = second .before .before .before in
+    let fits = first .before .before .fits in
+    simp (toZ-ofZ (fits .y), toZ-ofZ (fits .not-y), toZ-ofZ (fits .a), toZ-ofZ (fits .not-a), toZ-ofZ (fits .b), toZ-ofZ (fits .not-b)) at
+    (put-then (first .put-pair .ensures) (put-then (second .put-pair2 .ensures) (third .put-triple .ensures)))
 
 pub put-and-spec : {M : Type 1} → statement M
 put-and-spec =

@@ -8,6 +8,10 @@ use Rattle.cnf.proofs.Signed.{literal-back}
 use Rattle.cnf.proofs.put_gate.Statement.{statement}
 use Rattle.cnf.proofs.put_gate.Tie as tie
 
+-- the place where the kind is known to be a gate's, from where all literals are made
+abbrev gate : tie.After-literal6 → tie.Else1
+gate c = c .before .before .before .before .before .before .before .before
+
 returns : tie.Need-returns
 returns c = rw (no-shape _ _ _ _ (c .if1 .taken)) (put-none _ _)
 
@@ -37,23 +41,33 @@ literal-requires-6 c κs = search needs
 
 put-shape-requires : tie.Need-put-shape-requires
 put-shape-requires c κs =
-    let s = c .before .before .before .before .before .before .before .before .before .before in
-    omega (arith, s .pre .room, shape-length _ (s .args .y) (s .args .a) (s .args .b) (s .pre .kind-last) (c .before .before .before .before .before .before .before .before .before .if1 .left))
+    let some = gate (c .before) in
+    let s = some .before in
+    omega (arith, s .pre .room, shape-length _ (s .args .y) (s .args .a) (s .args .b) (s .pre .kind-last) (some .if1 .left))
 
 same-length : tie.Need-same-length
 same-length c = search needs
 
 returns-2 : tie.Need-returns-2
 returns-2 c =
-    let s = c .before .before .before .before .before .before .before .before .before .before .before .before in
-    rw (shape-is _ _ _ _ (s .pre .kind-last) (c .before .before .before .before .before .before .before .before .before .before .before .if1 .left) _ _ (c .before .before .before .before .before .before .before .before .before .before .is-one-of .ensures) (c .before .before .before .before .before .before .before .before .before .is-one-of2 .ensures))
+    let not-r = c .before .before .before in
+    let r = not-r .before in
+    let not-q = r .before in
+    let q = not-q .before in
+    let not-p = q .before in
+    let p = not-p .before in
+    let pins = p .before in
+    let own = pins .before in
+    let some = own .before in
+    let pre = some .before .pre in
+    rw (shape-is _ _ _ _ (pre .kind-last) (some .if1 .left) _ _ (own .is-one-of .ensures) (pins .is-one-of2 .ensures))
     (rw (
-      literal-back _ _ (s .pre .own) (c .before .before .before .before .before .before .before .before .literal .ensures),
-      literal-back _ _ (s .pre .own) (c .before .before .before .before .before .before .before .literal2 .ensures),
-      literal-back _ _ (s .pre .first) (c .before .before .before .before .before .before .literal3 .ensures),
-      literal-back _ _ (s .pre .first) (c .before .before .before .before .before .literal4 .ensures),
-      literal-back _ _ (s .pre .second) (c .before .before .before .before .literal5 .ensures),
-      literal-back _ _ (s .pre .second) (c .before .before .before .literal6 .ensures),
+      literal-back _ _ (pre .own) (p .literal .ensures),
+      literal-back _ _ (pre .own) (not-p .literal2 .ensures),
+      literal-back _ _ (pre .first) (q .literal3 .ensures),
+      literal-back _ _ (pre .first) (not-q .literal4 .ensures),
+      literal-back _ _ (pre .second) (r .literal5 .ensures),
+      literal-back _ _ (pre .second) (not-r .literal6 .ensures),
     ) at (c .before .put-shape .ensures))
 
 pub put-gate-spec : {M : Type 1} → statement M

@@ -18,8 +18,10 @@ same-length c = search needs
 returns : tie.Need-returns
 unfolding byShape
 returns c =
-    let s = c .before .before .before .before in
-    simp (le-leb _ _ (c .before .before .before .if1 .taken)) (simp (toZ-ofZ (s .fits .y), toZ-ofZ (s .fits .not-y), toZ-ofZ (s .fits .a), toZ-ofZ (s .fits .not-a)) at (c .before .put-buffer .ensures))
+    let buffer = c .before .before .before in
+    let fits = buffer .before .fits in
+    simp (le-leb _ _ (buffer .if1 .taken))
+    (simp (toZ-ofZ (fits .y), toZ-ofZ (fits .not-y), toZ-ofZ (fits .a), toZ-ofZ (fits .not-a)) at (c .before .put-buffer .ensures))
 
 put-and-requires : tie.Need-put-and-requires
 unfolding byShape
@@ -31,8 +33,12 @@ same-length-2 c = search needs
 returns-2 : tie.Need-returns-2
 unfolding byShape
 returns-2 c =
-    let s = c .before .before .before .before .before in
-    simp (lt-leb _ _ (c .before .before .before .before .if1 .left), le-leb _ _ (c .before .before .before .if2 .taken)) (simp (toZ-ofZ (s .fits .y), toZ-ofZ (s .fits .not-y), toZ-ofZ (s .fits .a), toZ-ofZ (s .fits .not-a), toZ-ofZ (s .fits .b), toZ-ofZ (s .fits .not-b)) at (c .before .put-and .ensures))
+    let and = c .before .before .before in
+    let no-buffer = and .before in
+    let fits = no-buffer .before .fits in
+    simp (lt-leb _ _ (no-buffer .if1 .left), le-leb _ _ (and .if2 .taken))
+    (simp (toZ-ofZ (fits .y), toZ-ofZ (fits .not-y), toZ-ofZ (fits .a), toZ-ofZ (fits .not-a), toZ-ofZ (fits .b), toZ-ofZ (fits .not-b))
+    at (c .before .put-and .ensures))
 
 put-xor-requires : tie.Need-put-xor-requires
 unfolding byShape
@@ -44,8 +50,12 @@ same-length-3 c = search needs
 returns-3 : tie.Need-returns-3
 unfolding byShape
 returns-3 c =
-    let s = c .before .before .before .before .before in
-    simp (lt-leb _ _ (c .before .before .before .before .if1 .left), lt-leb _ _ (c .before .before .before .if2 .left)) (simp (toZ-ofZ (s .fits .y), toZ-ofZ (s .fits .not-y), toZ-ofZ (s .fits .a), toZ-ofZ (s .fits .not-a), toZ-ofZ (s .fits .b), toZ-ofZ (s .fits .not-b)) at (c .before .put-xor .ensures))
+    let no-and = c .before .before .before in
+    let no-buffer = no-and .before in
+    let fits = no-buffer .before .fits in
+    simp (lt-leb _ _ (no-buffer .if1 .left), lt-leb _ _ (no-and .if2 .left))
+    (simp (toZ-ofZ (fits .y), toZ-ofZ (fits .not-y), toZ-ofZ (fits .a), toZ-ofZ (fits .not-a), toZ-ofZ (fits .b), toZ-ofZ (fits .not-b))
+    at (c .before .put-xor .ensures))
 
 pub put-shape-spec : {M : Type 1} → statement M
 put-shape-spec =

@@ -23,9 +23,15 @@ same-length c = search needs
 
 returns : tie.Need-returns
 returns c =
-    let s = c .before .before .before .before .before .before .before .before .before .before .before .before in
-    simp (toZ-ofZ (s .fits .y), toZ-ofZ (s .fits .not-y), toZ-ofZ (s .fits .a), toZ-ofZ (s .fits .not-a), toZ-ofZ (s .fits .b), toZ-ofZ (s .fits .not-b)) at
-    (put-then (c .before .before .before .before .before .before .before .before .before .before .put-triple .ensures) (put-then (c .before .before .before .before .before .before .before .put-triple2 .ensures) (put-then (c .before .before .before .before .put-triple3 .ensures) (c .before .put-triple4 .ensures))))
+    let fourth = c .before in
+    let third = fourth .before .before .before in
+    let second = third .before .before .before in
+    let first = second .before .before .before in
+    let fits = first .before .before .fits in
+    simp (toZ-ofZ (fits .y), toZ-ofZ (fits .not-y), toZ-ofZ (fits .a), toZ-ofZ (fits .not-a), toZ-ofZ (fits .b), toZ-ofZ (fits .not-b)) at
+    (put-then (first .put-triple .ensures)
+    (put-then (second .put-triple2 .ensures)
+    (put-then (third .put-triple3 .ensures) (fourth .put-triple4 .ensures))))
 
 pub put-xor-spec : {M : Type 1} → statement M
 put-xor-spec =

@@ -12,15 +12,29 @@ returns c = takes _ (c .before .pre) _ (simp (eq-eqb _ _ (c .if1 .taken))) (simp
 
 returns-2 : tie.Need-returns-2
 unfolding byKind byShape
-returns-2 c = takes _ (c .before .before .pre) _ (simp (ne-eqb _ _ (c .before .if1 .left), le-leb _ _ (c .if2 .taken))) (simp (ne-eqb _ _ (c .before .if1 .left), le-leb _ _ (c .if2 .taken)))
+returns-2 c =
+    let gate = c .before in
+    let some = ne-eqb _ _ (gate .if1 .left) in
+    let buffer = le-leb _ _ (c .if2 .taken) in
+    takes _ (gate .before .pre) _ (simp (some, buffer)) (simp (some, buffer))
 
 returns-3 : tie.Need-returns-3
 unfolding byKind byShape
-returns-3 c = takes _ (c .before .before .before .pre) _ (simp (ne-eqb _ _ (c .before .before .if1 .left), lt-leb _ _ (c .before .if2 .left), le-leb _ _ (c .if3 .taken))) (simp (ne-eqb _ _ (c .before .before .if1 .left), lt-leb _ _ (c .before .if2 .left), le-leb _ _ (c .if3 .taken)))
+returns-3 c =
+    let gate = c .before .before in
+    let some = ne-eqb _ _ (gate .if1 .left) in
+    let no-buffer = lt-leb _ _ (c .before .if2 .left) in
+    let and = le-leb _ _ (c .if3 .taken) in
+    takes _ (gate .before .pre) _ (simp (some, no-buffer, and)) (simp (some, no-buffer, and))
 
 returns-4 : tie.Need-returns-4
 unfolding byKind byShape
-returns-4 c = takes _ (c .before .before .before .pre) _ (simp (ne-eqb _ _ (c .before .before .if1 .left), lt-leb _ _ (c .before .if2 .left), lt-leb _ _ (c .if3 .left))) (simp (ne-eqb _ _ (c .before .before .if1 .left), lt-leb _ _ (c .before .if2 .left), lt-leb _ _ (c .if3 .left)))
+returns-4 c =
+    let gate = c .before .before in
+    let some = ne-eqb _ _ (gate .if1 .left) in
+    let no-buffer = lt-leb _ _ (c .before .if2 .left) in
+    let xor = lt-leb _ _ (c .if3 .left) in
+    takes _ (gate .before .pre) _ (simp (some, no-buffer, xor)) (simp (some, no-buffer, xor))
 
 pub size-of-spec : {M : Type 1} → statement M
 size-of-spec = tie.close (tie.spec returns returns-2 returns-3 returns-4)

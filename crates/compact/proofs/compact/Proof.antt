@@ -1,7 +1,7 @@
 -- `compact::compact` meets its contract: the table's rules first, then the marks.
 -- Assumes nothing.
 use mathlib.Core.Path.{sym, _∙_}
-use Rattle.compact.proofs.Refusals.{fine-sized}
+use Rattle.tables.proofs.Says.{fine-sized}
 use Rattle.compact.proofs.Promise.{table-refused, table-kept}
 use borrow.Author.Needs.{needs}
 use Rattle.compact.proofs.compact.Statement.{statement}

@@ -18,18 +18,21 @@ loop-holds c = let s = c .before .before .before in none-counted (s .pre .1 .0) 
 
 mul-from : tie.Need-mul-from Inv-loop μ-loop
 mul-from c =
-    let s = c .before .before .before .before .before in
-    omega (arith, row-inside (c .before .loop .p) (s .args .patterns) (s .args .n) (search needs))
+    let turn = c .before in
+    let s = turn .before .before .before .before in
+    omega (arith, row-inside (turn .loop .p) (s .args .patterns) (s .args .n) (search needs))
 
 count-pattern-requires : tie.Need-count-pattern-requires Inv-loop μ-loop
 count-pattern-requires c κs =
-    let l = c .before .before .loop in
-    row-cells (sizes-after (l .counts) (l .seen) (c .before .before .before .before .before .before .pre .0) (l .inv .cells) (l .inv .faults)) _ (search needs)
+    let turn = c .before .before in
+    let l = turn .loop in
+    row-cells (sizes-after (l .counts) (l .seen) (turn .before .before .before .before .pre .0) (l .inv .cells) (l .inv .faults)) _ (search needs)
 
 see-pattern-requires : tie.Need-see-pattern-requires Inv-loop μ-loop
 see-pattern-requires c κs =
-    let l = c .before .before .before .before .before .before .loop in
-    row-faults (sizes-after (l .counts) (l .seen) (c .before .before .before .before .before .before .before .before .before .before .pre .0) (l .inv .cells) (l .inv .faults)) _ (search needs)
+    let turn = c .before .before .before .before .before .before in
+    let l = turn .loop in
+    row-faults (sizes-after (l .counts) (l .seen) (turn .before .before .before .before .pre .0) (l .inv .cells) (l .inv .faults)) _ (search needs)
 
 add-p : tie.Need-add-p Inv-loop μ-loop
 add-p c = search needs
@@ -39,9 +42,12 @@ loop-less c = search needs
 
 loop-again : tie.Need-loop-again Inv-loop μ-loop
 loop-again c =
-    let w = c .before .before .before .before .before .before .count-pattern in
-    let v = c .before .before .see-pattern in
-    one-counted (c .before .before .before .before .before .before .before .before .before .loop .inv) (search needs) (w .kept .0) (v .kept .0) (w .ensures) (v .ensures)
+    let seen = c .before .before in
+    let counted = seen .before .before .before .before in
+    let inv = counted .before .before .before .loop .inv in
+    let w = counted .count-pattern in
+    let v = seen .see-pattern in
+    one-counted inv (search needs) (w .kept .0) (v .kept .0) (w .ensures) (v .ensures)
 
 same-length : tie.Need-same-length Inv-loop μ-loop
 same-length c = c .before .loop .inv .cells

@@ -7,7 +7,7 @@ use borrow.Author.Needs.{needs}
 use lib.ListN.{length}
 use Rattle.ground.specs.Below.{anyBelow}
 use Rattle.counts.specs.Counted.{hitPair}
-use Rattle.counts.specs.Internal.{Moved}
+use Rattle.counts.specs.Owed.{Moved}
 use Rattle.counts.proofs.Moves.{moved-none, pairs-next, faults-next}
 use Rattle.counts.proofs.count_pattern.Statement.{statement}
 use Rattle.counts.proofs.count_pattern.Tie as tie
@@ -36,6 +36,9 @@ loop-again c =
     let l = c .before .before .before .before .before .loop in
     (search needs, c .before .before .count-pairs .kept .0 ∙ l .inv .1, pairs-next _ _ _ (l .inv .2) (search needs) (c .before .before .count-pairs .ensures))
 
+mul-count-row : tie.Need-mul-count-row Inv-loop μ-loop
+mul-count-row c = search needs
+
 count-row-requires : tie.Need-count-row-requires Inv-loop μ-loop
 count-row-requires c κs = search needs
 
@@ -60,6 +63,7 @@ count-pattern-spec =
     add-g
     loop-less
     loop-again
+    mul-count-row
     count-row-requires
     same-length
     returns)

@@ -6,7 +6,7 @@ use native.Mathlib.Omega.{arith}
 use borrow.Author.Needs.{needs}
 use lib.ListN.{length, length-set}
 use Rattle.counts.specs.Counted.{hitRow}
-use Rattle.counts.specs.Internal.{Moved}
+use Rattle.counts.specs.Owed.{Moved}
 use Rattle.counts.proofs.Moves.{row-none, row-next}
 use Rattle.counts.proofs.count_row.Statement.{statement}
 use Rattle.counts.proofs.count_row.Tie as tie

@@ -3,7 +3,7 @@
 use Prim.Native.Nat.{_-_}
 use borrow.Author.Needs.{needs}
 use Rattle.ground.proofs.Below.{None, none-yet, found, none-more, not-found}
-use Rattle.counts.specs.Internal.{soleAt}
+use Rattle.counts.specs.Owed.{soleAt}
 use Rattle.counts.proofs.Only.{needed-fault, needed-pair}
 use Rattle.counts.proofs.needed.Statement.{statement}
 use Rattle.counts.proofs.needed.Tie as tie
@@ -13,6 +13,9 @@ Inv-loop counts seen table from n g₀ g = None (soleAt counts seen table from) 
 
 abbrev μ-loop : tie.MeasureT-loop
 μ-loop counts seen table from n g₀ g = n - g
+
+mul-sole-in : tie.Need-mul-sole-in Inv-loop μ-loop
+mul-sole-in c = search needs
 
 sole-in-requires : tie.Need-sole-in-requires Inv-loop μ-loop
 sole-in-requires c κs = search needs
@@ -51,6 +54,7 @@ needed-spec =
     (tie.spec
     Inv-loop
     μ-loop
+    mul-sole-in
     sole-in-requires
     returns
     loop-holds

@@ -3,7 +3,7 @@
 use Prim.Native.Nat.{_-_}
 use borrow.Author.Needs.{needs}
 use Rattle.ground.proofs.Below.{Some, none-some, some-more, some-all}
-use Rattle.counts.specs.Internal.{soleIn}
+use Rattle.counts.specs.Owed.{soleIn}
 use Rattle.counts.proofs.sole_in.Statement.{statement}
 use Rattle.counts.proofs.sole_in.Tie as tie
 

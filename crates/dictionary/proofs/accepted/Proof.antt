@@ -1,12 +1,14 @@
 -- `dictionary::accepted` meets its contract: a refusal writes nothing, else the table is filled.
 -- Assumes nothing.
-use lib.ListN.{length}
 use mathlib.Core.Path.{sym, _∙_}
 use borrow.Author.Needs.{needs}
 use Rattle.dictionary.proofs.Answer.{ready, refused-answer, filled-answer}
-use Rattle.dictionary.specs.Dictionary.{restRules}
 use Rattle.dictionary.proofs.accepted.Statement.{statement}
 use Rattle.dictionary.proofs.accepted.Tie as tie
+
+-- the entry of the place behind the check
+abbrev entry : tie.After-check-rest → tie.Start
+entry c = c .before .before .before .before .before .before
 
 check-rest-requires : tie.Need-check-rest-requires
 check-rest-requires c κs = search needs
@@ -18,16 +20,17 @@ enum-told : tie.Need-enum-told
 enum-told c = search needs
 
 fill-table-requires : tie.Need-fill-table-requires
-fill-table-requires c κs = let s = c .before .before .before .before .before .before .before .before .before .before in
+fill-table-requires c κs =
+    let told = c .before .before in
+    let checked = told .before .before in
+    let s = entry checked in
     ready (s .args .circuit .now) (s .args .n) (s .args .inputs) (s .args .faults .now) (s .args .patterns .now) _ _ (s .pre)
-    (sym (c .before .before .before .before .check-rest .ensures) ∙ c .before .before .enum-told .given .1)
+    (sym (checked .check-rest .ensures) ∙ told .enum-told .given .1)
 
 returns : tie.Need-returns
-returns c = let s = c .before .before .before .before .before .before .before .before .before in
-    refused-answer
-    (restRules (s .args .circuit .now) (s .args .n) (s .args .inputs) (s .args .faults .now) (s .args .patterns .now) (length (s .args .table .now)) (length (s .args .work .now)))
-    (s .args .circuit .now) (s .args .n) (s .args .inputs) (s .args .faults .now) (s .args .patterns .now) (s .args .table .now) (s .args .work .now)
-    (sym (c .before .before .before .check-rest .ensures) ∙ c .before .v .given .1)
+returns c =
+    let checked = c .before .before .before in
+    refused-answer _ _ _ _ _ _ _ _ (sym (checked .check-rest .ensures) ∙ c .before .v .given .1)
 
 same-length : tie.Need-same-length
 same-length c = search needs
@@ -36,12 +39,11 @@ same-length-2 : tie.Need-same-length-2
 same-length-2 c = search needs
 
 returns-2 : tie.Need-returns-2
-returns-2 c = let s = c .before .before .before .before .before .before .before .before .before .before .before .before .before .before .before in
-    filled-answer
-    (restRules (s .args .circuit .now) (s .args .n) (s .args .inputs) (s .args .faults .now) (s .args .patterns .now) (length (s .args .table .now)) (length (s .args .work .now)))
-    (s .args .circuit .now) (s .args .n) (s .args .inputs) (s .args .faults .now) (s .args .patterns .now) (s .args .table .now) (s .args .work .now)
-    (sym (c .before .before .before .before .before .before .before .before .before .check-rest .ensures) ∙ c .before .before .before .before .before .before .before .enum-told .given .1)
-    (c .before .before .before .before .fill-table .ensures)
+returns-2 c =
+    let filled = c .before .before .before .before in
+    let told = filled .before .before .before in
+    let checked = told .before .before in
+    filled-answer _ _ _ _ _ _ _ _ (sym (checked .check-rest .ensures) ∙ told .enum-told .given .1) (filled .fill-table .ensures)
 
 pub accepted-spec : {M : Type 1} → statement M
 accepted-spec =

@@ -1,11 +1,11 @@
 -- `dictionary::check_rest` meets its contract: a refusal of the lists is handed on, else the buffers decide.
 -- Assumes nothing.
 use mathlib.Core.Path.{sym, _∙_}
+use native.Mathlib.Nat.{mul-le-mul}
+use native.Mathlib.Omega.{arith}
 use borrow.Author.Needs.{needs}
-use Rattle.dictionary.proofs.Answer.{lists-few}
-use Rattle.dictionary.specs.Dictionary.{listRules, bufferRules}
-use Rattle.lists.specs.Patterns.{patternCount}
-use Rattle.lists.specs.Faults.{faultCount}
+use Rattle.lists.specs.Both.{listRules}
+use Rattle.lists.proofs.Both.{lists-few}
 use Rattle.answers.proofs.Rules.{after-refused, after-fine}
 use Rattle.dictionary.proofs.check_rest.Statement.{statement}
 use Rattle.dictionary.proofs.check_rest.Tie as tie
@@ -22,25 +22,29 @@ enum-told c = search needs
 div-p : tie.Need-div-p
 div-p c = search needs
 
-check-buffers-requires : tie.Need-check-buffers-requires
-check-buffers-requires c κs = let s = c .before .before .before .before .before .before in
-    let fine = sym (c .before .before .check-lists .ensures) ∙ c .enum-told .given .1 in
-    let few = lists-few (s .args .circuit .now) (s .args .n) (s .args .inputs) (s .args .faults .now) (s .args .patterns .now) fine in
-    (s .pre .lines, few .0, few .1)
+mul-check-lent : tie.Need-mul-check-lent
+mul-check-lent c =
+    let s = c .before .before .before .before .before .before in
+    let few = lists-few (s .args .circuit .now) (s .args .inputs) (s .args .faults .now) (s .args .patterns .now) (sym (c .before .before .check-lists .ensures) ∙ c .enum-told .given .1) in
+    omega (arith, mul-le-mul (few .0) (few .1))
+
+mul-check-lent-2 : tie.Need-mul-check-lent-2
+mul-check-lent-2 c = let k = c .before .before .before .before .before .before .pre in omega (arith, k .lines, k .good .most-lines)
+
+check-lent-requires : tie.Need-check-lent-requires
+check-lent-requires c κs = search needs
 
 returns : tie.Need-returns
 returns c = let s = c .before .before .before .before .before .before .before in
     sym
-    (after-refused (listRules (s .args .circuit .now) (s .args .inputs) (s .args .faults .now) (s .args .patterns .now))
-    (bufferRules (s .args .n) (faultCount (s .args .faults .now)) (patternCount (s .args .inputs) (s .args .patterns .now)) (s .args .table) (s .args .work))
+    (after-refused (listRules (s .args .circuit .now) (s .args .inputs) (s .args .faults .now) (s .args .patterns .now)) _
     (sym (c .before .before .before .check-lists .ensures) ∙ c .before .v .given .1))
 
 returns-2 : tie.Need-returns-2
 returns-2 c = let s = c .before .before .before .before .before .before .before in
-    c .check-buffers .ensures
+    c .check-lent .ensures
     ∙ sym
-    (after-fine (listRules (s .args .circuit .now) (s .args .inputs) (s .args .faults .now) (s .args .patterns .now))
-    (bufferRules (s .args .n) (faultCount (s .args .faults .now)) (patternCount (s .args .inputs) (s .args .patterns .now)) (s .args .table) (s .args .work))
+    (after-fine (listRules (s .args .circuit .now) (s .args .inputs) (s .args .faults .now) (s .args .patterns .now)) _
     (sym (c .before .before .before .check-lists .ensures) ∙ c .before .enum-told .given .1))
 
 pub check-rest-spec : {M : Type 1} → statement M
@@ -51,6 +55,8 @@ check-rest-spec =
     enum-known-v
     enum-told
     div-p
-    check-buffers-requires
+    mul-check-lent
+    mul-check-lent-2
+    check-lent-requires
     returns
     returns-2)

@@ -2,8 +2,8 @@
 -- Assumes nothing.
 use mathlib.Core.Path.{sym, _∙_}
 use borrow.Author.Needs.{needs}
-use Rattle.dictionary.proofs.Answer.{known, circuit-refused, circuit-accepted}
-use Rattle.circuit.proofs.Accepted.{accepts, refuses}
+use Rattle.dictionary.proofs.Answer.{circuit-refused, circuit-accepted}
+use Rattle.circuit.proofs.Accepted.{accepts, refuses, known}
 use Rattle.dictionary.proofs.dictionary.Statement.{statement}
 use Rattle.dictionary.proofs.dictionary.Tie as tie
 
@@ -18,12 +18,12 @@ enum-known-v-2 c = search needs
 
 accepted-requires : tie.Need-accepted-requires
 accepted-requires c κs =
-    known (accepts _ _ _ _ (sym (c .before .before .before .v2 .given .1) ∙ c .before .before .before .before .before .check .ensures .answer))
+    let told = c .before .before .before in
+    known (accepts _ _ _ _ (sym (told .v2 .given .1) ∙ told .before .before .check .ensures .answer))
 
 returns : tie.Need-returns
-returns c = let s = c .before .before .before .before .before .before .before .before .before in
-    circuit-refused (s .args .circuit .now) (s .args .faults .now) (s .args .patterns .now) (s .args .table .now) (s .args .work .now)
-    (refuses _ _ _ (sym (c .before .v .given .1) ∙ c .before .before .before .check .ensures .answer))
+returns c =
+    circuit-refused _ _ _ _ _ (refuses _ _ _ (sym (c .before .v .given .1) ∙ c .before .before .before .check .ensures .answer))
 
 same-length : tie.Need-same-length
 same-length c = search needs
@@ -33,12 +33,10 @@ same-length-2 c = search needs
 
 returns-2 : tie.Need-returns-2
 returns-2 c =
-    let s = c .before .before .before .before .before .before .before .before .before .before .before .before .before .before .before .before in
-    circuit-accepted (s .args .circuit .now) (s .args .faults .now) (s .args .patterns .now) (s .args .table .now) (s .args .work .now)
-    (accepts _ _ _ _
-    (sym (c .before .before .before .before .before .before .before .before .v2 .given .1)
-    ∙ c .before .before .before .before .before .before .before .before .before .before .check .ensures .answer))
-    (c .before .before .before .before .accepted .ensures)
+    let rest = c .before .before .before .before in
+    let told = rest .before .before .before .before in
+    let accept = accepts _ _ _ _ (sym (told .v2 .given .1) ∙ told .before .before .check .ensures .answer) in
+    circuit-accepted _ _ _ _ _ accept (rest .accepted .ensures)
 
 pub dictionary-spec : {M : Type 1} → statement M
 dictionary-spec =

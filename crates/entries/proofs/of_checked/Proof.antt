@@ -2,7 +2,7 @@
 -- Assumes nothing.
 use mathlib.Core.Path.{_∙_}
 use borrow.Author.Needs.{needs}
-use Rattle.circuit.specs.Check.{numbersOf}
+use Rattle.circuit.specs.Promise.{numbersOf}
 use Rattle.entries.proofs.of_checked.Statement.{statement}
 use Rattle.entries.proofs.of_checked.Tie as tie
 

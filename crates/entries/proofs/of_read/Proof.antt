@@ -2,7 +2,7 @@
 -- Assumes nothing.
 use mathlib.Core.Path.{_∙_}
 use borrow.Author.Needs.{needs}
-use Rattle.bench.specs.Bench.{numbersOf}
+use Rattle.bench.specs.Promise.{numbersOf}
 use Rattle.entries.proofs.of_read.Statement.{statement}
 use Rattle.entries.proofs.of_read.Tie as tie
 

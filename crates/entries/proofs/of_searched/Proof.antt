@@ -2,7 +2,7 @@
 -- Assumes nothing.
 use mathlib.Core.Path.{_∙_}
 use borrow.Author.Needs.{needs}
-use Rattle.search.specs.Search.{numbersOf}
+use Rattle.search.specs.Promise.{numbersOf}
 use Rattle.entries.proofs.of_searched.Statement.{statement}
 use Rattle.entries.proofs.of_searched.Tie as tie
 

@@ -17,7 +17,10 @@ same-length : tie.Need-same-length
 same-length c = search needs
 
 returns-2 : tie.Need-returns-2
-returns-2 c = right-size (numbersIn (c .before .before .before .before .before .before .args .reply)) (eq-eqb _ _ (c .before .before .before .before .if1 .left)) (c .before .before .put-numbers .ensures)
+returns-2 c =
+    let put = c .before .before in
+    let sized = put .before .before in
+    right-size (numbersIn (sized .before .before .args .reply)) (eq-eqb _ _ (sized .if1 .left)) (put .put-numbers .ensures)
 
 pub report-spec : {M : Type 1} → statement M
 report-spec = tie.close (tie.spec returns put-numbers-requires same-length returns-2)

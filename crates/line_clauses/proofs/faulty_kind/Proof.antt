@@ -5,7 +5,7 @@ use native.Mathlib.Omega.{arith}
 use mathlib.Core.Path.{sym, _∙_}
 use borrow.Author.Needs.{needs}
 use Rattle.line_clauses.proofs.Lines.{kind-last}
-use Rattle.line_clauses.specs.Inside.{faultyKind}
+use Rattle.line_clauses.specs.Owed.{faultyKind}
 use Rattle.line_clauses.proofs.faulty_kind.Statement.{statement}
 use Rattle.line_clauses.proofs.faulty_kind.Tie as tie
 

@@ -2,12 +2,29 @@
 -- Assumes nothing.
 use native.Mathlib.Omega.{arith}
 use mathlib.Core.Path.{refl}
+use Prim.Native.Nat.{_≤_}
 use borrow.Author.Needs.{needs}
+use Rattle.gates.specs.Gate.{lastKind}
+use Rattle.circuit.specs.Record.{kindAt}
 use Rattle.line_clauses.proofs.Sizes.{line-takes}
 use Rattle.line_clauses.proofs.Lines.{kind-last}
 use Rattle.cnf.proofs.Sizes.{few}
 use Rattle.line_clauses.proofs.line_size.Statement.{statement}
 use Rattle.line_clauses.proofs.line_size.Tie as tie
+
+-- once both kinds are measured: the place of the good one, and neither kind is past the last
+
+abbrev good : tie.After-size-of2 → tie.After-size-of
+good c = c .before .before
+
+abbrev entry : tie.After-size-of2 → tie.Start
+entry c = good c .before .before .before
+
+good-last : (c : tie.After-size-of2) → kindAt (entry c .args .circuit .now) (entry c .args .k) ≤ lastKind
+good-last c = kind-last (entry c .pre)
+
+faulty-last : (c : tie.After-size-of2) → c .before .faulty-kind .result ≤ lastKind
+faulty-last c = c .before .faulty-kind .ensures .1
 
 mul-size-of : tie.Need-mul-size-of
 mul-size-of c = search needs
@@ -25,13 +42,32 @@ size-of-requires-2 : tie.Need-size-of-requires-2
 size-of-requires-2 c κs = search needs
 
 add-t7 : tie.Need-add-t7
-add-t7 c = omega (arith, few _ (kind-last (c .before .before .before .before .before .before .before .pre)) .0, c .before .before .before .before .size-of .ensures .words, few _ (c .before .before .before .faulty-kind .ensures .1) .0, c .before .before .size-of2 .ensures .words)
+add-t7 c =
+    let faulty = c .before .before in
+    omega (
+      arith,
+      few _ (good-last faulty) .0,
+      good faulty .size-of .ensures .words,
+      few _ (faulty-last faulty) .0,
+      faulty .size-of2 .ensures .words,
+    )
 
 add-t10 : tie.Need-add-t10
-add-t10 c = omega (arith, few _ (kind-last (c .before .before .before .before .before .before .before .before .before .pre)) .1, c .before .before .before .before .before .before .size-of .ensures .clauses, few _ (c .before .before .before .before .before .faulty-kind .ensures .1) .1, c .before .before .before .before .size-of2 .ensures .clauses)
+add-t10 c =
+    let faulty = c .before .before .before .before in
+    omega (
+      arith,
+      few _ (good-last faulty) .1,
+      good faulty .size-of .ensures .clauses,
+      few _ (faulty-last faulty) .1,
+      faulty .size-of2 .ensures .clauses,
+    )
 
 returns : tie.Need-returns
-returns c = line-takes _ _ refl (c .before .before .before .before .before .before .size-of .ensures) (kind-last (c .before .before .before .before .before .before .before .before .before .pre)) (c .before .before .before .before .before .faulty-kind .ensures .0) (c .before .before .before .before .size-of2 .ensures) (c .before .before .before .before .before .faulty-kind .ensures .1)
+returns c =
+    let faulty = c .before .before .before .before in
+    line-takes _ _ refl (good faulty .size-of .ensures) (good-last faulty)
+    (faulty .before .faulty-kind .ensures .0) (faulty .size-of2 .ensures) (faulty-last faulty)
 
 pub line-size-spec : {M : Type 1} → statement M
 line-size-spec =

@@ -7,11 +7,14 @@ use Rattle.line_clauses.proofs.Lines.{lower, pin-stuck, pin-source}
 use Rattle.line_clauses.proofs.pin_variable.Statement.{statement}
 use Rattle.line_clauses.proofs.pin_variable.Tie as tie
 
+abbrev entry : tie.After-source → tie.Start
+entry c = c .before .before .before .before .before
+
 -- the source is lower than the line
-low : (c : tie.After-source) → (c .source .result < c .before .before .before .before .before .args .k) × (c .before .before .before .before .before .args .k < 2048)
+low : (c : tie.After-source) → (c .source .result < entry c .args .k) × (entry c .args .k < 2048)
 low c =
-    let p = c .before .before .before .before .before .pre in
-    (rw (c .source .ensures, c .before .wide .ensures .0) (lower (p .0) _ (p .1) (p .2)), omega arith)
+    let p = entry c .pre in
+    (omega (arith, rw (c .before .wide .ensures .0) at (c .source .ensures), lower (p .0) _ (p .1) (p .2)), omega arith)
 
 is-at-requires : tie.Need-is-at-requires
 is-at-requires c κs = search needs
@@ -38,7 +41,10 @@ add-result-2 : tie.Need-add-result-2
 add-result-2 c = omega (arith, low c)
 
 returns-2 : tie.Need-returns-2
-returns-2 c = (pin-source _ _ _ _ _ (c .before .before .before .is-at .ensures) (c .before .before .if1 .left) (c .before .before .before .before .before .pre .1) (c .before .wide .ensures .0) (c .source .ensures), omega (arith, low c))
+returns-2 c =
+    let free = c .before .before in
+    let is-source = pin-source _ _ _ _ _ (free .before .is-at .ensures) (free .if1 .left) (entry c .pre .1) (c .before .wide .ensures .0) (c .source .ensures) in
+    (is-source, omega (arith, low c))
 
 pub pin-variable-spec : {M : Type 1} → statement M
 pin-variable-spec =

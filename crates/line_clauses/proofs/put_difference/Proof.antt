@@ -1,11 +1,20 @@
 -- `line_clauses::put_difference` meets its contract: nothing, or the XOR of good and faulty.
 -- Assumes nothing.
+use mathlib.Core.Path.{_≡_}
 use native.Mathlib.Omega.{arith}
 use borrow.Author.Needs.{needs}
+use Rattle.cnf.specs.Table.{gateClauses, sites}
+use Rattle.line_clauses.specs.Clauses.{goodVar, faultyVar, differenceVar, differenceClauses}
 use Rattle.line_clauses.proofs.Lines.{difference-none, difference-gate, gate-room, put-line}
 use Rattle.ground.proofs.Put.{put-none}
 use Rattle.line_clauses.proofs.put_difference.Statement.{statement}
 use Rattle.line_clauses.proofs.put_difference.Tie as tie
+
+-- the clauses of an output are those of one gate
+gate : (c : tie.Else1)
+    → let a = c .before .before .before .args in
+    differenceClauses (a .circuit .now) (a .n) (a .k) ≡ gateClauses 7 (sites (differenceVar (a .n) (a .j)) (goodVar (a .k)) (faultyVar (a .k)))
+gate c = difference-gate _ _ _ (c .if1 .left) (c .before .before .before .pre .below)
 
 mul-if1 : tie.Need-mul-if1
 mul-if1 c = search needs
@@ -41,13 +50,15 @@ add-put-gate-4 : tie.Need-add-put-gate-4
 add-put-gate-4 c = search needs
 
 put-gate-requires : tie.Need-put-gate-requires
-put-gate-requires c κs = gate-room _ _ _ _ (difference-gate _ _ _ (c .before .if1 .left) (c .before .before .before .before .pre .below)) (c .before .before .before .before .pre .own .room) (omega arith) (omega arith) (omega arith) (omega arith)
+put-gate-requires c κs =
+    let room = c .before .before .before .before .pre .own .room in
+    gate-room _ _ _ _ (gate (c .before)) room (omega arith) (omega arith) (omega arith) (omega arith)
 
 same-length : tie.Need-same-length
 same-length c = search needs
 
 returns-2 : tie.Need-returns-2
-returns-2 c = put-line (difference-gate _ _ _ (c .before .before .before .if1 .left) (c .before .before .before .before .before .before .pre .below)) (c .before .put-gate .ensures)
+returns-2 c = put-line (gate (c .before .before .before)) (c .before .put-gate .ensures)
 
 pub put-difference-spec : {M : Type 1} → statement M
 put-difference-spec =

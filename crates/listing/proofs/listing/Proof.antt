@@ -3,8 +3,8 @@
 use mathlib.Core.Path.{sym, _∙_}
 use native.Mathlib.Omega.{arith}
 use borrow.Author.Needs.{needs}
-use Rattle.listing.proofs.Whole.{known, circuit-listed}
-use Rattle.circuit.proofs.Accepted.{accepts, refuses}
+use Rattle.listing.proofs.Whole.{circuit-listed}
+use Rattle.circuit.proofs.Accepted.{accepts, refuses, known}
 use Rattle.listing.proofs.listing.Statement.{statement}
 use Rattle.listing.proofs.listing.Tie as tie
 

@@ -24,7 +24,11 @@ same-length : tie.Need-same-length
 same-length c = search needs
 
 returns : tie.Need-returns
-returns c = let s = c .before .before .before .before .before .before .before .before .before .before in tabled (s .args .circuit .now) (s .args .faults .now) (s .args .patterns .now) (s .args .table .now) _ (s .pre) (length-take-le _ _ (omega arith)) (c .before .before .before .dictionary .ensures)
+returns c =
+    let made = c .before .before .before in
+    let s = made .before .before .before .before .before .before .before in
+    tabled (s .args .circuit .now) (s .args .faults .now) (s .args .patterns .now) (s .args .table .now) _ (s .pre)
+    (length-take-le _ _ (omega arith)) (made .dictionary .ensures)
 
 pub make-spec : {M : Type 1} → statement M
 make-spec =

@@ -6,6 +6,10 @@ use Rattle.listing.proofs.Whole.{counted, lent-long, sizes, listed}
 use Rattle.listing.proofs.put_accepted.Statement.{statement}
 use Rattle.listing.proofs.put_accepted.Tie as tie
 
+-- the entry of the place behind the count of the table's entries
+abbrev entry : tie.After-entries → tie.Start
+entry c = c .before .before .before .before .before .before
+
 div-p : tie.Need-div-p
 div-p c = search needs
 
@@ -16,10 +20,16 @@ slice-relend-prefix-put-made : tie.Need-slice-relend-prefix-put-made
 slice-relend-prefix-put-made c = search needs
 
 slice-aggregate-put-made : tie.Need-slice-aggregate-put-made
-slice-aggregate-put-made c = sym (lent-long (c .before .before .before .before .before .before .before .args .table .now) (c .before .entries .ensures) (c .before .before .before .before .before .before .before .pre .1))
+slice-aggregate-put-made c =
+    let at-entries = c .before in
+    let s = entry at-entries in
+    sym (lent-long (s .args .table .now) (at-entries .entries .ensures) (s .pre .1))
 
 put-made-requires : tie.Need-put-made-requires
-put-made-requires c κs = let s = c .before .before .before .before .before .before .before .before in (sizes (s .args .table .now) (s .pre .0) (c .before .before .entries .ensures) (s .pre .1), (counted (s .pre .0), s .pre .2))
+put-made-requires c κs =
+    let at-entries = c .before .before in
+    let s = entry at-entries in
+    (sizes (s .args .table .now) (s .pre .0) (at-entries .entries .ensures) (s .pre .1), (counted (s .pre .0), s .pre .2))
 
 same-length : tie.Need-same-length
 same-length c = search needs
@@ -28,7 +38,11 @@ same-length-2 : tie.Need-same-length-2
 same-length-2 c = search needs
 
 returns : tie.Need-returns
-returns c = let s = c .before .before .before .before .before .before .before .before .before .before .before .before .before in listed (s .args .table .now) (s .pre .0) (c .before .before .before .before .before .before .before .entries .ensures) (c .before .before .before .before .put-made .ensures)
+returns c =
+    let put = c .before .before .before .before in
+    let at-entries = put .before .before .before in
+    let s = entry at-entries in
+    listed (s .args .table .now) (s .pre .0) (at-entries .entries .ensures) (put .put-made .ensures)
 
 pub put-accepted-spec : {M : Type 1} → statement M
 put-accepted-spec =

@@ -40,7 +40,11 @@ loop-less : tie.Need-loop-less Inv-loop μ-loop
 loop-less c = search needs
 
 loop-again : tie.Need-loop-again Inv-loop μ-loop
-loop-again c = (omega arith, simp length-set (omega arith), partly-more (letterOf 0) (c .before .before .before .loop .inv .2) (rw length-map (omega arith)) (letter-at (c .before .before .before .before .before .before .args .row .now) (c .before .before .before .loop .i) (c .letter .ensures)))
+loop-again c =
+    let turn = c .before .before .before in
+    let row = turn .before .before .before .args .row .now in
+    let letter-is = letter-at row (turn .loop .i) (c .letter .ensures) in
+    (omega arith, simp length-set (omega arith), partly-more (letterOf 0) (turn .loop .inv .2) (rw length-map (omega arith)) letter-is)
 
 add-result : tie.Need-add-result Inv-loop μ-loop
 add-result c = search needs

@@ -4,11 +4,28 @@ use lib.ListN.{length-map}
 use native.Mathlib.Omega.{arith}
 use borrow.Author.Needs.{needs}
 use Rattle.listing.specs.Text.{letterOf}
-use Rattle.listing.proofs.Digits.{digits-short}
+use Rattle.decimals.proofs.Digits.{digits-short}
 use Rattle.listing.proofs.Pieces.{line-put}
 use Rattle.ground.proofs.Put.{put-long}
 use Rattle.listing.proofs.put_line.Statement.{statement}
 use Rattle.listing.proofs.put_line.Tie as tie
+
+-- the places: the entry, and behind the mark's letter, the number, the mark, the letters and the end; each accessor goes back by one
+
+abbrev entry : tie.After-mark-letter → tie.Start
+entry c = c .before .before .before
+
+abbrev letter-of : tie.After-put-decimal → tie.After-mark-letter
+letter-of c = c .before .before
+
+abbrev number-of : tie.After-put-three → tie.After-put-decimal
+number-of c = c .before .before .before .before
+
+abbrev mark-of : tie.After-put-letters → tie.After-put-three
+mark-of c = c .before .before .before .before
+
+abbrev row-of : tie.After-put-byte → tie.After-put-letters
+row-of c = c .before .before .before .before
 
 mark-letter-requires : tie.Need-mark-letter-requires
 mark-letter-requires c κs = search needs
@@ -17,25 +34,53 @@ put-decimal-requires : tie.Need-put-decimal-requires
 put-decimal-requires c κs = search needs
 
 put-three-requires : tie.Need-put-three-requires
-put-three-requires c κs = let p = c .before .before .before .put-decimal .ensures in
-    omega (arith, p .next-is, put-long p, digits-short 20 (c .before .before .before .before .before .before .before .before .args .p))
+put-three-requires c κs =
+    let number = c .before .before .before in
+    let p = number .put-decimal .ensures in
+    omega (arith, p .next-is, put-long p, digits-short 20 (entry (letter-of number) .args .p))
 
 put-letters-requires : tie.Need-put-letters-requires
-put-letters-requires c κs = let p = c .before .before .before .before .before .before .before .put-decimal .ensures in
-    let q = c .before .before .before .put-three .ensures in
-    omega (arith, p .next-is, q .next-is, put-long p, put-long q, digits-short 20 (c .before .before .before .before .before .before .before .before .before .before .before .before .args .p))
+put-letters-requires c κs =
+    let mark = c .before .before .before in
+    let number = number-of mark in
+    let p = number .put-decimal .ensures in
+    let q = mark .put-three .ensures in
+    omega (arith, p .next-is, q .next-is, put-long p, put-long q, digits-short 20 (entry (letter-of number) .args .p))
 
 put-byte-requires : tie.Need-put-byte-requires
-put-byte-requires c κs = let p = c .before .before .before .before .before .before .before .before .before .before .before .put-decimal .ensures in
-    let q = c .before .before .before .before .before .before .before .put-three .ensures in
-    let r = c .before .before .before .put-letters .ensures in
-    omega (arith, p .next-is, q .next-is, r .next-is, length-map (c .before .before .before .before .before .before .before .before .before .before .before .before .before .before .before .before .args .row .now) letterOf, put-long p, put-long q, put-long r, digits-short 20 (c .before .before .before .before .before .before .before .before .before .before .before .before .before .before .before .before .args .p))
+put-byte-requires c κs =
+    let row = c .before .before .before in
+    let mark = mark-of row in
+    let number = number-of mark in
+    let p = number .put-decimal .ensures in
+    let q = mark .put-three .ensures in
+    let r = row .put-letters .ensures in
+    let a = entry (letter-of number) .args in
+    omega (
+      arith,
+      p .next-is,
+      q .next-is,
+      r .next-is,
+      length-map (a .row .now) letterOf,
+      put-long p,
+      put-long q,
+      put-long r,
+      digits-short 20 (a .p),
+    )
 
 same-length : tie.Need-same-length
 same-length c = search needs
 
 returns : tie.Need-returns
-returns c = line-put (c .before .before .before .before .before .before .before .before .before .before .before .before .before .before .before .before .before .before .before .args .p) (c .before .before .before .before .before .before .before .before .before .before .before .before .before .before .before .before .before .before .before .args .mark) (c .before .before .before .before .before .before .before .before .before .before .before .before .before .before .before .before .before .before .before .args .row .now) (c .before .before .before .before .before .before .before .before .before .before .before .before .before .before .before .before .mark-letter .ensures) (c .before .before .before .before .before .before .before .before .before .before .before .before .before .before .put-decimal .ensures) (c .before .before .before .before .before .before .before .before .before .before .put-three .ensures) (c .before .before .before .before .before .before .put-letters .ensures) (c .before .before .put-byte .ensures)
+returns c =
+    let end = c .before .before in
+    let row = row-of end in
+    let mark = mark-of row in
+    let number = number-of mark in
+    let letter = letter-of number in
+    let a = entry letter .args in
+    line-put (a .p) (a .mark) (a .row .now) (letter .mark-letter .ensures) (number .put-decimal .ensures) (mark .put-three .ensures)
+    (row .put-letters .ensures) (end .put-byte .ensures)
 
 pub put-line-spec : {M : Type 1} → statement M
 put-line-spec =

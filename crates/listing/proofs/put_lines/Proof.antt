@@ -33,7 +33,10 @@ part-put-line-end : tie.Need-part-put-line-end Inv-loop μ-loop
 part-put-line-end c = omega (arith, row-fits (c .before .before .before .before .before .before .before .pre) (c .before .before .before .loop .inv) (omega arith))
 
 put-line-requires : tie.Need-put-line-requires Inv-loop μ-loop
-put-line-requires c κs = simp length-take (omega (arith, line-fits (c .before .before .before .before .before .before .before .before .pre) (c .before .before .before .before .loop .inv) (omega arith)))
+put-line-requires c κs =
+    let turn = c .before .before .before .before in
+    let entry = turn .before .before .before .before in
+    simp length-take (omega (arith, line-fits (entry .pre) (turn .loop .inv) (omega arith)))
 
 add-p : tie.Need-add-p Inv-loop μ-loop
 add-p c = omega arith
@@ -42,7 +45,10 @@ loop-less : tie.Need-loop-less Inv-loop μ-loop
 loop-less c = omega arith
 
 loop-again : tie.Need-loop-again Inv-loop μ-loop
-loop-again c = more (c .before .before .before .before .before .before .before .before .before .before .before .pre) (c .before .before .before .before .before .before .before .loop .inv) (omega arith) (c .before .before .put-line .ensures)
+loop-again c =
+    let turn = c .before .before .before .before .before .before .before in
+    let entry = turn .before .before .before .before in
+    more (entry .pre) (turn .loop .inv) (omega arith) (c .before .before .put-line .ensures)
 
 same-length : tie.Need-same-length Inv-loop μ-loop
 same-length c = put-long (c .before .loop .inv .put)

@@ -6,6 +6,10 @@ use Rattle.listing.proofs.Made.{full}
 use Rattle.listing.proofs.put_made.Statement.{statement}
 use Rattle.listing.proofs.put_made.Tie as tie
 
+-- the entry of the place behind the call that makes the table
+abbrev entry : tie.After-make → tie.Start
+entry c = c .before .before .before .before .before .before .before
+
 make-requires : tie.Need-make-requires
 make-requires c κs = search needs
 
@@ -19,7 +23,11 @@ enum-told : tie.Need-enum-told
 enum-told c = search needs
 
 put-table-requires : tie.Need-put-table-requires
-put-table-requires c κs = let s = c .before .before .before .before .before .before .before .before .before .before .before .before .before in full (c .before .before .before .before .before .before .make .ensures) (c .before .before .enum-told .given .1) (s .pre .1 .0) (s .pre .1 .1)
+put-table-requires c κs =
+    let told = c .before .before in
+    let made = told .before .before .before .before in
+    let pre = entry made .pre in
+    full (made .make .ensures) (told .enum-told .given .1) (pre .1 .0) (pre .1 .1)
 
 same-length : tie.Need-same-length
 same-length c = search needs
@@ -28,7 +36,11 @@ same-length-2 : tie.Need-same-length-2
 same-length-2 c = search needs
 
 returns : tie.Need-returns
-returns c = refused-lists (c .before .before .before .before .before .before .before .before .before .before .before .before .before .before .before .before .pre .1 .1) (rw (c .before .before .before .before .before .v .given .1) at (c .before .before .before .before .before .before .before .before .before .make .ensures)) (c .before .before .put-refused .ensures)
+returns c =
+    let put = c .before .before in
+    let known = put .before .before .before in
+    let made = known .before .before .before .before in
+    refused-lists (entry made .pre .1 .1) (rw (known .v .given .1) at (made .make .ensures)) (put .put-refused .ensures)
 
 same-length-3 : tie.Need-same-length-3
 same-length-3 c = search needs
@@ -37,7 +49,12 @@ same-length-4 : tie.Need-same-length-4
 same-length-4 c = search needs
 
 returns-2 : tie.Need-returns-2
-returns-2 c = let s = c .before .before .before .before .before .before .before .before .before .before .before .before .before .before .before .before in fine-lists (s .pre .1 .1) (rw (c .before .before .before .before .before .enum-told .given .1) at (c .before .before .before .before .before .before .before .before .before .make .ensures)) (s .pre .1 .0) (c .before .before .put-table .ensures)
+returns-2 c =
+    let put = c .before .before in
+    let told = put .before .before .before in
+    let made = told .before .before .before .before in
+    let pre = entry made .pre in
+    fine-lists (pre .1 .1) (rw (told .enum-told .given .1) at (made .make .ensures)) (pre .1 .0) (put .put-table .ensures)
 
 pub put-made-spec : {M : Type 1} → statement M
 put-made-spec =

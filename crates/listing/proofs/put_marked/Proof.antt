@@ -18,7 +18,11 @@ same-length-2 : tie.Need-same-length-2
 same-length-2 c = search needs
 
 returns : tie.Need-returns
-returns c = let s = c .before .before .before .before .before .before .before .before .before .before .before .before in rw (← marks-are (s .pre .0) (s .pre .1) (c .before .before .before .before .before .before .before .compact .ensures)) (c .before .before .put-lines .ensures)
+returns c =
+    let put = c .before .before in
+    let marked = put .before .before .before .before .before in
+    let pre = marked .before .before .before .before .before .pre in
+    rw (← marks-are (pre .0) (pre .1) (marked .compact .ensures)) (put .put-lines .ensures)
 
 pub put-marked-spec : {M : Type 1} → statement M
 put-marked-spec =

@@ -1,8 +1,8 @@
 -- `lists::check_patterns` meets its contract: one answer for each branch.
 -- Assumes nothing.
-use borrow.Author.Tests.{lt-ltb, le-ltb, not-true, not-false}
-use mathlib.Core.Path.{sym, _∙_}
-use Rattle.answers.specs.Rules.{said, refusal}
+use borrow.Author.Tests.{not-true, not-false}
+use mathlib.Core.Path.{refl, sym, _∙_}
+use Rattle.answers.proofs.Places.{whole-broken, place-broken, none-broken}
 use Rattle.lists.specs.Patterns.{patternRules}
 use borrow.Author.Needs.{needs}
 use Rattle.lists.proofs.check_patterns.Statement.{statement}
@@ -12,19 +12,19 @@ records-ok-requires : tie.Need-records-ok-requires
 records-ok-requires c κs = search needs
 
 returns : tie.Need-returns
-unfolding patternRules refusal said
-returns c = simp (sym (c .before .records-ok .ensures) ∙ not-true _ (c .if1 .taken))
+unfolding patternRules
+returns c = whole-broken _ refl (sym (c .before .records-ok .ensures) ∙ not-true _ (c .if1 .taken))
 
 first-big-requires : tie.Need-first-big-requires
 first-big-requires c κs = search needs
 
 returns-2 : tie.Need-returns-2
-unfolding patternRules refusal said
-returns-2 c = simp (sym (c .before .before .before .records-ok .ensures) ∙ not-false _ (c .before .before .if1 .left), lt-ltb _ _ (rw (c .before .first-big .ensures) at (c .if2 .taken))) (cc)
+unfolding patternRules
+returns-2 c = place-broken _ refl (sym (c .before .before .before .records-ok .ensures) ∙ not-false _ (c .before .before .if1 .left)) (c .before .first-big .ensures) (c .if2 .taken)
 
 returns-3 : tie.Need-returns-3
-unfolding patternRules refusal said
-returns-3 c = simp (sym (c .before .before .before .records-ok .ensures) ∙ not-false _ (c .before .before .if1 .left), le-ltb _ _ (rw (c .before .first-big .ensures) at (c .if2 .left)))
+unfolding patternRules
+returns-3 c = none-broken _ refl (sym (c .before .before .before .records-ok .ensures) ∙ not-false _ (c .before .before .if1 .left)) (c .before .first-big .ensures) (c .if2 .left)
 
 pub check-patterns-spec : {M : Type 1} → statement M
 check-patterns-spec =

@@ -37,10 +37,13 @@ find-requires c κs = (c .before .before .before .before .before .before .loop .
 
 add-requires : tie.Need-add-requires Inv-loop μ-loop
 add-requires c κs =
-    let hashed = c .before .before .before .before .before .hash .ensures in
-    let at = c .before .before .before .before .before .before in
-    let same-place = ap (λ (i : ℕ). hashFrom 0 (wordAt (c .before .before .before .before .before .before .before .before .before .before .before .before .before .before .args .text .now) i)) (at .wide16 .ensures .0) in
-    (at .before .before .before .loop .inv .table, omega arith, (hashed .0 ∙ same-place, hashed .1))
+    let hash = c .before .before .before .before .before in
+    let at = hash .before in
+    let turn = at .before .before .before in
+    let text = turn .before .before .before .before .before .args .text .now in
+    let hashed = hash .hash .ensures in
+    let same-place = ap (λ (i : ℕ). hashFrom 0 (wordAt text i)) (at .wide16 .ensures .0) in
+    (turn .loop .inv .table, omega arith, (hashed .0 ∙ same-place, hashed .1))
 
 lower-requires : tie.Need-lower-requires Inv-loop μ-loop
 lower-requires c κs = search needs

@@ -44,9 +44,13 @@ same-word-requires c κs = search needs
 
 returns : tie.Need-returns Inv-loop μ-loop
 returns c =
-    let first = c .before .before .before .before .before .before .before .before .before .before .before .before .args in
-    let same-place = ap (λ (i : ℕ). same (wordAt (first .text .now) i) (wordAt (first .text .now) (first .at))) (c .before .before .wide162 .ensures .0) in
-    hit (c .before .before .before .before .before .loop .inv) (omega arith) (sym same-place ∙ sym (c .before .same-word .ensures) ∙ c .if1 .taken)
+    let compared = c .before in
+    let at = compared .before in
+    let turn = at .before .before .before in
+    let first = turn .before .before .before .before .before .before .before .args in
+    let text = first .text .now in
+    let same-place = ap (λ (i : ℕ). same (wordAt text i) (wordAt text (first .at))) (at .wide162 .ensures .0) in
+    hit (turn .loop .inv) (omega arith) (sym same-place ∙ sym (compared .same-word .ensures) ∙ c .if1 .taken)
 
 mul-wide16-3 : tie.Need-mul-wide16-3 Inv-loop μ-loop
 mul-wide16-3 c = omega (arith, inside (c .before .before .before .before .before .loop .inv) (omega arith))
@@ -58,16 +62,22 @@ wide16-requires-3 : tie.Need-wide16-requires-3 Inv-loop μ-loop
 wide16-requires-3 c κs = search needs
 
 loop-less : tie.Need-loop-less Inv-loop μ-loop
-loop-less c = rw (c .wide163 .ensures .0) (falls (c .before .before .before .before .before .before .before .loop .inv) (omega arith) (c .before .before .before .before .before .before .before .before .before .before .before .before .before .before .pre .0))
+loop-less c =
+    let turn = c .before .before .before .before .before .before .before in
+    let first = turn .before .before .before .before .before .before .before in
+    rw (c .wide163 .ensures .0) (falls (turn .loop .inv) (omega arith) (first .pre .0))
 
 loop-again : tie.Need-loop-again Inv-loop μ-loop
 loop-again c =
-    let first = c .before .before .before .before .before .before .before .before .before .before .before .before .before .before in
+    let passed = c .before .before in
+    let compared = passed .before in
+    let at = compared .before in
+    let turn = at .before .before .before in
+    let first = turn .before .before .before .before .before .before .before in
     let text = first .args .text .now in
-    let at = c .before .before .before .before in
     let same-place = ap (λ (i : ℕ). same (wordAt text i) (wordAt text (first .args .at))) (at .wide162 .ensures .0) in
-    let other = sym same-place ∙ sym (c .before .before .before .same-word .ensures) ∙ c .before .before .if1 .left in
-    more (c .before .before .before .before .before .before .before .loop .inv) (omega arith) (first .pre .0) (c .wide163 .result) other (c .wide163 .ensures .0)
+    let other = sym same-place ∙ sym (compared .same-word .ensures) ∙ passed .if1 .left in
+    more (turn .loop .inv) (omega arith) (first .pre .0) (c .wide163 .result) other (c .wide163 .ensures .0)
 
 returns-2 : tie.Need-returns-2 Inv-loop μ-loop
 returns-2 c = ended (c .before .loop .inv) (omega arith)

@@ -16,7 +16,9 @@ abbrev μ-loop : tie.MeasureT-loop
 μ-loop text defs numbers head next names out₀ low lowest₀ u₀ out lowest u = length names - u
 
 loop-holds : tie.Need-loop-holds Inv-loop μ-loop
-loop-holds c = look-none (c .before .before .before .before .before .before .before .args .numbers .now) (c .before .before .before .before .before .before .before .pre)
+loop-holds c =
+    let s = c .before .before .before .before .before .before .before in
+    look-none (s .args .numbers .now) (s .pre)
 
 mul-wide16 : tie.Need-mul-wide16 Inv-loop μ-loop
 mul-wide16 c = omega arith
@@ -31,7 +33,9 @@ hash-requires : tie.Need-hash-requires Inv-loop μ-loop
 hash-requires c κs = search needs
 
 find-requires : tie.Need-find-requires Inv-loop μ-loop
-find-requires c κs = (c .before .before .before .before .before .before .before .before .before .before .before .before .pre .table, c .hash .ensures)
+find-requires c κs =
+    let turn = c .before .before .before .before in
+    (turn .before .before .before .before .before .before .before .before .pre .table, c .hash .ensures)
 
 entry-before-requires : tie.Need-entry-before-requires Inv-loop μ-loop
 entry-before-requires c κs = search needs
@@ -60,7 +64,9 @@ loop-again c =
     (at .wide16 .ensures .0) (found .find .ensures) (c .before .entry-before .ensures) (c .lower .ensures)
 
 same-length : tie.Need-same-length Inv-loop μ-loop
-same-length c = c .before .loop .inv .numbers-are .long ∙ sym (c .before .before .before .before .before .before .before .before .before .pre .room)
+same-length c =
+    let turn = c .before in
+    turn .loop .inv .numbers-are .long ∙ sym (turn .before .before .before .before .before .before .before .before .pre .room)
 
 returns : tie.Need-returns Inv-loop μ-loop
 returns c = look-all (c .before .loop .inv) (omega arith)

@@ -8,36 +8,51 @@ use Rattle.names.proofs.Ruled.{ruled}
 use Rattle.names.proofs.resolve_by.Statement.{statement}
 use Rattle.names.proofs.resolve_by.Tie as tie
 
+-- the places: the entry, behind the definitions, and behind each list of uses; each accessor goes back by one
+
+abbrev entry : tie.After-enter → tie.Start
+entry c = c .before .before .before .before .before .before .before .before .before .before .before .before .before .before
+
+abbrev entered-of : tie.After-look-up → tie.After-enter
+entered-of c = c .before .before .before .before .before .before .before .before
+
+abbrev outs-of : tie.After-look-up2 → tie.After-look-up
+outs-of c = c .before .before .before .before .before .before
+
+abbrev firsts-of : tie.After-look-up3 → tie.After-look-up2
+firsts-of c = c .before .before .before .before .before .before
+
 enter-requires : tie.Need-enter-requires
 enter-requires c κs = search needs
 
 look-up-requires : tie.Need-look-up-requires
 look-up-requires c κs =
     let entered = c .before .before .before .before .before .before .before in
-    let start = entered .before .before .before .before .before .before .before .before .before .before .before .before .before .before in
-    record { table = entered .enter .ensures .table; room = start .pre .0 .for-outs; so-far = entered-most (entered .enter .ensures) }
+    record {
+      table = entered .enter .ensures .table;
+      room = entry entered .pre .0 .for-outs;
+      so-far = entered-most (entered .enter .ensures);
+    }
 
 look-up-requires-2 : tie.Need-look-up-requires-2
 look-up-requires-2 c κs =
-    let looked = c .before .before .before .before .before in
-    let entered = looked .before .before .before .before .before .before .before .before in
-    let start = entered .before .before .before .before .before .before .before .before .before .before .before .before .before .before in
+    let outs = c .before .before .before .before .before in
+    let entered = entered-of outs in
     record {
       table = entered .enter .ensures .table;
-      room = start .pre .0 .for-firsts;
-      so-far = omega (arith, entered-most (entered .enter .ensures), looked-most (looked .look-up .ensures));
+      room = entry entered .pre .0 .for-firsts;
+      so-far = omega (arith, entered-most (entered .enter .ensures), looked-most (outs .look-up .ensures));
     }
 
 look-up-requires-3 : tie.Need-look-up-requires-3
 look-up-requires-3 c κs =
-    let then = c .before .before .before .before .before in
-    let looked = then .before .before .before .before .before .before in
-    let entered = looked .before .before .before .before .before .before .before .before in
-    let start = entered .before .before .before .before .before .before .before .before .before .before .before .before .before .before in
+    let firsts = c .before .before .before .before .before in
+    let outs = outs-of firsts in
+    let entered = entered-of outs in
     record {
       table = entered .enter .ensures .table;
-      room = start .pre .0 .for-seconds;
-      so-far = omega (arith, entered-most (entered .enter .ensures), looked-most (looked .look-up .ensures), looked-most (then .look-up2 .ensures));
+      room = entry entered .pre .0 .for-seconds;
+      so-far = omega (arith, entered-most (entered .enter .ensures), looked-most (outs .look-up .ensures), looked-most (firsts .look-up2 .ensures));
     }
 
 rule-names-requires : tie.Need-rule-names-requires
@@ -60,22 +75,19 @@ same-length-5 c = search needs
 
 returns : tie.Need-returns
 returns c =
-    let last = c .before .before .before in
-    let then = last .before .before .before .before .before .before in
-    let looked = then .before .before .before .before .before .before in
-    let entered = looked .before .before .before .before .before .before .before .before in
-    let start = entered .before .before .before .before .before .before .before .before .before .before .before .before .before .before in
-    let outs = looked .look-up .ensures in
-    let firsts = then .look-up2 .ensures in
-    let seconds = last .look-up3 .ensures in
+    let seconds = c .before .before .before in
+    let firsts = firsts-of seconds in
+    let outs = outs-of firsts in
+    let entered = entered-of outs in
     record {
       ruling =
           c .rule-names .ensures
-          ∙ ruled (start .pre .0) (entered .enter .result) (looked .look-up .result) (then .look-up2 .result) (last .look-up3 .result)
-          (entered .enter .ensures .place) (outs .place) (firsts .place) (seconds .place);
-      outs-are = outs .numbers-are;
-      firsts-are = firsts .numbers-are;
-      seconds-are = seconds .numbers-are;
+          ∙ ruled (entry entered .pre .0)
+          (entered .enter .result) (outs .look-up .result) (firsts .look-up2 .result) (seconds .look-up3 .result)
+          (entered .enter .ensures .place) (outs .look-up .ensures .place) (firsts .look-up2 .ensures .place) (seconds .look-up3 .ensures .place);
+      outs-are = outs .look-up .ensures .numbers-are;
+      firsts-are = firsts .look-up2 .ensures .numbers-are;
+      seconds-are = seconds .look-up3 .ensures .numbers-are;
     }
 
 pub resolve-by-spec : {M : Type 1} → statement M

@@ -5,7 +5,7 @@ use lib.ListN.{length}
 use mathlib.Core.Path.{sym, _∙_}
 use Prim.Native.Nat.{_-_}
 use Rattle.rows.proofs.Rows.{SoFar, start, more, finished}
-use Rattle.simulate.proofs.Settled.{ordered}
+use Rattle.simulate.proofs.Settled.{ordered, shaped}
 use Rattle.rows.proofs.fill_row.Statement.{statement}
 use Rattle.rows.proofs.fill_row.Tie as tie
 
@@ -16,7 +16,7 @@ abbrev μ-loop : tie.MeasureT-loop
 μ-loop circuit n pattern faults row₀ work₀ j₀ row work j = length row₀ - j
 
 good-values-requires : tie.Need-good-values-requires Inv-loop μ-loop
-good-values-requires c κs = let s = c .before .before .before .before .before .before in record { well = s .pre .well; two = s .pre .two }
+good-values-requires c κs = let s = c .before .before .before .before .before .before in record { shaped = shaped (s .pre .well); two = s .pre .two }
 
 loop-holds : tie.Need-loop-holds Inv-loop μ-loop
 loop-holds c = let s = c .before .before .before .before .before .before .before .before .before in

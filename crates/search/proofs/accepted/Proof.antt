@@ -1,10 +1,27 @@
 -- `search::accepted` meets its contract: a refusal is handed on, else the fault is read and the search run.
 -- Assumes nothing.
-use mathlib.Core.Path.{sym, _∙_}
+use mathlib.Core.Path.{_≡_, sym, _∙_}
 use borrow.Author.Needs.{needs}
+use lib.ListN.{length}
+use Rattle.answers.specs.declared.Ruling.the-variants.{Fine}
+use Rattle.answers.specs.Rules.{refusal}
+use Rattle.search.specs.Promise.{restRules}
 use Rattle.search.proofs.Answer.{fault-inside, runs, rest-refused, rest-fine}
 use Rattle.search.proofs.accepted.Statement.{statement}
 use Rattle.search.proofs.accepted.Tie as tie
+
+-- ---- the places: the entry, behind the check, and in the arm where nothing is refused
+
+abbrev entry : tie.After-check-rest → tie.Start
+entry c = c .before .before .before .before .before
+
+abbrev checked : tie.After-enum-told → tie.After-check-rest
+checked c = c .before .before
+
+fine : (c : tie.After-enum-told)
+    → let a = entry (checked c) .args in
+    refusal (restRules (a .circuit .now) (a .fault .now) (a .inputs) (a .n) (length (a .test .now)) (length (a .work .now))) ≡ Fine
+fine c = sym (checked c .check-rest .ensures) ∙ c .enum-told .given .1
 
 check-rest-requires : tie.Need-check-rest-requires
 check-rest-requires c κs = search needs
@@ -16,10 +33,13 @@ enum-told : tie.Need-enum-told
 enum-told c = search needs
 
 read-fault-requires : tie.Need-read-fault-requires
-read-fault-requires c κs = fault-inside _ _ _ _ _ _ (sym (c .before .before .check-rest .ensures) ∙ c .enum-told .given .1)
+read-fault-requires c κs = fault-inside _ _ _ _ _ _ (fine c)
 
 run-all-x-requires : tie.Need-run-all-x-requires
-run-all-x-requires c κs = let p = c .before .before .before .before .before .before .before .before .before .before .pre in runs _ _ _ _ _ _ (sym (c .before .before .before .before .before .check-rest .ensures) ∙ c .before .before .before .enum-told .given .1) (c .before .before .read-fault .ensures) (p .0) (p .1) (p .2)
+run-all-x-requires c κs =
+    let read = c .before .before in
+    let told = read .before in
+    runs _ _ _ _ _ _ (fine told) (read .read-fault .ensures) (entry (checked told) .pre)
 
 returns : tie.Need-returns
 returns c = rest-refused (sym (c .before .before .before .check-rest .ensures) ∙ c .before .v .given .1)
@@ -31,7 +51,11 @@ same-length-2 : tie.Need-same-length-2
 same-length-2 c = search needs
 
 returns-2 : tie.Need-returns-2
-returns-2 c = let p = c .before .before .before .before .before .before .before .before .before .before .before .before .before .before .before .pre in rest-fine (sym (c .before .before .before .before .before .before .before .before .before .before .check-rest .ensures) ∙ c .before .before .before .before .before .before .before .before .enum-told .given .1) (c .before .before .before .before .before .before .before .read-fault .ensures) (p .0) (p .1) (c .before .before .before .before .run-all-x .ensures)
+returns-2 c =
+    let ran = c .before .before .before .before in
+    let read = ran .before .before .before in
+    let told = read .before in
+    rest-fine (fine told) (read .read-fault .ensures) (entry (checked told) .pre) (ran .run-all-x .ensures)
 
 pub accepted-spec : {M : Type 1} → statement M
 accepted-spec =

@@ -16,6 +16,9 @@ enum-known-v c = search needs
 enum-told : tie.Need-enum-told
 enum-told c = search needs
 
+mul-check-lent : tie.Need-mul-check-lent
+mul-check-lent c = search needs
+
 check-lent-requires : tie.Need-check-lent-requires
 check-lent-requires c κs = search needs
 
@@ -28,4 +31,11 @@ returns-2 c = c .check-lent .ensures ∙ sym (after-fine (faultRules 1 _ _) _ (s
 pub check-rest-spec : {M : Type 1} → statement M
 check-rest-spec =
     tie.close
-    (tie.spec check-faults-requires enum-known-v enum-told check-lent-requires returns returns-2)
+    (tie.spec
+    check-faults-requires
+    enum-known-v
+    enum-told
+    mul-check-lent
+    check-lent-requires
+    returns
+    returns-2)

@@ -23,9 +23,11 @@ same-length-3 c = search needs
 
 returns : tie.Need-returns
 returns c =
-    let s = c .before .before .before .before .before .before .before .before .before .side .ensures in
-    let a = c .before .before .before .before .before .before .before .before .before .before .before .before .before .before .before .before .args in
-    record { verdict = s .verdict; test = c .before .before .put-test .ensures ∙ left-test s (a .test .now); work = s .memory }
+    let put = c .before .before in
+    let found = put .before .before .before .before .before .before .before in
+    let s = found .side .ensures in
+    let test = found .before .before .before .before .before .before .before .args .test .now in
+    record { verdict = s .verdict; test = put .put-test .ensures ∙ left-test s test; work = s .memory }
 
 pub run-spec : {M : Type 1} → statement M
 run-spec =

@@ -19,17 +19,23 @@ use Rattle.search.proofs.run_all_x.Tie as tie
 runs-of : {c : List ℕ} {fault : Fault} {n : ℕ} {s s2 : Node} {test room : ℕ} → s ≡ s2 → Runs c fault n s test room → Runs c fault n s2 test room
 runs-of e p = rw (← e) p
 
-ran-of : {look : Look} {after : Node → List ℕ} {s s2 : Node} {b : ℕ} {t w : List ℕ} {r : Verdict} {t′ w′ : List ℕ} → s ≡ s2 → Ran look after s b t w r t′ w′ → Ran look after s2 b t w r t′ w′
+ran-of : {look : Look} {after : Node → List ℕ} {s s2 : Node} {b : ℕ} {t w : List ℕ} {r : Verdict} {t′ w′ : List ℕ}
+    → s ≡ s2
+    → Ran look after s b t w r t′ w′ → Ran look after s2 b t w r t′ w′
 ran-of e p = rw (← e) p
 
 array-borrow-prefix-node : tie.Need-array-borrow-prefix-node
 array-borrow-prefix-node c = search needs
 
 slice-aggregate-run : tie.Need-slice-aggregate-run
-slice-aggregate-run c = sym (ap length (start-part (c .before .before .before .before .args .inputs) 64 (omega arith)) ∙ length-replicate (c .before .before .before .before .args .inputs) 2)
+slice-aggregate-run c =
+    let inputs = c .before .before .before .before .args .inputs in
+    sym (ap length (start-part inputs 64 (omega arith)) ∙ length-replicate inputs 2)
 
 run-requires : tie.Need-run-requires
-run-requires c κs = runs-of (sym (start-part (c .before .before .before .before .before .before .args .inputs) 64 (omega arith))) (c .before .before .before .before .before .before .pre .1)
+run-requires c κs =
+    let s = c .before .before .before .before .before .before in
+    runs-of (sym (start-part (s .args .inputs) 64 (omega arith))) (s .pre .1)
 
 same-length : tie.Need-same-length
 same-length c = search needs
@@ -38,7 +44,10 @@ same-length-2 : tie.Need-same-length-2
 same-length-2 c = search needs
 
 returns : tie.Need-returns
-returns c = ran-of (start-part (c .before .before .before .before .before .before .before .before .before .before .before .before .args .inputs) 64 (omega arith)) (c .before .before .before .before .before .run .ensures)
+returns c =
+    let ran = c .before .before .before .before .before in
+    let inputs = ran .before .before .before .before .before .before .before .args .inputs in
+    ran-of (start-part inputs 64 (omega arith)) (ran .run .ensures)
 
 pub run-all-x-spec : {M : Type 1} → statement M
 run-all-x-spec =

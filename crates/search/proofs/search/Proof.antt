@@ -3,7 +3,7 @@
 use mathlib.Core.Path.{sym, _∙_}
 use borrow.Author.Needs.{needs}
 use Rattle.search.proofs.Answer.{circuit-refused, circuit-fine}
-use Rattle.circuit.proofs.Accepted.{accepts, refuses}
+use Rattle.circuit.proofs.Accepted.{accepts, refuses, known}
 use Rattle.search.proofs.search.Statement.{statement}
 use Rattle.search.proofs.search.Tie as tie
 
@@ -18,8 +18,8 @@ enum-known-v-2 c = search needs
 
 accepted-requires : tie.Need-accepted-requires
 accepted-requires c κs =
-    let a = accepts _ _ _ _ (sym (c .before .before .before .v2 .given .1) ∙ c .before .before .before .before .before .check .ensures .answer) in
-    (a .lines, a .inputs, a .good)
+    let told = c .before .before .before in
+    known (accepts _ _ _ _ (sym (told .v2 .given .1) ∙ told .before .before .check .ensures .answer))
 
 returns : tie.Need-returns
 returns c = circuit-refused (refuses _ _ _ (sym (c .before .v .given .1) ∙ c .before .before .before .check .ensures .answer))
@@ -32,7 +32,9 @@ same-length-2 c = search needs
 
 returns-2 : tie.Need-returns-2
 returns-2 c =
-    circuit-fine (accepts _ _ _ _ (sym (c .before .before .before .before .before .before .before .before .v2 .given .1) ∙ c .before .before .before .before .before .before .before .before .before .before .check .ensures .answer)) (c .before .before .before .before .accepted .ensures)
+    let rest = c .before .before .before .before in
+    let told = rest .before .before .before .before in
+    circuit-fine (accepts _ _ _ _ (sym (told .v2 .given .1) ∙ told .before .before .check .ensures .answer)) (rest .accepted .ensures)
 
 pub search-spec : {M : Type 1} → statement M
 search-spec =

@@ -13,12 +13,11 @@ use Rattle.nodes.specs.declared.Verdict.{Verdict}
 use Rattle.nodes.specs.declared.Verdict.the-variants.{Redundant}
 use Rattle.nodes.specs.Node.{Node, IsNode, countX}
 use Rattle.nodes.specs.Order.{Look}
-use Rattle.nodes.specs.Side.{Sided}
+use Rattle.nodes.specs.Owed.{Sided}
 use Rattle.nodes.proofs.Node.{found-first, fewer, set-again, restored, set-is}
 use Rattle.nodes.proofs.Ways.{Open, from-node, fits, spent, failed, passed, first-test, first-spent, second-test, second-none, second-spent}
 use Rattle.sides.specs.Look.{lookOf, workOf}
 use Rattle.sides.specs.Owed.{Prepared}
-use Rattle.sides.proofs.Look.{unknown-has-x}
 use Rattle.sides.proofs.side.Reads as side
 use Rattle.sides.proofs.side.Kinds as side-kinds
 use Rattle.sides.proofs.+side.Lts-side as side-lts
@@ -41,10 +40,13 @@ module _ (t : ℕ) where
   abbrev calls : side-lts.Claims
   calls = (visit-reads.Asked, visit-reads.Learnt, first-x-reads.Asked, first-x-reads.Learnt, below, side.Post)
 
-  -- ---- the places: at the entry, with the first X found, after the first side, with no test there, after the second side
+  -- ---- the places: at the entry, after the visit, with the first X found, after the first side, with no test there, after the second side
 
   abbrev Entry : Type 0
   Entry = side-lts.Start calls here side.Post
+
+  abbrev AtVisit : Type 0
+  AtVisit = side-lts.After-visit calls here side.Post
 
   abbrev AtX : Type 0
   AtX = side-lts.After-first-x calls here side.Post
@@ -58,23 +60,66 @@ module _ (t : ℕ) where
   abbrev AtSecond : Type 0
   AtSecond = side-lts.After-side2 calls here side.Post
 
+  -- where the answer of the first side is matched, and that of the second
+  abbrev AtMatch : Type 0
+  AtMatch = side-lts.After-slice-known5 calls here side.Post
+
+  abbrev AtMatch2 : Type 0
+  AtMatch2 = side-lts.After-slice-known7 calls here side.Post
+
+  abbrev visit-of : AtX → AtVisit
+  visit-of c = c .before .before .before .before .before .before
+
   abbrev entry : AtX → Entry
-  entry c = c .before .before .before .before .before .before .before .before .before .before .before .before .before
+  entry c = visit-of c .before .before .before .before .before .before .before
 
   abbrev x-of : AtFirst → AtX
   x-of c = c .before .before .before
 
+  abbrev matched : AtMatch → AtFirst
+  matched c = c .before .before .before .before
+
   abbrev first-of : AtNone → AtFirst
-  first-of c = c .before .before .before .before .before .before .before
+  first-of c = matched (c .before .before .before)
 
   abbrev none-of : AtSecond → AtNone
   none-of c = c .before .before .before
+
+  abbrev matched2 : AtMatch2 → AtSecond
+  matched2 c = c .before .before .before .before
 
   abbrev x1 : AtNone → AtX
   x1 c = x-of (first-of c)
 
   abbrev x2 : AtSecond → AtX
   x2 c = x1 (none-of c)
+
+  -- ---- what is read there: the node and the work memory at the entry, after the first side and after the second, and where the X stands
+
+  abbrev node : Entry → Node
+  node c = c .args .node .now
+
+  abbrev work : Entry → List ℕ
+  work c = c .args .work .now
+
+  abbrev place : AtX → ℕ
+  place c = c .first-x .result
+
+  abbrev node1 : AtFirst → Node
+  node1 c = c .side .last .1 .1 .1 .0
+
+  abbrev work1 : AtFirst → List ℕ
+  work1 c = c .side .last .1 .1 .1 .1 .0
+
+  abbrev node2 : AtSecond → Node
+  node2 c = c .side2 .last .1 .1 .1 .0
+
+  abbrev work2 : AtSecond → List ℕ
+  work2 c = c .side2 .last .1 .1 .1 .1 .0
+
+  -- the nodes of the first side, which has no test
+  abbrev looked : AtNone → ℕ
+  looked c = c .before .a .given .0 .0
 
   -- ---- what is known there
 
@@ -84,44 +129,54 @@ module _ (t : ℕ) where
   abbrev work-at : Entry → Node → List ℕ
   work-at c = workOf (c .args .fault) (c .args .circuit .now) (c .args .n)
 
-  ready : (c : Entry) → Prepared (c .args .circuit .now) (c .args .fault) (c .args .n) (length (c .args .work .now))
+  ready : (c : Entry) → Prepared (c .args .circuit .now) (c .args .fault) (c .args .n) (length (work c))
   ready c = c .pre .1 .0
 
-  node-at : (c : Entry) → IsNode (inputsBefore (c .args .circuit .now) (c .args .n)) (c .args .node .now)
+  -- the same once the work memory is another of that length
+  ready-with : (c : Entry) {room : ℕ} → room ≡ length (work c) → Prepared (c .args .circuit .now) (c .args .fault) (c .args .n) room
+  ready-with c same = let r = ready c in record { shaped = r .shaped; line = r .line; looks = r .looks; two = same ∙ r .two }
+
+  node-at : (c : Entry) → IsNode (inputsBefore (c .args .circuit .now) (c .args .n)) (node c)
   node-at c = c .pre .1 .1
 
-  opened : (c : AtX) → Open (look-at (entry c)) (entry c .args .left) (entry c .args .node .now) (c .first-x .result)
+  opened : (c : AtX) → Open (look-at (entry c)) (entry c .args .left) (node (entry c)) (place c)
   opened c =
       let e = entry c in
-      let u = sym (c .before .before .before .before .before .before .visit .ensures .says) ∙ c .before .before .if3 .left in
-      record { more = omega arith; unknown = u; first = found-first (c .first-x .ensures) (unknown-has-x _ _ _ _ (ready e .value) (ready e .well) (node-at e) u) }
+      let unknown = sym (visit-of c .visit .ensures .says) ∙ c .before .before .if3 .left in
+      record {
+        more = omega arith;
+        unknown = unknown;
+        first = found-first (c .first-x .ensures) (ready e .looks .unknown _ (node-at e) unknown);
+      }
 
   -- the first side, of which r is the answer
   abbrev First : AtFirst → Verdict → Type 0
   First c r =
-      let e = entry (x-of c) in
-      Sided (look-at e) (work-at e) (e .args .left - 1) (set (e .args .node .now) (x-of c .first-x .result) 0) (work-at e (e .args .node .now)) r (c .side .last .1 .1 .1 .0) (c .side .last .1 .1 .1 .1 .0)
+      let x = x-of c in
+      let e = entry x in
+      Sided (look-at e) (work-at e) (e .args .left - 1) (set (node e) (place x) 0) (work-at e (node e)) r (node1 c) (work1 c)
 
   first : (c : AtFirst) → First c (c .side .result)
-  first c = rw (c .before .before .before .before .before .before .before .before .before .visit .ensures .work) at (c .side .ensures)
+  first c = rw (visit-of (x-of c) .visit .ensures .work) at (c .side .ensures)
 
   began : (c : AtFirst) {r : Verdict} → c .side .result ≡ r → First c r
   began c e = subst (First c) e (first c)
 
   -- the first side has no test
-  none : (c : AtNone) → First (first-of c) (Redundant (c .before .a .given .0 .0))
+  none : (c : AtNone) → First (first-of c) (Redundant (looked c))
   none c = began (first-of c) (c .before .a .given .1)
 
   -- the second side, of which r is the answer
   abbrev Second : AtSecond → Verdict → Type 0
   Second c r =
       let n = none-of c in
-      let e = entry (x1 n) in
-      Sided (look-at e) (work-at e) (e .args .left - 1 - n .before .a .given .0 .0) (set (e .args .node .now) (x1 n .first-x .result) 1) (first-of n .side .last .1 .1 .1 .1 .0) r (c .side2 .last .1 .1 .1 .0) (c .side2 .last .1 .1 .1 .1 .0)
+      let x = x1 n in
+      let e = entry x in
+      Sided (look-at e) (work-at e) (e .args .left - 1 - looked n) (set (node e) (place x) 1) (work1 (first-of n)) r (node2 c) (work2 c)
 
   -- its node is the entry's with a 1
-  again : (c : AtNone) → set (first-of c .side .last .1 .1 .1 .0) (x1 c .first-x .result) 1 ≡ set (entry (x1 c) .args .node .now) (x1 c .first-x .result) 1
-  again c = set-again (entry (x1 c) .args .node .now) (x1 c .first-x .result) 0 1 (none c .node)
+  again : (c : AtNone) → set (node1 (first-of c)) (place (x1 c)) 1 ≡ set (node (entry (x1 c))) (place (x1 c)) 1
+  again c = set-again (node (entry (x1 c))) (place (x1 c)) 0 1 (none c .node)
 
   second : (c : AtSecond) → Second c (c .side2 .result)
   second c = from-node (c .side2 .ensures) (again (none-of c))
@@ -129,19 +184,27 @@ module _ (t : ℕ) where
   ended : (c : AtSecond) {r : Verdict} → c .side2 .result ≡ r → Second c r
   ended c e = subst (Second c) e (second c)
 
-  opened2 : (c : AtSecond) → Open (look-at (entry (x2 c))) (entry (x2 c) .args .left) (entry (x2 c) .args .node .now) (x2 c .first-x .result)
+  opened2 : (c : AtSecond) → Open (look-at (entry (x2 c))) (entry (x2 c) .args .left) (node (entry (x2 c))) (place (x2 c))
   opened2 c = opened (x2 c)
 
   -- ---- lengths stay
 
-  lengths : (c : AtFirst) → (length (c .side .last .1 .1 .1 .0) ≡ length (entry (x-of c) .args .node .now)) × (length (c .side .last .1 .1 .1 .1 .0) ≡ length (entry (x-of c) .args .work .now))
-  lengths c = (c .side .kept .1 .1 .1 .0 ∙ length-set (entry (x-of c) .args .node .now) (x-of c .first-x .result) 0, c .side .kept .1 .1 .1 .1 .0 ∙ c .before .before .before .before .before .before .before .before .before .visit .kept .1 .1 .1 .0)
+  visit-length : (c : AtX) → length (visit-of c .visit .last .1 .1 .1 .0) ≡ length (work (entry c))
+  visit-length c = visit-of c .visit .kept .1 .1 .1 .0
 
-  lengths2 : (c : AtSecond) → (length (c .side2 .last .1 .1 .1 .0) ≡ length (entry (x2 c) .args .node .now)) × (length (c .side2 .last .1 .1 .1 .1 .0) ≡ length (entry (x2 c) .args .work .now))
-  lengths2 c =
+  node1-length : (c : AtFirst) → length (node1 c) ≡ length (node (entry (x-of c)))
+  node1-length c = c .side .kept .1 .1 .1 .0 ∙ length-set (node (entry (x-of c))) (place (x-of c)) 0
+
+  work1-length : (c : AtFirst) → length (work1 c) ≡ length (work (entry (x-of c)))
+  work1-length c = c .side .kept .1 .1 .1 .1 .0 ∙ visit-length (x-of c)
+
+  node2-length : (c : AtSecond) → length (node2 c) ≡ length (node (entry (x2 c)))
+  node2-length c =
       let f = first-of (none-of c) in
-      let l = lengths f in
-      (c .side2 .kept .1 .1 .1 .0 ∙ length-set (f .side .last .1 .1 .1 .0) (x-of f .first-x .result) 1 ∙ l .0, c .side2 .kept .1 .1 .1 .1 .0 ∙ l .1)
+      c .side2 .kept .1 .1 .1 .0 ∙ length-set (node1 f) (place (x-of f)) 1 ∙ node1-length f
+
+  work2-length : (c : AtSecond) → length (work2 c) ≡ length (work (entry (x2 c)))
+  work2-length c = c .side2 .kept .1 .1 .1 .1 .0 ∙ work1-length (first-of (none-of c))
 
   -- ---- the needs
 
@@ -149,7 +212,7 @@ module _ (t : ℕ) where
   side-returns c = rw (c .if1 .taken) spent
 
   side-visit-requires : side-lts.Need-visit-requires calls here side.Post
-  side-visit-requires c κs = (ready (c .before .before .before .before .before .before), node-at (c .before .before .before .before .before .before))
+  side-visit-requires c κs = let e = c .before .before .before .before .before .before in (ready e, node-at e)
 
   side-same-length : side-lts.Need-same-length calls here side.Post
   side-same-length c = refl
@@ -158,7 +221,9 @@ module _ (t : ℕ) where
   side-same-length-2 c = c .before .before .before .visit .kept .1 .1 .1 .0
 
   side-returns-2 : side-lts.Need-returns-2 calls here side.Post
-  side-returns-2 c = let l = c .before .before .before .visit .ensures in failed (omega arith) (l .work) (sym (l .says) ∙ c .if2 .taken)
+  side-returns-2 c =
+      let told = c .before .before .before .visit .ensures in
+      failed (omega arith) (told .work) (sym (told .says) ∙ c .if2 .taken)
 
   side-same-length-3 : side-lts.Need-same-length-3 calls here side.Post
   side-same-length-3 c = refl
@@ -167,7 +232,9 @@ module _ (t : ℕ) where
   side-same-length-4 c = c .before .before .before .before .visit .kept .1 .1 .1 .0
 
   side-returns-3 : side-lts.Need-returns-3 calls here side.Post
-  side-returns-3 c = let l = c .before .before .before .before .visit .ensures in passed (omega arith) (l .work) (λ p. c .before .if2 .left (l .says ∙ p)) (λ p. c .if3 .taken (l .says ∙ p))
+  side-returns-3 c =
+      let told = c .before .before .before .before .visit .ensures in
+      passed (omega arith) (told .work) (λ p. c .before .if2 .left (told .says ∙ p)) (λ p. c .if3 .taken (told .says ∙ p))
 
   side-first-x-requires : side-lts.Need-first-x-requires calls here side.Post
   side-first-x-requires c κs = tt
@@ -182,49 +249,63 @@ module _ (t : ℕ) where
   side-side-requires c κs =
       let x = c .before .before in
       let e = entry x in
-      let r = ready e in
-      (fewer (omega arith) (opened x .first) (e .pre .0), (record { well = r .well; line = r .line; value = r .value; two = c .before .before .before .before .before .before .before .before .visit .kept .1 .1 .1 .0 ∙ r .two }, set-is _ 0 (omega arith) (node-at e)))
+      let falls : countX (set (node e) (place x) 0) < t = fewer (omega arith) (opened x .first) (e .pre .0) in
+      (falls, (ready-with e (visit-length x), set-is _ 0 (omega arith) (node-at e)))
 
   side-enum-known-a : side-lts.Need-enum-known-a calls here side.Post
   side-enum-known-a c = search needs
 
   side-slice-write-node-2 : side-lts.Need-slice-write-node-2 calls here side.Post
-  side-slice-write-node-2 c = let f = first-of c in let l = lengths f in omega (arith, opened (x-of f) .first .inside)
+  side-slice-write-node-2 c = let f = first-of c in omega (arith, node1-length f, opened (x-of f) .first .inside)
 
   side-sub-side-2 : side-lts.Need-sub-side-2 calls here side.Post
-  side-sub-side-2 c = opened (x-of (first-of (c .before .before))) .more
+  side-sub-side-2 c = opened (x1 (c .before .before)) .more
 
   side-sub-side-3 : side-lts.Need-sub-side-3 calls here side.Post
   side-sub-side-3 c = fits (none (c .before .before))
 
+  -- the node is first known as the first side left it: `again` says that this is the entry's with a 1
   side-side-requires-2 : side-lts.Need-side-requires-2 calls here side.Post
   side-side-requires-2 c κs =
       let n = c .before .before in
       let f = first-of n in
       let e = entry (x-of f) in
-      let r = ready e in
-      (subst (λ (s : Node). countX s < t) (sym (again n)) (fewer {v = 1} (omega arith) (opened (x-of f) .first) (e .pre .0)), (record { well = r .well; line = r .line; value = r .value; two = lengths f .1 ∙ r .two }, subst (IsNode _) (sym (again n)) (set-is _ 1 (omega arith) (node-at e))))
+      let falls : countX (set (node e) (place (x-of f)) 1) < t = fewer (omega arith) (opened (x-of f) .first) (e .pre .0) in
+      let is-node = set-is _ 1 (omega arith) (node-at e) in (
+        subst (λ (s : Node). countX s < t) (sym (again n)) falls,
+        (ready-with e (work1-length f), subst (IsNode _) (sym (again n)) is-node),
+      )
 
   side-enum-known-b : side-lts.Need-enum-known-b calls here side.Post
   side-enum-known-b c = search needs
 
   side-slice-write-node-3 : side-lts.Need-slice-write-node-3 calls here side.Post
-  side-slice-write-node-3 c = let d = c .before .before .before .before .before .before .before in let l = lengths2 d in omega (arith, opened2 d .first .inside)
+  side-slice-write-node-3 c =
+      let d = matched2 (c .before .before .before) in
+      omega (arith, node2-length d, opened2 d .first .inside)
 
   side-add-t38 : side-lts.Need-add-t38 calls here side.Post
-  side-add-t38 c = let d = c .before .before .before .before .before .before .before in omega (arith, fits (none (none-of d)), opened2 d .more, entry (x2 d) .fits .left)
+  side-add-t38 c =
+      let d = matched2 (c .before .before .before) in
+      omega (arith, fits (none (none-of d)), opened2 d .more, entry (x2 d) .fits .left)
 
   side-add-t39 : side-lts.Need-add-t39 calls here side.Post
-  side-add-t39 c = let d = c .before .before .before .before .before .before .before in omega (arith, fits (none (none-of d)), fits (ended d (c .before .b .given .1)), opened2 d .more, entry (x2 d) .fits .left)
+  side-add-t39 c =
+      let d = matched2 (c .before .before .before) in
+      omega (arith, fits (none (none-of d)), fits (ended d (c .before .b .given .1)), opened2 d .more, entry (x2 d) .fits .left)
 
   side-enum-known-b-2 : side-lts.Need-enum-known-b-2 calls here side.Post
   side-enum-known-b-2 c = search needs
 
   side-add-t40 : side-lts.Need-add-t40 calls here side.Post
-  side-add-t40 c = let d = c .before .before .before .before .before .before .before in omega (arith, fits (none (none-of d)), opened2 d .more, entry (x2 d) .fits .left)
+  side-add-t40 c =
+      let d = matched2 (c .before .before .before) in
+      omega (arith, fits (none (none-of d)), opened2 d .more, entry (x2 d) .fits .left)
 
   side-add-t41 : side-lts.Need-add-t41 calls here side.Post
-  side-add-t41 c = let d = c .before .before .before .before .before .before .before in omega (arith, fits (none (none-of d)), fits (ended d (c .before .b2 .given .1)), opened2 d .more, entry (x2 d) .fits .left)
+  side-add-t41 c =
+      let d = matched2 (c .before .before .before) in
+      omega (arith, fits (none (none-of d)), fits (ended d (c .before .b2 .given .1)), opened2 d .more, entry (x2 d) .fits .left)
 
   side-enum-told : side-lts.Need-enum-told calls here side.Post
   side-enum-told c = search needs
@@ -233,55 +314,70 @@ module _ (t : ℕ) where
   side-enum-known-a-2 c = search needs
 
   side-add-t42 : side-lts.Need-add-t42 calls here side.Post
-  side-add-t42 c = let f = c .before .before .before .before .before .before .before in omega (arith, fits (began f (c .before .a2 .given .1)), opened (x-of f) .more, entry (x-of f) .fits .left)
+  side-add-t42 c =
+      let f = matched (c .before .before .before) in
+      omega (arith, fits (began f (c .before .a2 .given .1)), opened (x-of f) .more, entry (x-of f) .fits .left)
 
   side-enum-told-2 : side-lts.Need-enum-told-2 calls here side.Post
   side-enum-told-2 c = search needs
 
   side-same-length-5 : side-lts.Need-same-length-5 calls here side.Post
-  side-same-length-5 c = let d = c .before .before .before .before .before .before .before in length-set (d .side2 .last .1 .1 .1 .0) (x2 d .first-x .result) 2 ∙ lengths2 d .0
+  side-same-length-5 c =
+      let d = matched2 (c .before .before .before) in
+      length-set (node2 d) (place (x2 d)) 2 ∙ node2-length d
 
   side-same-length-6 : side-lts.Need-same-length-6 calls here side.Post
-  side-same-length-6 c = lengths2 (c .before .before .before .before .before .before .before) .1
+  side-same-length-6 c = work2-length (matched2 (c .before .before .before))
 
   side-returns-4 : side-lts.Need-returns-4 calls here side.Post
-  side-returns-4 c = let d = c .before .before .before .before .before .before .before in let g = ended d (c .before .b .given .1) in second-none (opened2 d) (none (none-of d)) (restored 1 (opened2 d .first) (g .node)) g
+  side-returns-4 c =
+      let d = matched2 (c .before .before .before) in
+      let g = ended d (c .before .b .given .1) in
+      second-none (opened2 d) (none (none-of d)) (restored 1 (opened2 d .first) (g .node)) g
 
   side-same-length-7 : side-lts.Need-same-length-7 calls here side.Post
-  side-same-length-7 c = lengths2 (c .before .before .before .before .before .before .before) .0
+  side-same-length-7 c = node2-length (matched2 (c .before .before .before))
 
   side-same-length-8 : side-lts.Need-same-length-8 calls here side.Post
-  side-same-length-8 c = lengths2 (c .before .before .before .before .before .before .before) .1
+  side-same-length-8 c = work2-length (matched2 (c .before .before .before))
 
   side-returns-5 : side-lts.Need-returns-5 calls here side.Post
-  side-returns-5 c = let d = c .before .before .before .before .before .before .before in second-test (opened2 d) (none (none-of d)) (ended d (c .before .b2 .given .1))
+  side-returns-5 c =
+      let d = matched2 (c .before .before .before) in
+      second-test (opened2 d) (none (none-of d)) (ended d (c .before .b2 .given .1))
 
   side-same-length-9 : side-lts.Need-same-length-9 calls here side.Post
-  side-same-length-9 c = lengths2 (c .before .before .before .before .before .before) .0
+  side-same-length-9 c = node2-length (matched2 (c .before .before))
 
   side-same-length-10 : side-lts.Need-same-length-10 calls here side.Post
-  side-same-length-10 c = lengths2 (c .before .before .before .before .before .before) .1
+  side-same-length-10 c = work2-length (matched2 (c .before .before))
 
   side-returns-6 : side-lts.Need-returns-6 calls here side.Post
-  side-returns-6 c = let d = c .before .before .before .before .before .before in second-spent (opened2 d) (none (none-of d)) (ended d (c .enum-told .given .1))
+  side-returns-6 c =
+      let d = matched2 (c .before .before) in
+      second-spent (opened2 d) (none (none-of d)) (ended d (c .enum-told .given .1))
 
   side-same-length-11 : side-lts.Need-same-length-11 calls here side.Post
-  side-same-length-11 c = lengths (c .before .before .before .before .before .before .before) .0
+  side-same-length-11 c = node1-length (matched (c .before .before .before))
 
   side-same-length-12 : side-lts.Need-same-length-12 calls here side.Post
-  side-same-length-12 c = lengths (c .before .before .before .before .before .before .before) .1
+  side-same-length-12 c = work1-length (matched (c .before .before .before))
 
   side-returns-7 : side-lts.Need-returns-7 calls here side.Post
-  side-returns-7 c = let f = c .before .before .before .before .before .before .before in first-test (opened (x-of f)) (began f (c .before .a2 .given .1))
+  side-returns-7 c =
+      let f = matched (c .before .before .before) in
+      first-test (opened (x-of f)) (began f (c .before .a2 .given .1))
 
   side-same-length-13 : side-lts.Need-same-length-13 calls here side.Post
-  side-same-length-13 c = lengths (c .before .before .before .before .before .before) .0
+  side-same-length-13 c = node1-length (matched (c .before .before))
 
   side-same-length-14 : side-lts.Need-same-length-14 calls here side.Post
-  side-same-length-14 c = lengths (c .before .before .before .before .before .before) .1
+  side-same-length-14 c = work1-length (matched (c .before .before))
 
   side-returns-8 : side-lts.Need-returns-8 calls here side.Post
-  side-returns-8 c = let f = c .before .before .before .before .before .before in first-spent (opened (x-of f)) (began f (c .enum-told2 .given .1))
+  side-returns-8 c =
+      let f = matched (c .before .before) in
+      first-spent (opened (x-of f)) (began f (c .enum-told2 .given .1))
 
 pub +side-spec : {M : Type 1} → statement M
 +side-spec = close μ-side λ t. side-lts.spec (calls t)

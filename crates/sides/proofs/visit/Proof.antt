@@ -4,19 +4,19 @@ use mathlib.Core.Path.{_≡_, _∙_}
 use mathlib.Core.List.{List}
 use Prim.Native.Nat.{ℕ}
 use borrow.Author.Needs.{needs}
-use Rattle.circuit.specs.Formed.{WellFormed}
+use Rattle.simulate.specs.Owed.{Shaped}
 use Rattle.sides.specs.Look.{workOf}
 use Rattle.sides.proofs.Look.{entry-is-look}
 use Rattle.sides.proofs.visit.Statement.{statement}
 use Rattle.sides.proofs.visit.Tie as tie
 
-sized : {c : List ℕ} {m l n : ℕ} → l ≡ m → WellFormed c m n → WellFormed c l n
+sized : {c : List ℕ} {m l n : ℕ} → l ≡ m → Shaped c m n → Shaped c l n
 sized e w = rw e w
 
 look-requires : tie.Need-look-requires
 look-requires c κs =
     let p = c .before .before .before .before .pre in
-    record { room = record { well = sized (p .1 .size) (p .0 .well); two = p .0 .two }; line = p .0 .line }
+    record { room = record { shaped = sized (p .1 .size) (p .0 .shaped); two = p .0 .two }; line = p .0 .line }
 
 same-length : tie.Need-same-length
 same-length c = search needs

@@ -20,7 +20,7 @@ slice-aggregate-simulate c = sym (length-take-le _ _ (omega arith))
 simulate-requires : tie.Need-simulate-requires
 simulate-requires c κs =
     let s = c .before .before .before .before in
-    rw (length-take-le (s .args .n) (s .args .work .now) (omega arith)) (s .pre .well)
+    rw (length-take-le (s .args .n) (s .args .work .now) (omega arith)) (s .pre .shaped)
 
 same-length : tie.Need-same-length
 same-length c = search needs

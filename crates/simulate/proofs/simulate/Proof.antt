@@ -12,7 +12,7 @@ put-inputs-requires c κs = search needs
 simulate-from-requires : tie.Need-simulate-from-requires
 simulate-from-requires c κs =
     let s = c .before .before .before .before .before .before .before .before in
-    rw (c .before .before .before .put-inputs .kept .1 .1 .0) (ordered (s .pre), omega arith)
+    rw (c .before .before .before .put-inputs .kept .1 .1 .0) (s .pre .ordered, omega arith)
 
 same-length : tie.Need-same-length
 same-length c = search needs

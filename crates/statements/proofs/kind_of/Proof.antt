@@ -19,15 +19,22 @@ keyword letters short inside = record { letters = letters; short = short; inside
 returns : tie.Need-returns
 unfolding kindOf kinds
 returns c =
+    let seventh = c .before .before in
+    let sixth = seventh .before .before in
+    let fifth = sixth .before .before in
+    let fourth = fifth .before .before in
+    let third = fourth .before .before in
+    let second = third .before .before in
+    let first = second .before .before in
     rw (
       c .kind-if8 .ensures,
-      c .before .before .kind-if7 .ensures,
-      c .before .before .before .before .kind-if6 .ensures,
-      c .before .before .before .before .before .before .kind-if5 .ensures,
-      c .before .before .before .before .before .before .before .before .kind-if4 .ensures,
-      c .before .before .before .before .before .before .before .before .before .before .kind-if3 .ensures,
-      c .before .before .before .before .before .before .before .before .before .before .before .before .kind-if2 .ensures,
-      c .before .before .before .before .before .before .before .before .before .before .before .before .before .before .kind-if .ensures,
+      seventh .kind-if7 .ensures,
+      sixth .kind-if6 .ensures,
+      fifth .kind-if5 .ensures,
+      fourth .kind-if4 .ensures,
+      third .kind-if3 .ensures,
+      second .kind-if2 .ensures,
+      first .kind-if .ensures,
     )
 
 -- each of the eight calls hands over an array as a slice, and its name is a keyword

@@ -1,7 +1,7 @@
 -- `syntax::state_table` meets its contract: antt computes each state at each symbol.
 -- Assumes nothing.
 use mathlib.Core.Path.{refl}
-use Rattle.ground.specs.Lists.{table}
+use Rattle.ground.specs.Lists.{grow}
 use Rattle.words.specs.Words.{within, wordByte}
 use Rattle.syntax.specs.Regular.{has}
 use Rattle.syntax.specs.Derivative.{cat, orElse, either, empty, next, after}
@@ -12,7 +12,7 @@ use Rattle.syntax.proofs.state_table.Statement as stated
 use Rattle.syntax.proofs.state_table.Tie as tie
 
 returns : tie.Need-returns
-unfolding StateTable states told row rows table then inName after inKeyword inKind has cat orElse either empty next
+unfolding StateTable states told row rows grow then inName after inKeyword inKind has cat orElse either empty next
     signs within wordByte placeIn symbol letters keys inputWord outputWord kinds kindWords wordSymbol upTo blanks name mark close oneArgument twoArguments gate statement comment line bench
 returns c = refl
 

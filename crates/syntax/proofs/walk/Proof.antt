@@ -33,7 +33,12 @@ step-requires : tie.Need-step-requires Inv-loop μ-loop
 step-requires c κs = (c .before .before .before .before .before .before .before .pre .1, c .before .before .before .before .loop .inv .1, omega arith)
 
 returns-2 : tie.Need-returns-2 Inv-loop μ-loop
-returns-2 c = stops (c .before .before .before .before .before .before .loop .inv .0) (omega arith) (c .before .step .ensures .0 ∙ ap (next _) (c .before .before .symbol-of .ensures .0)) (c .before .step .ensures .1 .inside) (omega arith) (omega (arith, c .if2 .taken))
+returns-2 c =
+    let step = c .before in
+    let symbol = step .before in
+    let turn = symbol .before .before .before .before in
+    let next-is = step .step .ensures .0 ∙ ap (next _) (symbol .symbol-of .ensures .0) in
+    stops (turn .loop .inv .0) (omega arith) next-is (step .step .ensures .1 .inside) (omega arith) (omega (arith, c .if2 .taken))
 
 add-i : tie.Need-add-i Inv-loop μ-loop
 add-i c = omega arith
@@ -42,7 +47,13 @@ loop-less : tie.Need-loop-less Inv-loop μ-loop
 loop-less c = omega arith
 
 loop-again : tie.Need-loop-again Inv-loop μ-loop
-loop-again c = (more (c .before .before .before .before .before .before .loop .inv .0) (omega arith) (c .before .step .ensures .0 ∙ ap (next _) (c .before .before .symbol-of .ensures .0)) (c .before .step .ensures .1 .inside) (omega arith) (omega (arith, c .if2 .left, c .before .step .ensures .1 .begins)), c .before .step .ensures .1)
+loop-again c =
+    let step = c .before in
+    let symbol = step .before in
+    let turn = symbol .before .before .before .before in
+    let row = step .step .ensures .1 in
+    let next-is = step .step .ensures .0 ∙ ap (next _) (symbol .symbol-of .ensures .0) in
+    (more (turn .loop .inv .0) (omega arith) next-is (row .inside) (omega arith) (omega (arith, c .if2 .left, row .begins)), row)
 
 returns-3 : tie.Need-returns-3 Inv-loop μ-loop
 returns-3 c = ended (c .before .before .loop .inv .0) (omega arith) (omega (arith, c .if3 .taken))

@@ -61,9 +61,17 @@ loop-less : tie.Need-loop-less Inv-loop μ-loop
 loop-less c = omega arith
 
 loop-again : tie.Need-loop-again Inv-loop μ-loop
-loop-again c = let turn = c .before .before .before .before .before .before .before .before .before .before .before .before .loop in
-    let begins = c .before .bit .ensures .0 ∙ ap one (c .before .before .begun .ensures ∙ ap (λ (x : Bool). eqb (turn .m) 0 && x) (c .before .before .before .before .before .before .before .before .in-word .ensures)) in
-    rw (c .before .before .before .narrow .ensures) (more (turn .inv) (omega arith) (c .before .bit .result) (c .lead .result) (c .before .before .before .before .before .before .end-line .ensures) begins (c .lead .ensures))
+loop-again c =
+    let bit = c .before in
+    let begun = bit .before in
+    let narrow = begun .before in
+    let line = narrow .before .before .before in
+    let word = line .before .before in
+    let turn = word .before .before .before .before .loop in
+    let starts = begun .begun .ensures ∙ ap (λ (x : Bool). eqb (turn .m) 0 && x) (word .in-word .ensures) in
+    let counted = bit .bit .ensures .0 ∙ ap one starts in
+    rw (narrow .narrow .ensures)
+    (more (turn .inv) (omega arith) (bit .bit .result) (c .lead .result) (line .end-line .ensures) counted (c .lead .ensures))
 
 narrow-requires-2 : tie.Need-narrow-requires-2 Inv-loop μ-loop
 narrow-requires-2 c κs = omega arith

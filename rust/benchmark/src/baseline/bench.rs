@@ -282,7 +282,7 @@ mod tests {
     fn seen(text: &[u8], room: usize) -> Seen {
         let (mut circuit, mut answer) = (vec![7; room], [7; 32]);
         let returned = enter(text, &mut circuit, &mut answer);
-        Seen { returned, answer: answer.to_vec(), lent: vec![circuit] }
+        Seen { returned, answer: answer.to_vec(), lent: vec![circuit.into()] }
     }
 
     /// It is the same reader as the second program's.

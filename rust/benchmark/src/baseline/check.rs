@@ -15,7 +15,7 @@ fn line_ok(circuit: &[u8], k: usize) -> bool {
 
 /// The numbers of lines, inputs and outputs, or the number of the refusal and its place.
 pub fn check(circuit: &[u8]) -> Result<[usize; 3], (u32, usize)> {
-    if circuit.is_empty() || circuit.len() % 8 != 0 || circuit.len() / 8 > 2048 {
+    if circuit.is_empty() || !circuit.len().is_multiple_of(8) || circuit.len() / 8 > 2048 {
         return Err((1, 0));
     }
     let n = circuit.len() / 8;

@@ -1,8 +1,11 @@
 //! The compactor: counts of kept patterns for each pair of faults and for each fault.
 use super::report;
 
-/// The cells of the faults stand behind those of the pairs f < g, which are at 256 g + f.
-const FAULTS: usize = 65536;
+/// The cells of the pairs f < g stand at 256 g + f, those of the n faults behind them, from 256 n on.
+const ROW: usize = 256;
+
+/// A table with fewer faults has little to clear.
+const MANY: usize = 16;
 
 /// Counts a row in or out, modulo 256, where the entry is `want`.
 fn count_row(cells: &mut [u8], row: &[u8], want: u8, into: bool) {
@@ -15,9 +18,9 @@ fn count_row(cells: &mut [u8], row: &[u8], want: u8, into: bool) {
 /// Counts a pattern in or out. Where a fault passes, its pairs look for fails, where it fails for passes; unknown tells nothing.
 fn count(counts: &mut [u8], row: &[u8], into: bool) {
     for (g, &entry) in row.iter().enumerate().filter(|(_, &entry)| entry <= 1) {
-        count_row(&mut counts[256 * g..256 * g + g], row, 1 - entry, into);
+        count_row(&mut counts[ROW * g..ROW * g + g], row, 1 - entry, into);
     }
-    count_row(&mut counts[FAULTS..], row, 1, into);
+    count_row(&mut counts[ROW * row.len()..], row, 1, into);
 }
 
 /// Whether the pattern is the only one for some fault or for some pair of detected faults.
@@ -26,8 +29,8 @@ fn needed(counts: &[u8], seen: &[u8], row: &[u8]) -> bool {
         let hits = cells.iter().zip(seen).zip(row).map(|((&cell, &seen), &entry)| (cell == 1) as u8 & seen & (entry == want) as u8);
         hits.fold(0, |any, hit| any | hit) != 0
     };
-    sole(&counts[FAULTS..FAULTS + row.len()], 1)
-        || (0..row.len()).any(|g| seen[g] == 1 && row[g] <= 1 && sole(&counts[256 * g..256 * g + g], 1 - row[g]))
+    sole(&counts[ROW * row.len()..], 1)
+        || (0..row.len()).any(|g| seen[g] == 1 && row[g] <= 1 && sole(&counts[ROW * g..ROW * g + g], 1 - row[g]))
 }
 
 fn compact(faults: u64, patterns: u64, table: &[u8], marks: &mut [u8]) -> Result<(), (u32, usize)> {
@@ -41,20 +44,28 @@ fn compact(faults: u64, patterns: u64, table: &[u8], marks: &mut [u8]) -> Result
     if marks.len() as u64 != patterns {
         return Err((10, 0));
     }
-    let rows = || table.chunks_exact(faults as usize);
-    let (mut counts, mut seen) = ([0; FAULTS + 256], [0; 256]);
+    match faults as usize {
+        few @ ..MANY => mark(&mut [0; ROW * MANY], few, table, marks),
+        many => mark(&mut [0; ROW * 257], many, table, marks),
+    }
+    Ok(())
+}
+
+/// The process, over counts that are all 0.
+fn mark(counts: &mut [u8], faults: usize, table: &[u8], marks: &mut [u8]) {
+    let rows = || table.chunks_exact(faults);
+    let mut seen = [0; 256];
     marks.fill(1);
     for row in rows() {
-        count(&mut counts, row, true);
+        count(counts, row, true);
         seen.iter_mut().zip(row).for_each(|(seen, &entry)| *seen |= (entry == 1) as u8);
     }
     for (row, mark) in rows().zip(marks).rev() {
-        if !needed(&counts, &seen, row) {
-            count(&mut counts, row, false);
+        if !needed(counts, &seen, row) {
+            count(counts, row, false);
             *mark = 0;
         }
     }
-    Ok(())
 }
 
 pub fn enter(faults: u64, patterns: u64, table: &[u8], marks: &mut [u8], answer: &mut [u8; 32]) -> u32 {

@@ -14,7 +14,7 @@ fn fault_ok(circuit: &[u8], faults: &[u8], j: usize) -> bool {
 
 /// Refusals 6 and 7.
 pub fn check_faults(circuit: &[u8], faults: &[u8], most: usize) -> Result<(), (u32, usize)> {
-    if faults.is_empty() || faults.len() % 8 != 0 || faults.len() / 8 > most {
+    if faults.is_empty() || !faults.len().is_multiple_of(8) || faults.len() / 8 > most {
         return Err((6, 0));
     }
     match (0..faults.len() / 8).find(|&j| !fault_ok(circuit, faults, j)) {
@@ -26,7 +26,7 @@ pub fn check_faults(circuit: &[u8], faults: &[u8], most: usize) -> Result<(), (u
 fn dictionary(circuit: &[u8], faults: &[u8], patterns: &[u8], table: &mut [u8], work: &mut [u8]) -> Result<(), (u32, usize)> {
     let [n, inputs, _] = check(circuit)?;
     check_faults(circuit, faults, 256)?;
-    if patterns.is_empty() || patterns.len() % inputs != 0 || patterns.len() / inputs > 256 {
+    if patterns.is_empty() || !patterns.len().is_multiple_of(inputs) || patterns.len() / inputs > 256 {
         return Err((8, 0));
     }
     if let Some(bad) = patterns.iter().position(|&v| v > 2) {

@@ -1,0 +1,52 @@
+-- Part 1, the circuit check: the refusals 1 to 5, what it answers, and what it promises.
+-- Assumes nothing.
+use mathlib.Core.Path.{_≡_}
+use mathlib.Core.List.{List, [], _∷_, _++_}
+use Prim.Native.Nat.{ℕ, _≤_}
+use lib.Dec.{leb}
+use lib.ListN.{length}
+use Rattle.answers.specs.Rules.{Rule, refusal}
+use Rattle.answers.specs.Rules.Rule.{whole, each}
+use Rattle.answers.specs.Records.{recordsOk, Records}
+use Rattle.answers.specs.Area.{Numbers, success, refusedAt, told}
+use Rattle.answers.specs.Answer.{answered}
+use Rattle.circuit.specs.declared.Checked.{Checked}
+use Rattle.circuit.specs.declared.Checked.the-variants.{Accepted, Refused}
+use Rattle.circuit.specs.Record.{linesOf, inputsOf, outputsOf}
+use Rattle.circuit.specs.Layout.{lineOk, Layout}
+
+-- a multiple of 8 bytes, not empty, not above 2,048 records; each record keeps its layout
+unfoldable pub layoutRules : List ℕ → List Rule
+layoutRules c =
+    whole 1 (recordsOk 8 2048 (length c)) (Records 8 2048 (length c)) 0
+    ∷ each 2 (linesOf c) (lineOk c) (Layout c)
+    ∷ []
+
+-- some input, not more than 64 inputs, some output
+unfoldable pub countRules : ℕ → ℕ → List Rule
+countRules inputs outputs =
+    whole 3 (leb 1 inputs) (1 ≤ inputs) 0
+    ∷ whole 4 (leb inputs 64) (inputs ≤ 64) 0
+    ∷ whole 5 (leb 1 outputs) (1 ≤ outputs) 0
+    ∷ []
+
+abbrev pub circuitRules : List ℕ → List Rule
+circuitRules c = layoutRules c ++ countRules (inputsOf c) (outputsOf c)
+
+-- lines, inputs and outputs where the counts are fine
+abbrev pub countedOf : ℕ → ℕ → ℕ → Checked
+countedOf n m o = answered Refused (refusal (countRules m o)) (Accepted n m o)
+
+-- and where all is
+unfoldable pub checkOf : List ℕ → Checked
+checkOf c = answered Refused (refusal (circuitRules c)) (Accepted (linesOf c) (inputsOf c) (outputsOf c))
+
+-- the paper's number and values for each case of the answer
+unfoldable pub numbersOf : Checked → Numbers
+numbersOf (Accepted n m o) = success n m o
+numbersOf (Refused number place) = refusedAt number place
+
+-- the promise, whatever the bytes: the answer's case, and its number and values
+pub record Checks (c : List ℕ) (r : Checked) : Type 0 where
+  pub answer : r ≡ checkOf c
+  pub numbers : numbersOf r ≡ told (refusal (circuitRules c)) (success (linesOf c) (inputsOf c) (outputsOf c))

@@ -1,0 +1,57 @@
+-- What the functions that write one line owe their callers; no reader of the clauses needs it.
+-- Assumes nothing.
+use mathlib.Core.Path.{_≡_}
+use mathlib.Core.List.{List, _++_}
+use Prim.Native.Nat.{ℕ, _+_, _≤_, _<_}
+use lib.IntN.{ℤ}
+use lib.ListN.{length}
+use Rattle.ground.specs.Choose.{choose}
+use Rattle.circuit.specs.Record.{linesOf, kindAt, isInput, outputsBefore}
+use Rattle.circuit.specs.Formed.{Good}
+use Rattle.lists.specs.declared.Fault.{Fault}
+use Rattle.cnf.specs.declared.Size.{Size}
+use Rattle.cnf.specs.Cnf.{Clauses, wordsOf}
+use Rattle.cnf.specs.Write.{Takes}
+use Rattle.lists.specs.Faults.{isAt}
+use Rattle.line_clauses.specs.Clauses.{goodClauses, faultyClauses, differenceClauses}
+
+-- ---- the circuit and its lines
+
+-- an accepted circuit of n lines
+pub record Circuit (c : List ℕ) (n : ℕ) : Type 0 where
+  pub good : Good c
+  pub lines : n ≡ linesOf c
+  pub few : n ≤ 2048
+
+-- a line of it
+pub record Line (c : List ℕ) (n k : ℕ) : Type 0 where
+  pub circuit : Circuit c n
+  pub inside : k < n
+
+-- a line that is a gate
+pub record GateLine (c : List ℕ) (n k : ℕ) : Type 0 where
+  pub line : Line c n k
+  pub gate : kindAt c k ≡ 0 → ⊥
+
+-- ---- what is taken
+
+-- the kind of the gate that writes a faulty line's clauses
+unfoldable pub faultyKind : List ℕ → Fault → ℕ → ℕ
+faultyKind c f k = choose (isAt f k 0) 1 (choose (isInput c k) 1 (kindAt c k))
+
+pub record LineTakes (c : List ℕ) (f : Fault) (n k : ℕ) (r : Size) : Type 0 where
+  pub takes : Takes (goodClauses c k ++ faultyClauses c f n k) r
+  pub few-words : r .words ≤ 32
+  pub few-clauses : r .clauses ≤ 8
+
+-- ---- room from `at` on
+
+pub record LineRoom (c : List ℕ) (n k : ℕ) (cs : Clauses) (w : List ℤ) (at : ℕ) : Type 0 where
+  pub line : Line c n k
+  pub room : at + length (wordsOf cs) ≤ length w
+
+-- for the difference at line k, below which j outputs stand
+pub record DifferenceRoom (c : List ℕ) (n k j : ℕ) (w : List ℤ) (at : ℕ) : Type 0 where
+  pub own : LineRoom c n k (differenceClauses c n k) w at
+  pub below : j ≡ outputsBefore c k
+  pub few : j ≤ n

@@ -1,0 +1,62 @@
+//! Inputs of the largest sizes.
+use crate::parts::{self, Files};
+use crate::timing::Row;
+use cases::circuits::{circuit, record, AND, INPUT, NOT, XOR};
+use cases::{faults, texts, Random};
+
+/// A dictionary of the largest size: random lines, faults and patterns.
+fn files() -> Files {
+    let random = &mut Random::new(2);
+    let circuit = circuit(random, 2048, 64);
+    let faults = (0..256).flat_map(|_| faults::record(random.below(2048), 0, random.below(2) == 1)).collect();
+    let patterns = (0..256 * 64).map(|_| random.below(3) as u8).collect();
+    Files { circuit, faults, patterns }
+}
+
+/// The entries that a dictionary has most: few fail.
+fn table() -> Vec<u8> {
+    let random = &mut Random::new(3);
+    (0..65536).map(|_| random.pick(&[0, 0, 0, 0, 0, 0, 1, 2])).collect()
+}
+
+fn smaller_table() -> Vec<u8> {
+    let random = &mut Random::new(4);
+    (0..16384).map(|_| random.pick(&[0, 0, 0, 1, 2])).collect()
+}
+
+/// 20 inputs and 480 gates, and a fault that no vector detects: the search looks at many nodes.
+fn redundant() -> Files {
+    let random = &mut Random::new(5);
+    let mut circuit = record(INPUT, false, 0, 0).repeat(20);
+    for line in 20..498 {
+        let kind = 3 + random.below(6) as u8;
+        circuit.extend(record(kind, false, random.below(line.min(20)), line - 1 - random.below(19.min(line))));
+    }
+    circuit.extend(record(NOT, false, 497, 0));
+    circuit.extend(record(AND, true, 497, 498));
+    Files { circuit, faults: faults::record(499, 0, false).to_vec(), patterns: vec![] }
+}
+
+fn chain_of_xors() -> Files {
+    let mut circuit = record(INPUT, false, 0, 0).repeat(64);
+    (64..2048).for_each(|line| circuit.extend(record(XOR, line == 2047, line - 1, line - 64)));
+    Files { circuit, faults: faults::record(1000, 0, true).to_vec(), patterns: vec![] }
+}
+
+pub fn rows() -> impl Iterator<Item = Row> {
+    let rows: [fn() -> Row; 9] = [
+        || parts::check("check: 2,048 lines", &files()),
+        || parts::dictionary("dictionary: 2,048 lines, 256 faults, 256 patterns", &files()),
+        || parts::compact("compactor: 256 faults, 256 patterns", 256, &table()),
+        || parts::compact_naively("compactor beside its definition run naively, 128", 128, &smaller_table()),
+        || parts::search("search: 500 lines, 20 inputs, 100,000 nodes at most", &redundant(), 100_000),
+        || parts::clauses("clauses: 2,048 lines of XOR", &chain_of_xors()),
+        // as many bytes, lines and statements as a text may have and be read, in any order
+        || parts::bench("bench: 32,768 bytes, 2,048 lines", &texts::largest(&mut Random::new(6), 2048, 64)),
+        // every gate stands before its source, so that the last one is placed first
+        || parts::bench("bench: a chain of 2,048 lines, backwards", &texts::chain(2048, true)),
+        // every gate in the first half reads one in the second, so that the cursor goes back and forth
+        || parts::bench("bench: 1,023 pairs of gates, half a text apart", &texts::crossed(1023)),
+    ];
+    rows.into_iter().map(|row| row())
+}

@@ -1,0 +1,140 @@
+//! Each part beside its baseline, on any input.
+use crate::baseline;
+use crate::timing::{race, Row};
+use std::hint::black_box;
+use ullimaqsu::raw::{enter, Call};
+
+/// A circuit, its faults and its patterns.
+pub struct Files {
+    pub circuit: Vec<u8>,
+    pub faults: Vec<u8>,
+    pub patterns: Vec<u8>,
+}
+
+impl Files {
+    fn lines(&self) -> usize {
+        self.circuit.len() / 8
+    }
+
+    fn inputs(&self) -> usize {
+        self.circuit.chunks_exact(8).filter(|record| record[0] == 0).count()
+    }
+
+    pub fn fault_count(&self) -> usize {
+        self.faults.len() / 8
+    }
+
+    fn pattern_count(&self) -> usize {
+        self.patterns.len() / self.inputs()
+    }
+
+    /// The table of its dictionary.
+    pub fn table(&self) -> Vec<u8> {
+        let mut table = vec![0; self.fault_count() * self.pattern_count()];
+        let mut work = vec![0; 2 * self.lines()];
+        ullimaqsu::dictionary(&self.circuit, &self.faults, &self.patterns, &mut table, &mut work).expect("sound");
+        table
+    }
+}
+
+pub fn check(name: &str, files: &Files) -> Row {
+    let (mut proved, mut plain) = ([0; 32], [0; 32]);
+    let row = race(
+        name,
+        || enter(Call::Check { circuit: black_box(&files.circuit), answer: &mut proved }),
+        || baseline::check::enter(black_box(&files.circuit), &mut plain),
+    );
+    assert_eq!(proved, plain);
+    row
+}
+
+pub fn dictionary(name: &str, files: &Files) -> Row {
+    let Files { circuit, faults, patterns } = files;
+    let mut proved = (vec![0; files.fault_count() * files.pattern_count()], vec![0; 2 * files.lines()], [0; 32]);
+    let mut plain = proved.clone();
+    let row = race(
+        name,
+        || {
+            let (table, work, answer) = &mut proved;
+            enter(Call::Dictionary { circuit: black_box(circuit), faults, patterns, table, work, answer })
+        },
+        || baseline::dictionary::enter(black_box(circuit), faults, patterns, &mut plain.0, &mut plain.1, &mut plain.2),
+    );
+    assert_eq!(proved, plain);
+    row
+}
+
+pub fn compact(name: &str, faults: usize, table: &[u8]) -> Row {
+    let (fault_count, pattern_count) = (faults as u64, (table.len() / faults) as u64);
+    let mut proved = (vec![0; table.len() / faults], [0; 32]);
+    let mut plain = proved.clone();
+    let row = race(
+        name,
+        || {
+            let (marks, answer) = &mut proved;
+            enter(Call::Compact { fault_count, pattern_count, table: black_box(table), marks, answer })
+        },
+        || baseline::compact::enter(fault_count, pattern_count, black_box(table), &mut plain.0, &mut plain.1),
+    );
+    assert_eq!(proved, plain);
+    row
+}
+
+/// The compactor beside its definition run naively.
+pub fn compact_naively(name: &str, faults: usize, table: &[u8]) -> Row {
+    let (fault_count, pattern_count) = (faults as u64, (table.len() / faults) as u64);
+    let (mut proved, mut plain, mut answer) = (vec![0; table.len() / faults], vec![0; table.len() / faults], [0; 32]);
+    let row = race(
+        name,
+        || enter(Call::Compact { fault_count, pattern_count, table: black_box(table), marks: &mut proved, answer: &mut answer }),
+        || {
+            baseline::compact::naive(faults, black_box(table), &mut plain);
+            0
+        },
+    );
+    assert_eq!(proved, plain);
+    row
+}
+
+/// The search for the first of the faults.
+pub fn search(name: &str, files: &Files, budget: u64) -> Row {
+    let (circuit, fault) = (&files.circuit, &files.faults[..8]);
+    let mut proved = (vec![0; files.inputs()], vec![0; 2 * files.lines()], [0; 32]);
+    let mut plain = proved.clone();
+    let row = race(
+        name,
+        || {
+            let (test, work, answer) = &mut proved;
+            enter(Call::Search { circuit: black_box(circuit), fault, budget, test, work, answer })
+        },
+        || baseline::search::enter(black_box(circuit), fault, budget, &mut plain.0, &mut plain.1, &mut plain.2),
+    );
+    assert_eq!(proved, plain);
+    row
+}
+
+/// The clauses of the first of the faults, and room to spare.
+pub fn clauses(name: &str, files: &Files) -> Row {
+    let (circuit, fault) = (&files.circuit, &files.faults[..8]);
+    let mut proved = (vec![0; 50 * files.lines()], [0; 32]);
+    let mut plain = proved.clone();
+    let row = race(
+        name,
+        || enter(Call::Clauses { circuit: black_box(circuit), fault, words: &mut proved.0, answer: &mut proved.1 }),
+        || baseline::clauses::enter(black_box(circuit), fault, &mut plain.0, &mut plain.1),
+    );
+    assert_eq!(proved, plain);
+    row
+}
+
+pub fn bench(name: &str, text: &[u8]) -> Row {
+    let mut proved = (vec![0; 16_384], [0; 32]);
+    let mut plain = proved.clone();
+    let row = race(
+        name,
+        || enter(Call::Bench { text: black_box(text), circuit: &mut proved.0, answer: &mut proved.1 }),
+        || baseline::bench::enter(black_box(text), &mut plain.0, &mut plain.1),
+    );
+    assert_eq!(proved, plain);
+    row
+}

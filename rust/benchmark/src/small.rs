@@ -1,0 +1,32 @@
+//! Calls of the size of example A and of c17: here it shows what a call costs whatever it is given.
+use crate::parts::{self, Files};
+use crate::timing::Row;
+use std::fs;
+
+/// Example A in the bench notation.
+const A: &[u8] = b"INPUT(a)\nINPUT(b)\nINPUT(c)\nOUTPUT(y)\nx = AND(a, b)\ny = OR(x, c)\n";
+
+fn example(name: &str) -> Vec<u8> {
+    fs::read(format!("{}/../../examples/{name}", env!("CARGO_MANIFEST_DIR"))).expect("an example")
+}
+
+fn files(name: &str) -> Files {
+    let [circuit, faults, patterns] = ["circuit", "faults", "patterns"].map(|file| example(&format!("{name}/{file}.rec")));
+    Files { circuit, faults, patterns }
+}
+
+/// A part on an example, given its name, its files and its text.
+type Part = fn(&str, &Files, &[u8]) -> Row;
+
+pub fn rows() -> impl Iterator<Item = Row> {
+    let examples = [("example A", files("a"), A.to_vec()), ("c17", files("c17"), example("bench/c17.bench"))];
+    let parts: [Part; 6] = [
+        |name, files, _| parts::check(&format!("check: {name}"), files),
+        |name, files, _| parts::dictionary(&format!("dictionary: {name}"), files),
+        |name, files, _| parts::compact(&format!("compactor: {name}"), files.fault_count(), &files.table()),
+        |name, files, _| parts::search(&format!("search: {name}"), files, u64::MAX),
+        |name, files, _| parts::clauses(&format!("clauses: {name}"), files),
+        |name, _, text| parts::bench(&format!("bench: {name}"), text),
+    ];
+    parts.into_iter().flat_map(move |part| examples.each_ref().map(|(name, files, text)| part(name, files, text)))
+}
