@@ -8,13 +8,13 @@ use native.Mathlib.Omega.{arith}
 use lib.Dec.{eqb, leb, ltb}
 use borrow.Author.Tests.{eqb-true, leb-true, ltb-true, leb-false, eq-eqb, le-leb, lt-ltb}
 use Rattle.ground.specs.Choose.{choose}
-use Rattle.ground.proofs.Tests.{T-is, is-T, and-both}
+use Rattle.ground.proofs.Tests.{T-is, is-T, and-both, same-test}
 use Rattle.ground.proofs.Below.{at-below}
 use Rattle.answers.specs.Rules.{Same}
 use Rattle.gates.specs.Gate.{lastKind, pinsOf}
-use Rattle.gates.proofs.Laws.{two-pins}
 use Rattle.circuit.specs.Record.{kindAt, outAt, pinAt}
 use Rattle.circuit.specs.Layout.{pinOk, fieldOk, lineOk, Pin, Layout}
+use Rattle.circuit.specs.Owed.{limitOf}
 
 -- pins 1, 2 and 3
 pub three : (P : ℕ → Type 0) → P 1 → P 2 → P 3 → (s : ℕ) → 1 ≤ s → s ≤ 3 → P s
@@ -23,6 +23,10 @@ three P a b c (suc zero) l h = a
 three P a b c (suc (suc zero)) l h = b
 three P a b c (suc (suc (suc zero))) l h = c
 three P a b c (suc (suc (suc (suc s)))) l h = absurd (omega arith)
+
+-- only 0 is below 1
+below-one : (n : ℕ) → ltb n 1 ≡ eqb n 0
+below-one n = same-test (ltb n 1) (eqb n 0) (λ e. eq-eqb n 0 (omega (arith, ltb-true n 1 e))) (λ e. lt-ltb n 1 (omega (arith, eqb-true n 0 e)))
 
 module _ (c : List ℕ) (k : ℕ) where
   pin : (s : ℕ) → pinOk c k s ≡ true → Pin c k s
@@ -66,6 +70,11 @@ module _ (c : List ℕ) (k : ℕ) where
   pub layout-same : Same (lineOk c k) (Layout c k)
   layout-same = record { holds = layout; tests = layout-ok }
 
-  -- bytes 6 and 7 are zero: no kind has a third pin
-  pub no-third : Layout c k → pinAt c k 3 ≡ 0
-  no-third l = l .pin 3 (omega arith) (omega arith) .lacks (omega (arith, two-pins (kindAt c k)))
+  -- one comparison serves both
+  pub limit-ok : (s : ℕ) → ltb (pinAt c k s) (limitOf c k s) ≡ pinOk c k s
+  unfolding pinOk limitOf
+  limit-ok s = go (leb s (pinsOf (kindAt c k)))
+    where
+      go : (t : Bool) → ltb (pinAt c k s) (choose t k 1) ≡ choose t (ltb (pinAt c k s) k) (eqb (pinAt c k s) 0)
+      go true = refl
+      go false = below-one (pinAt c k s)

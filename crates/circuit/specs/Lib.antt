@@ -3,3 +3,4 @@ pub mod Layout
 pub mod Promise
 pub mod Sizes
 pub mod Formed
+pub mod Owed

@@ -13,6 +13,7 @@ ghost use Rattle.ground.specs.Below.{countBelow, firstNot};
 ghost use Rattle.answers.specs.Rules.{refusal};
 ghost use Rattle.circuit.specs.Record.{wordAt, pinAt, byteIs, Inside};
 ghost use Rattle.circuit.specs.Layout.{pinOk, lineOk};
+ghost use Rattle.circuit.specs.Owed.{limitOf};
 ghost use Rattle.circuit.specs.Promise.{layoutRules, countRules, countedOf, Checks};
 
 // What the check answers.
@@ -41,17 +42,25 @@ pub fn source(circuit: &[u8], k: usize, s: usize) -> usize
     word(circuit, 8 * k + 2 * s)
 }
 
-// A source that the kind has is lower than the line, one that it lacks is 0.
+// What a source must be below: the line, or 1 where the kind lacks the pin.
+fn limit(circuit: &[u8], k: usize, s: usize) -> usize
+    requires { ⌜ Inside (now circuit) k ⌝ }
+    ensures { λ r. ⌜ r ≡ limitOf (now (circuit .entry)) k s ⌝ }
+{
+    let has = pins(circuit[8 * k]);
+    if s <= has {
+        return k;
+    }
+    1
+}
+
+// A source that the kind has is lower than the line, one that it lacks is 0. One comparison serves both: it is made for every pin of every line.
 fn pin_ok(circuit: &[u8], k: usize, s: usize) -> bool
     requires { ⌜ Inside (now circuit) k × (s ≤ 3) ⌝ }
     ensures { λ r. ⌜ r ≡ pinOk (now (circuit .entry)) k s ⌝ }
 {
     let from = source(circuit, k, s);
-    let has = pins(circuit[8 * k]);
-    if s <= has {
-        return from < k;
-    }
-    from == 0
+    from < limit(circuit, k, s)
 }
 
 // The record of line k keeps its layout.
