@@ -50,6 +50,3 @@ any-width (suc width) most bytes = records-same (suc width) most bytes (omega ar
 -- search and clauses want exactly one fault record: eight bytes
 pub one-record : (bytes : ℕ) → Records 8 1 bytes → bytes ≡ 8
 one-record bytes r = omega arith
-
-pub record-one : (bytes : ℕ) → bytes ≡ 8 → Records 8 1 bytes
-record-one bytes e = rw e (record { multiple = refl; some = omega arith; few = omega arith })

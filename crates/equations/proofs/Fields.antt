@@ -8,7 +8,7 @@ use borrow.Author.Tests.{lt-ltb, le-ltb, le-leb}
 use Rattle.answers.specs.declared.Ruling.the-variants.{Fine}
 use Rattle.answers.specs.Rules.{refusal}
 use Rattle.gates.specs.Gate.{pinsOf}
-use Rattle.gates.proofs.Laws.{two-pins}
+use Rattle.gates.proofs.Laws.{few-pins}
 use Rattle.statements.specs.Tables.{isInput, isGate, gatesTo}
 use Rattle.names.specs.Names.{nameRules}
 use Rattle.records.specs.Net as net
@@ -67,6 +67,6 @@ module _ (t : List ℕ) (none : refusal (nameRules t (defsIn t) (usesIn t)) ≡ 
     input = λ k l. net-kind (netIn t) (lineFor t (nameOn t k)) (inside (nameOn t k) (k, input-defines l)) ∙ input-kind k l;
     kind = λ k l. net-kind (netIn t) (lineFor t (nameOn t k)) (inside (nameOn t k) (k, gate-defines l)) ∙ gate-kind k l;
     pin = λ k l s a b.
-        net-pin (netIn t) (lineFor t (nameOn t k)) (inside (nameOn t k) (k, gate-defines l)) r few s a (omega (arith, two-pins (kindOn t k)))
+        net-pin (netIn t) (lineFor t (nameOn t k)) (inside (nameOn t k) (k, gate-defines l)) r few s a (omega (arith, few-pins (kindOn t k)))
         ∙ gate-pin k l s b;
   }

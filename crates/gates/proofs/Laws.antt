@@ -28,6 +28,10 @@ two-pins kind = go (eqb kind 0) (leb kind 2)
     go false true = omega arith
     go false false = omega arith
 
+-- nor more than a record has room for
+pub few-pins : (kind : ℕ) → pinsOf kind ≤ 3
+few-pins kind = omega (arith, two-pins kind)
+
 -- a gate's value is 0, 1 or 2
 pub gate-small : (k : ℕ) (v : ℕ → ℕ) → gateOf k v ≤ 2
 unfolding smallTest

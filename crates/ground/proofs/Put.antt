@@ -53,9 +53,6 @@ module _ {A : Type 0} where
   pub partly-none : (v w₀ : List A) (at : ℕ) → Partly v w₀ at w₀ 0
   partly-none v w₀ at = record { at-most = omega arith; first = refl }
 
-  pub partly-long : {v w₀ w : List A} {at i : ℕ} → Partly v w₀ at w i → length w ≡ length w₀
-  partly-long {v} {w₀} {w} {at} {i} s = ap length (s .first) ∙ length-sets w₀ at (take i v)
-
   pub partly-more : {v w₀ w : List A} {at i : ℕ} (d : A) {x : A} → Partly v w₀ at w i → i < length v → x ≡ getD v i d → Partly v w₀ at (set w (at + i) x) (i + 1)
   partly-more {v} {w₀} {w} {at} {i} d s l e = record {
     at-most = omega arith;

@@ -12,7 +12,7 @@ use lib.ListN.{length, getD, set, replicate, length-replicate, getD-replicate}
 use lib.Seq.{ext-getD}
 use borrow.Author.Tests.{lt-ltb, le-ltb}
 use Rattle.ground.specs.Choose.{one}
-use Rattle.ground.proofs.Tests.{either, one-most}
+use Rattle.ground.proofs.Tests.{either}
 use Rattle.tables.specs.Entries.{Entries}
 use Rattle.needs.specs.Needs.{Patterns, whole, lacks, kept, compacted}
 use Rattle.needs.specs.Words.{Detected, Meets, others, LastToFirst, Sound}
@@ -50,9 +50,6 @@ module _ (E : Entries) (F P : ℕ) where
   compacted-mark : (p : ℕ) → p < P → getD (compacted E F P) p 0 ≡ one (lacks E F P (others (compacted E F P) p))
   unfolding compacted
   compacted-mark p l = turns-mark E F P P (replicate P 1) (λ q h. getD-replicate P q 1 0 h) p l
-
-  pub compacted-marks : (p : ℕ) → p < P → getD (compacted E F P) p 0 ≤ 1
-  compacted-marks p l = rw (compacted-mark p l) (one-most (lacks E F P (others (compacted E F P) p)))
 
   pub compacted-so : LastToFirst E F P (compacted E F P)
   compacted-so = record {

@@ -12,7 +12,7 @@ use Rattle.ground.specs.Choose.{choose}
 use Rattle.ground.specs.Lists.{grow}
 use Rattle.ground.proofs.Grow.{grow-at, grow-meet}
 use Rattle.gates.specs.Gate.{lastKind}
-use Rattle.gates.proofs.Laws.{AtPins, two-pins}
+use Rattle.gates.proofs.Laws.{AtPins, few-pins}
 use Rattle.circuit.specs.Record.{kindAt, pinAt, isInput, inputsBefore}
 use Rattle.circuit.specs.Layout.{Layout}
 
@@ -40,6 +40,6 @@ module _ {A : Type 0} (gate : ℕ → (ℕ → A) → A) (c : List ℕ) (inputs 
         grow-at (lineBy gate c inputs d) d n k l ∙ rw e
         (own (kindAt c k) _ _ some (layout k l .kind)
         (λ s a b.
-        let lower = layout k l .pin s a (omega (arith, two-pins (kindAt c k))) .has b in
+        let lower = layout k l .pin s a (omega (arith, few-pins (kindAt c k))) .has b in
         grow-meet (lineBy gate c inputs d) d k n (pinAt c k s) lower (omega arith)));
   }

@@ -8,7 +8,7 @@ use lib.ListN.{getD}
 use Rattle.ground.specs.Lists.{indexIn}
 use Rattle.ground.proofs.Below.{each-below}
 use Rattle.circuit.specs.Record.{kindAt}
-use Rattle.gates.proofs.Laws.{two-pins}
+use Rattle.gates.proofs.Laws.{few-pins}
 use Rattle.records.specs.Net.{Net, gatesOf, sizeOf, pinOf, placedOf, lineOf, numberOn, recordsOf}
 use Rattle.records.proofs.Stands.{input-number}
 use Rattle.netlist.specs.Solved.{Solved, Right}
@@ -35,7 +35,7 @@ module _ {A : Type 0} {gate : ℕ → (ℕ → A) → A} (own : Own gate) {net :
       ∙ rw kind
       (own (getD (net .kinds) g 0) _ _ (r .some-kind g inside) (r .last-kind g inside)
       (λ s a b. ap value
-      (net-pin net k (omega arith) r few s a (omega (arith, two-pins (getD (net .kinds) g 0)))
+      (net-pin net k (omega arith) r few s a (omega (arith, few-pins (getD (net .kinds) g 0)))
       ∙ source-has net k s (rw (kind-gate net i) b)
       ∙ ap (λ (x : ℕ). lineOf net (pinOf net x s)) (number-gate net i))))
 

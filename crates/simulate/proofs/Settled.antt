@@ -14,7 +14,7 @@ use Rattle.ground.specs.Choose.{choose}
 use Rattle.ground.specs.Lists.{grow}
 use Rattle.ground.proofs.Tests.{either}
 use Rattle.gates.specs.Gate.{lastKind}
-use Rattle.gates.proofs.Laws.{gate-same, two-pins}
+use Rattle.gates.proofs.Laws.{gate-same, few-pins}
 use Rattle.gates.proofs.Clip.{other}
 use Rattle.circuit.specs.Record.{kindAt, pinAt, isInput, inputsBefore}
 use Rattle.circuit.specs.Formed.{Lower, WellFormed}
@@ -37,7 +37,7 @@ gate-take : (f : Forcing) (c vs : List ℕ) (k : ℕ) → (kindAt c k ≤ lastKi
 unfolding gateValue
 gate-take f c vs k low =
     ⊎-elim
-    (λ h. gate-same (kindAt c k) _ _ (λ s l m. ap (f k s) (sym (getD-take k vs (pinAt c k s) 0 (low (omega arith) s l (omega (arith, two-pins (kindAt c k))))))))
+    (λ h. gate-same (kindAt c k) _ _ (λ s l m. ap (f k s) (sym (getD-take k vs (pinAt c k s) 0 (low (omega arith) s l (omega (arith, few-pins (kindAt c k))))))))
     (λ h. other (kindAt c k) _ h ∙ sym (other (kindAt c k) _ h))
     (either (kindAt c k) 9)
 

@@ -8,7 +8,7 @@ use lib.ListN.{getD}
 use borrow.Author.Tests.{ne-eqb}
 use Rattle.ground.proofs.Grow.{grow-at, grow-meet}
 use Rattle.gates.specs.Gate.{pinsOf}
-use Rattle.gates.proofs.Laws.{gate-same, two-pins}
+use Rattle.gates.proofs.Laws.{gate-same, few-pins}
 use Rattle.circuit.specs.Record.{kindAt, pinAt}
 use Rattle.lists.specs.declared.Fault.{Fault}
 use Rattle.simulate.specs.Simulate.{unforced, stuckAt, gateValue, lineValue}
@@ -19,7 +19,7 @@ use Rattle.simulate.proofs.Below.{stuck-site, stuck-off, values-below}
 module _ (fault : Fault) (c p : List ℕ) (n : ℕ) (lower : (k : ℕ) → k < n → (kindAt c k ≡ 0 → ⊥) → Lower c k) (inside : fault .line < n) where
   -- the source of a pin that the gate has
   source-below : (k : ℕ) → k < n → (kindAt c k ≡ 0 → ⊥) → (s : ℕ) → 1 ≤ s → s ≤ pinsOf (kindAt c k) → pinAt c k s < k
-  source-below k l ne s a b = lower k l ne s a (omega (arith, two-pins (kindAt c k)))
+  source-below k l ne s a b = lower k l ne s a (omega (arith, few-pins (kindAt c k)))
 
   -- a gate whose own line is not stuck
   gives : (k : ℕ) → k < n → ((v : ℕ) → stuckAt fault k 0 v ≡ v) → Gives fault c p n k

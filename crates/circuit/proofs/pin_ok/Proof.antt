@@ -1,6 +1,5 @@
 -- `circuit::pin_ok` meets its contract: one comparison serves a source that the kind has and one that it lacks.
 -- Assumes nothing.
-use mathlib.Core.Path.{_∙_}
 use borrow.Author.Needs.{needs}
 use Rattle.circuit.proofs.Lines.{limit-ok}
 use Rattle.circuit.proofs.pin_ok.Statement.{statement}
