@@ -16,40 +16,40 @@ use Rattle.answers.proofs.Answer.{numbers-told}
 use Rattle.circuit.specs.Formed.{Accepts}
 use Rattle.bench.specs.declared.Read.{Read}
 use Rattle.bench.specs.declared.Read.the-variants.{Records, Refused}
-use Rattle.bench.specs.Promise.{bufferRules, benchRules, recordsIn, readOf, numbersOf, Reads}
-use Rattle.bench.specs.Owed.{Answers, Whole}
+use Rattle.bench.specs.Promise.{bufferRules, benchRules, recordsIn, readOf, readNumbers, Reads}
+use Rattle.bench.specs.Owed.{ReadDone, LayReady}
 
 module _ {records c : List ℕ} where
   -- a refusal ends it; where there is none, the rules after it decide
-  pub first-refused : (rules more : List Rule) {number place : ℕ} → refusal rules ≡ Ruling.Refused number place → Answers (rules ++ more) records c c (Refused number place)
+  pub first-refused : (rules more : List Rule) {number place : ℕ} → refusal rules ≡ Ruling.Refused number place → ReadDone (rules ++ more) records c c (Refused number place)
   first-refused rules more e = record { answer = rw (after-refused rules more e); circuit = rw (after-refused rules more e) }
 
-  pub first-fine : (rules more : List Rule) {c′ : List ℕ} {r : Read} → refusal rules ≡ Ruling.Fine → Answers more records c c′ r → Answers (rules ++ more) records c c′ r
+  pub first-fine : (rules more : List Rule) {c′ : List ℕ} {r : Read} → refusal rules ≡ Ruling.Fine → ReadDone more records c c′ r → ReadDone (rules ++ more) records c c′ r
   first-fine rules more e p = record { answer = rw (after-fine rules more e) (p .answer); circuit = rw (after-fine rules more e) (p .circuit) }
 
   -- refusal 10, or the records in the buffer
-  pub other-size : (length c ≡ 16384 → ⊥) → Answers (bufferRules (length c)) records c c (Refused 10 0)
+  pub other-size : (length c ≡ 16384 → ⊥) → ReadDone (bufferRules (length c)) records c c (Refused 10 0)
   unfolding bufferRules refusal said
   other-size n = let q : eqb (length c) 16384 ≡ false = ne-eqb (length c) 16384 n in record { answer = rw q; circuit = rw q }
 
-  pub laid : {c′ : List ℕ} {n : ℕ} → length c ≡ 16384 → Whole records n → c′ ≡ take (length records) records ++ drop (length records) c
-      → Answers (bufferRules (length c)) records c c′ (Records n)
+  pub laid : {c′ : List ℕ} {n : ℕ} → length c ≡ 16384 → LayReady records n → c′ ≡ take (length records) records ++ drop (length records) c
+      → ReadDone (bufferRules (length c)) records c c′ (Records n)
   unfolding bufferRules refusal said
   laid e w p =
       let q : eqb (length c) 16384 ≡ true = eq-eqb (length c) 16384 e in
       record { answer = rw (q, w .lines); circuit = rw q (p ∙ ap (λ (l : List ℕ). l ++ drop (length records) c) (take-length records)) }
 
 -- records that the check accepts
-pub whole : {records : List ℕ} {n m o : ℕ} → Accepts records n m o → Whole records n
+pub whole : {records : List ℕ} {n m o : ℕ} → Accepts records n m o → LayReady records n
 whole {records} a = record { lines = a .lines; fits = omega (arith, a .good .well .size, a .good .most-lines) }
 
 -- ---- the promise
 
-pub reads : {t c c′ : List ℕ} {r : Read} → Answers (benchRules t (length c)) (recordsIn t) c c′ r → Reads t c c′ r
-unfolding readOf numbersOf
+pub reads : {t c c′ : List ℕ} {r : Read} → ReadDone (benchRules t (length c)) (recordsIn t) c c′ r → Reads t c c′ r
+unfolding readOf readNumbers
 reads {t} {c} p = record {
   answer = p .answer;
-  numbers = ap numbersOf (p .answer) ∙ numbers-told numbersOf (λ x y. refl) (refusal (benchRules t (length c))) _;
+  numbers = ap readNumbers (p .answer) ∙ numbers-told readNumbers (λ x y. refl) (refusal (benchRules t (length c))) _;
   circuit = p .circuit;
 }
 

@@ -9,31 +9,31 @@ use Rattle.answers.specs.declared.Ruling.{Ruling}
 use Rattle.answers.specs.declared.Ruling.the-variants.{Fine}
 use Rattle.circuit.specs.Promise.{circuitRules}
 use Rattle.circuit.proofs.Sizes as sealed
-use Rattle.words.specs.Words.{wordsOf, endsOf}
+use Rattle.words.specs.Words.{wordsIn, endsIn}
 use Rattle.statements.specs.Tables.{gatesIn, kindsOf}
 use Rattle.statements.proofs.Lengths.{defs-split, firsts-length, seconds-length, kinds-length}
 use Rattle.statements.proofs.Sizes.{few-defs}
 use Rattle.statements.proofs.Sizes.{few-gates as few-forms}
-use Rattle.order.specs.Owed.{Gates, Arranged}
+use Rattle.order.specs.Owed.{ArrangeRoom, ArrangeDone}
 use Rattle.order.proofs.Says.{full-order}
-use Rattle.records.specs.Net.{Net, gatesOf, sizeOf, recordsOf}
-use Rattle.records.specs.Owed.{netOf, Fits}
+use Rattle.records.specs.Net.{Net, gatesOf, netSize, recordsOf}
+use Rattle.records.specs.Owed.{netOf, PutRecordsReady}
 use Rattle.bench.specs.Text.{formsIn, firstsIn, secondsIn, numberIn, netIn}
 use Rattle.records.proofs.Size.{records-length}
 use Rattle.bench.specs.declared.Read.{Read}
 use Rattle.bench.specs.declared.Read.the-variants.{Refused}
 use Rattle.bench.specs.Promise.{bufferRules, recordRules}
-use Rattle.bench.specs.Owed.{Answers, AnswersNet, Resolved, Ordered, Named}
+use Rattle.bench.specs.Owed.{ReadDone, NetDone, ReadNetReady, ReadOrderReady, ReadKindsReady}
 use Rattle.bench.proofs.Answer.{first-refused}
 use Rattle.bench.proofs.Numbers.{outs-below}
 
 -- ---- from a text
 
-module _ {t ws es fs : List ℕ} {inputs : ℕ} {a b o : List ℕ} (p : Named t ws es fs inputs a b o) where
+module _ {t ws es fs : List ℕ} {inputs : ℕ} {a b o : List ℕ} (p : ReadKindsReady t ws es fs inputs a b o) where
   gates-are : length a ≡ gatesIn fs
   unfolding netIn
   gates-are =
-      ap length (p .firsts-are) ∙ length-map (firstsIn t) (numberIn t) ∙ firsts-length (wordsOf t) (endsOf t) (formsIn t)
+      ap length (p .firsts-are) ∙ length-map (firstsIn t) (numberIn t) ∙ firsts-length (wordsIn t) (endsIn t) (formsIn t)
       ∙ ap gatesIn (sym (p .told .forms-are))
 
   pub few-gates : length a ≤ 8192
@@ -47,34 +47,34 @@ module _ {t ws es fs : List ℕ} {inputs : ℕ} {a b o : List ℕ} (p : Named t 
       ap (λ (n : ℕ). take n kinds) gates-are ∙ e ∙ rw (p .told .lined .words-are, p .told .lined .ends-are, p .told .forms-are) in
       rw (q, p .inputs-are, p .firsts-are, p .seconds-are, p .outs-are)
 
-  pub resolved : Resolved (netIn t)
+  pub resolved : ReadNetReady (netIn t)
   unfolding netIn
   resolved =
       let s = p .told .lined .short in
-      let f = length-map (firstsIn t) (numberIn t) ∙ firsts-length (wordsOf t) (endsOf t) (formsIn t) in
-      let g = length-map (secondsIn t) (numberIn t) ∙ seconds-length (wordsOf t) (endsOf t) (formsIn t) in
+      let f = length-map (firstsIn t) (numberIn t) ∙ firsts-length (wordsIn t) (endsIn t) (formsIn t) in
+      let g = length-map (secondsIn t) (numberIn t) ∙ seconds-length (wordsIn t) (endsIn t) (formsIn t) in
       record {
         few = omega (arith, f, few-forms t s);
         few-inputs = omega (arith, few-defs t s, defs-split (formsIn t));
-        kinds = kinds-length (wordsOf t) (endsOf t) (formsIn t) t ∙ sym f;
+        kinds = kinds-length (wordsIn t) (endsIn t) (formsIn t) t ∙ sym f;
         seconds = g ∙ sym f;
         output-numbers = λ i l. omega (arith, f, outs-below t (p .fine) i l);
       }
 
-pub of-net : {net net′ : Net} {c c′ : List ℕ} {r : Read} → net ≡ net′ → AnswersNet net c c′ r → AnswersNet net′ c c′ r
-of-net {c = c} {c′ = c′} {r = r} e p = subst (λ (n : Net). AnswersNet n c c′ r) e p
+pub of-net : {net net′ : Net} {c c′ : List ℕ} {r : Read} → net ≡ net′ → NetDone net c c′ r → NetDone net′ c c′ r
+of-net {c = c} {c′ = c′} {r = r} e p = subst (λ (n : Net). NetDone n c c′ r) e p
 
 -- ---- the order, the records
 
-pub gates-room : {net : Net} {order : List ℕ} → Resolved net → length order ≡ gatesOf net → Gates (net .firsts) (net .seconds) order
+pub gates-room : {net : Net} {order : List ℕ} → ReadNetReady net → length order ≡ gatesOf net → ArrangeRoom (net .firsts) (net .seconds) order
 gates-room p r = record { few = p .few; second = p .seconds; room = r }
 
-pub ordered : {net : Net} {order : List ℕ} {r : Ruling} → Resolved net → Arranged (net .firsts) (net .seconds) order r → r ≡ Fine → Ordered net order
+pub ordered : {net : Net} {order : List ℕ} {r : Ruling} → ReadNetReady net → ArrangeDone (net .firsts) (net .seconds) order r → r ≡ Fine → ReadOrderReady net order
 ordered {net} p q e =
     let o = q .order-is e in
     record { resolved = p; order-is = o; placed = ap length o ∙ full-order (net .firsts) (net .seconds) (sym (q .ruling) ∙ e) }
 
-pub fits : {net : Net} {order records : List ℕ} → Ordered net order → sizeOf net ≤ 2048 → length records ≡ 8 * sizeOf net → Fits net order records
+pub fits : {net : Net} {order records : List ℕ} → ReadOrderReady net order → netSize net ≤ 2048 → length records ≡ 8 * netSize net → PutRecordsReady net order records
 fits o few room = record {
   few = few;
   room = room;
@@ -87,6 +87,6 @@ fits o few room = record {
 
 -- ---- more lines than a circuit may have
 
-pub too-many : (net : Net) {c : List ℕ} → 2048 < sizeOf net → Answers (recordRules (recordsOf net) (length c)) (recordsOf net) c c (Refused 1 0)
+pub too-many : (net : Net) {c : List ℕ} → 2048 < netSize net → ReadDone (recordRules (recordsOf net) (length c)) (recordsOf net) c c (Refused 1 0)
 too-many net {c} l =
-    first-refused (circuitRules (recordsOf net)) (bufferRules (length c)) (sealed.too-many (recordsOf net) (omega (arith, records-length net (sizeOf net))))
+    first-refused (circuitRules (recordsOf net)) (bufferRules (length c)) (sealed.too-many (recordsOf net) (omega (arith, records-length net (netSize net))))

@@ -15,34 +15,34 @@ use Rattle.ground.proofs.Map.{map-at}
 use Rattle.ground.proofs.Collect.{collect-below}
 use Rattle.answers.specs.declared.Ruling.the-variants.{Fine}
 use Rattle.answers.specs.Rules.{refusal}
-use Rattle.words.specs.Words.{wordAt, wordsOf, endsOf}
-use Rattle.statements.specs.Tables.{isInput, isGate, inputsTo, gatesTo, inputsIn, gatesIn, numberAt, numbersOf}
+use Rattle.words.specs.Words.{wordAt, wordsIn, endsIn}
+use Rattle.statements.specs.Tables.{saysInput, saysGate, inputsTo, gatesTo, inputsIn, gatesIn, numberAt, defNumbersOf}
 use Rattle.statements.proofs.Lengths.{same-lengths}
 use Rattle.statements.proofs.Sizes.{outs-within, firsts-within, seconds-within}
-use Rattle.names.specs.Names.{named, nameRules, definition, numberOf}
+use Rattle.names.specs.Names.{named, nameRules, definition, nameNumber}
 use Rattle.names.specs.Owed.{Within}
 use Rattle.names.proofs.Last.{last-most}
 use Rattle.names.proofs.OneDefinition.{used-defined}
 use Rattle.bench.specs.Text.{formsIn, defsIn, outsIn, firstsIn, secondsIn, usesIn, numberIn}
 
 -- the number of a definition
-pub numbers-below : (fs : List ℕ) (j : ℕ) → j < length (numbersOf fs) → getD (numbersOf fs) j 0 < inputsIn fs + gatesIn fs
-unfolding numbersOf numberAt
-numbers-below fs j l = collect-below _ _ (length fs) _ (λ k m e. go k m (isGate fs k) refl (isInput fs k) refl e) j l
+pub numbers-below : (fs : List ℕ) (j : ℕ) → j < length (defNumbersOf fs) → getD (defNumbersOf fs) j 0 < inputsIn fs + gatesIn fs
+unfolding defNumbersOf numberAt
+numbers-below fs j l = collect-below _ _ (length fs) _ (λ k m e. go k m (saysGate fs k) refl (saysInput fs k) refl e) j l
   where
-    go : (k : ℕ) → k < length fs → (g : Bool) → isGate fs k ≡ g → (i : Bool) → isInput fs k ≡ i → (i || g) ≡ true
+    go : (k : ℕ) → k < length fs → (g : Bool) → saysGate fs k ≡ g → (i : Bool) → saysInput fs k ≡ i → (i || g) ≡ true
         → choose g (gatesTo fs k) (gatesIn fs + inputsTo fs k) < inputsIn fs + gatesIn fs
-    go k m true p i q e = let h = count-below (isGate fs) k (length fs) m p in omega arith
+    go k m true p i q e = let h = count-below (saysGate fs) k (length fs) m p in omega arith
     go k m false p false q e = absurd (false≢true e)
-    go k m false p true q e = let h = count-below (isInput fs) k (length fs) m q in omega arith
+    go k m false p true q e = let h = count-below (saysInput fs) k (length fs) m q in omega arith
 
 -- where some name is defined, of any name at all
 module _ (t : List ℕ) (some : 0 < length (defsIn t)) where
   pub number-below : (i : ℕ) → numberIn t i < inputsIn (formsIn t) + gatesIn (formsIn t)
-  unfolding numberOf definition
+  unfolding nameNumber definition
   number-below i =
       let d = last-most (named t (defsIn t) (wordAt t i)) (length (defsIn t)) in
-      numbers-below (formsIn t) _ (omega (arith, same-lengths (wordsOf t) (endsOf t) (formsIn t)))
+      numbers-below (formsIn t) _ (omega (arith, same-lengths (wordsIn t) (endsIn t) (formsIn t)))
 
 -- ---- of the outputs
 

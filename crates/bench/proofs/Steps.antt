@@ -7,10 +7,10 @@ use native.Mathlib.Omega.{arith}
 use lib.ListN.{length, take, length-take}
 use Rattle.answers.specs.declared.Ruling.{Ruling}
 use Rattle.answers.specs.declared.Ruling.the-variants.{Fine}
-use Rattle.words.specs.Words.{wordsOf, endsOf}
-use Rattle.words.specs.Owed.{Cut}
+use Rattle.words.specs.Words.{wordsIn, endsIn}
+use Rattle.words.specs.Owed.{CutDone}
 use Rattle.statements.specs.Tables.{gatesIn}
-use Rattle.statements.specs.Owed.{Forms, DefsRoom, Defs, OutsRoom, Outs, GatesRoom, Sources, KindsRoom}
+use Rattle.statements.specs.Owed.{FormsDone, DefsReady, DefsDone, OutsRoom, OutsDone, SourcesReady, SourcesDone, KindsRoom}
 use Rattle.statements.proofs.Forms.{forms-length, forms-small}
 use Rattle.statements.proofs.Lengths.{defs-split, defs-length, outs-length, firsts-length, seconds-length}
 use Rattle.statements.proofs.Sizes.{few-defs, few-outs, few-gates, defs-within, outs-within, firsts-within, seconds-within}
@@ -18,30 +18,30 @@ use Rattle.answers.specs.Rules.{refusal}
 use Rattle.names.specs.Names.{nameRules}
 use Rattle.names.specs.Owed as names
 use Rattle.bench.specs.Text.{formsIn, defsIn, usesIn, netIn}
-use Rattle.bench.specs.Owed.{Lined, Told, Defined, Used, Named}
+use Rattle.bench.specs.Owed.{ReadLinesReady, ReadDefsReady, ReadUsesReady, ReadNamesReady, ReadKindsReady}
 
 -- ---- words, forms
 
-pub lined : {t ws es : List ℕ} {w k : ℕ} → length t ≤ 32768 → Cut t ws es w k → Lined t (take w ws) (take k es)
+pub lined : {t ws es : List ℕ} {w k : ℕ} → length t ≤ 32768 → CutDone t ws es w k → ReadLinesReady t (take w ws) (take k es)
 lined s c = record { short = s; words-are = c .words-are; ends-are = c .lines-are }
 
 pub few-lines : (k : ℕ) (es : List ℕ) → k ≤ 32769 → length (take k es) ≤ 32769
 few-lines k es l = omega (arith, length-take k es)
 
-pub told : {t ws es fs : List ℕ} {g : ℕ} → Lined t ws es → Forms t ws es fs g → Told t ws es fs
+pub told : {t ws es fs : List ℕ} {g : ℕ} → ReadLinesReady t ws es → FormsDone t ws es fs g → ReadDefsReady t ws es fs
 told {t} l f = record { lined = l; forms-are = rw (l .words-are, l .ends-are) at (f .forms-are) }
 
-module _ {t ws es fs : List ℕ} (p : Told t ws es fs) where
+module _ {t ws es fs : List ℕ} (p : ReadDefsReady t ws es fs) where
   short : length t ≤ 32768
   short = p .lined .short
 
   lines : length fs ≡ length es
-  lines = rw (p .forms-are, p .lined .ends-are) (forms-length t (wordsOf t) (endsOf t))
+  lines = rw (p .forms-are, p .lined .ends-are) (forms-length t (wordsIn t) (endsIn t))
 
   -- ---- definitions
 
   module _ {gates : ℕ} (g : gates ≡ gatesIn fs) where
-    pub defs-room : {defs numbers : List ℕ} → length defs ≡ 8193 → length numbers ≡ 8193 → DefsRoom ws es fs gates defs numbers
+    pub defs-room : {defs numbers : List ℕ} → length defs ≡ 8193 → length numbers ≡ 8193 → DefsReady ws es fs gates defs numbers
     defs-room d n = record {
       lines = lines;
       gates-are = g;
@@ -52,11 +52,11 @@ module _ {t ws es fs : List ℕ} (p : Told t ws es fs) where
     pub gates-few : gates ≤ 8192
     gates-few = rw (g, p .forms-are) (few-gates t short)
 
-    pub defined : {defs numbers : List ℕ} {d : ℕ} → Defs ws es fs defs numbers d
-        → Defined t ws es fs (length (take d defs) - gates) (take d defs) (take d numbers)
+    pub defined : {defs numbers : List ℕ} {d : ℕ} → DefsDone ws es fs defs numbers d
+        → ReadUsesReady t ws es fs (length (take d defs) - gates) (take d defs) (take d numbers)
     defined {defs} {numbers} {d} q =
         let e : take d defs ≡ defsIn t = rw (p .lined .words-are, p .lined .ends-are, p .forms-are) at (q .defs-are) in
-        let n = ap length e ∙ defs-length (wordsOf t) (endsOf t) (formsIn t) in
+        let n = ap length e ∙ defs-length (wordsIn t) (endsIn t) (formsIn t) in
         let h : gates ≡ gatesIn (formsIn t) = rw (p .forms-are) at g in
         record {
           told = p;
@@ -70,10 +70,10 @@ module _ {t ws es fs : List ℕ} (p : Told t ws es fs) where
   pub outs-room : {outs : List ℕ} → length outs ≡ 8193 → OutsRoom es fs outs
   outs-room r = record { lines = lines; for-outs = record { few = rw (p .forms-are) (few-outs t short); room = r } }
 
-  pub gates-room : {firsts seconds : List ℕ} → length firsts ≡ 8193 → length seconds ≡ 8193 → GatesRoom es fs firsts seconds
+  pub gates-room : {firsts seconds : List ℕ} → length firsts ≡ 8193 → length seconds ≡ 8193 → SourcesReady es fs firsts seconds
   gates-room a b = record {
     lines = lines;
-    forms = λ k l. rw (p .forms-are) (forms-small t (wordsOf t) (endsOf t) k);
+    forms = λ k l. rw (p .forms-are) (forms-small t (wordsIn t) (endsIn t) k);
     for-first = record { few = rw (p .forms-are) (few-gates t short); room = a };
     for-second = record { few = rw (p .forms-are) (few-gates t short); room = b };
   }
@@ -81,8 +81,8 @@ module _ {t ws es fs : List ℕ} (p : Told t ws es fs) where
   pub kinds-room : {kinds : List ℕ} → length kinds ≡ 8193 → KindsRoom es fs kinds
   kinds-room r = record { lines = lines; for-kinds = record { few = rw (p .forms-are) (few-gates t short); room = r } }
 
-  pub used : {firsts seconds outs : List ℕ} {gates u : ℕ} → gates ≡ gatesIn fs → Outs ws es fs outs u → Sources ws es fs firsts seconds
-      → Used t (take gates firsts) (take gates seconds) (take u outs)
+  pub used : {firsts seconds outs : List ℕ} {gates u : ℕ} → gates ≡ gatesIn fs → OutsDone ws es fs outs u → SourcesDone ws es fs firsts seconds
+      → ReadNamesReady t (take gates firsts) (take gates seconds) (take u outs)
   used g o s = record {
     firsts-are = rw (g, p .forms-are) (rw (p .lined .words-are, p .lined .ends-are, p .forms-are) at (s .firsts-are));
     seconds-are = rw (g, p .forms-are) (rw (p .lined .words-are, p .lined .ends-are, p .forms-are) at (s .seconds-are));
@@ -90,28 +90,28 @@ module _ {t ws es fs : List ℕ} (p : Told t ws es fs) where
   }
 
 -- there are no more gates than definitions
-pub some-gates : {t ws es fs : List ℕ} {inputs gates : ℕ} {defs numbers : List ℕ} → Defined t ws es fs inputs defs numbers → gates ≡ gatesIn fs → gates ≤ length defs
+pub some-gates : {t ws es fs : List ℕ} {inputs gates : ℕ} {defs numbers : List ℕ} → ReadUsesReady t ws es fs inputs defs numbers → gates ≡ gatesIn fs → gates ≤ length defs
 some-gates {t} {gates = gates} d g =
-    let n = ap length (d .defs-are) ∙ defs-length (wordsOf t) (endsOf t) (formsIn t) in
+    let n = ap length (d .defs-are) ∙ defs-length (wordsIn t) (endsIn t) (formsIn t) in
     let h : gates ≡ gatesIn (formsIn t) = rw (d .told .forms-are) at g in
     omega (arith, n, h)
 
 -- ---- names
 
-module _ {t ws es fs : List ℕ} {inputs : ℕ} {defs numbers firsts seconds outs : List ℕ} (d : Defined t ws es fs inputs defs numbers) (u : Used t firsts seconds outs) where
+module _ {t ws es fs : List ℕ} {inputs : ℕ} {defs numbers firsts seconds outs : List ℕ} (d : ReadUsesReady t ws es fs inputs defs numbers) (u : ReadNamesReady t firsts seconds outs) where
   pub few-sources : (length firsts ≤ 8192) × (length seconds ≡ length firsts) × (length outs ≤ 8192)
   few-sources =
       let s = d .told .lined .short in
-      let f = ap length (u .firsts-are) ∙ firsts-length (wordsOf t) (endsOf t) (formsIn t) in
-      let g = ap length (u .seconds-are) ∙ seconds-length (wordsOf t) (endsOf t) (formsIn t) in
-      let o = ap length (u .outs-are) ∙ outs-length (wordsOf t) (endsOf t) (formsIn t) in
+      let f = ap length (u .firsts-are) ∙ firsts-length (wordsIn t) (endsIn t) (formsIn t) in
+      let g = ap length (u .seconds-are) ∙ seconds-length (wordsIn t) (endsIn t) (formsIn t) in
+      let o = ap length (u .outs-are) ∙ outs-length (wordsIn t) (endsIn t) (formsIn t) in
       (omega (arith, f, few-gates t s), g ∙ sym f, omega (arith, o, few-outs t s))
 
   pub unresolved : {o a b : List ℕ} → length o ≡ length outs → length a ≡ length firsts → length b ≡ length seconds
-      → names.Unresolved t defs outs firsts seconds o a b
+      → names.ResolveReady t defs outs firsts seconds o a b
   unresolved eo ea eb = record {
     short = d .told .lined .short;
-    few = let n = ap length (d .defs-are) ∙ defs-length (wordsOf t) (endsOf t) (formsIn t) in omega (arith, n, few-defs t (d .told .lined .short), defs-split (formsIn t));
+    few = let n = ap length (d .defs-are) ∙ defs-length (wordsIn t) (endsIn t) (formsIn t) in omega (arith, n, few-defs t (d .told .lined .short), defs-split (formsIn t));
     defs-in = rw (d .defs-are) (defs-within t);
     outs-in = rw (u .outs-are) (outs-within t);
     firsts-in = rw (u .firsts-are) (firsts-within t);
@@ -122,10 +122,10 @@ module _ {t ws es fs : List ℕ} {inputs : ℕ} {defs numbers firsts seconds out
   }
 
   -- what the names say, of the text
-  pub names-ruling : {o a b : List ℕ} {r : Ruling} → names.Resolved t defs numbers outs firsts seconds o a b r → r ≡ refusal (nameRules t (defsIn t) (usesIn t))
+  pub names-ruling : {o a b : List ℕ} {r : Ruling} → names.ResolveDone t defs numbers outs firsts seconds o a b r → r ≡ refusal (nameRules t (defsIn t) (usesIn t))
   names-ruling q = rw (d .defs-are, u .firsts-are, u .seconds-are, u .outs-are) at (q .ruling)
 
-  pub named : {o a b : List ℕ} {r : Ruling} → names.Resolved t defs numbers outs firsts seconds o a b r → r ≡ Fine → Named t ws es fs inputs a b o
+  pub named : {o a b : List ℕ} {r : Ruling} → names.ResolveDone t defs numbers outs firsts seconds o a b r → r ≡ Fine → ReadKindsReady t ws es fs inputs a b o
   unfolding netIn
   named q e = record {
     told = d .told;

@@ -45,9 +45,9 @@ unfoldable pub readOf : List ℕ → ℕ → Read
 readOf t room = answered Refused (refusal (benchRules t room)) (Records (linesOf (recordsIn t)))
 
 -- the paper's number and values for each case of the answer
-unfoldable pub numbersOf : Read → Numbers
-numbersOf (Records n) = success n 0 0
-numbersOf (Refused number place) = refusedAt number place
+unfoldable pub readNumbers : Read → Numbers
+readNumbers (Records n) = success n 0 0
+readNumbers (Refused number place) = refusedAt number place
 
 -- the records, and then what stood there
 abbrev pub laidOn : List ℕ → List ℕ → List ℕ
@@ -56,5 +56,5 @@ laidOn c records = records ++ drop (length records) c
 -- the promise, whatever the text and the buffer: the answer's case, its number and values, and every byte; a refusal writes nothing
 pub record Reads (t c c′ : List ℕ) (r : Read) : Type 0 where
   pub answer : r ≡ readOf t (length c)
-  pub numbers : numbersOf r ≡ told (refusal (benchRules t (length c))) (success (linesOf (recordsIn t)) 0 0)
+  pub numbers : readNumbers r ≡ told (refusal (benchRules t (length c))) (success (linesOf (recordsIn t)) 0 0)
   pub circuit : c′ ≡ unless (refusal (benchRules t (length c))) c (laidOn c (recordsIn t))

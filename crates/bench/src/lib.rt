@@ -14,11 +14,11 @@ use words::cut;
 ghost use mathlib.Core.Path.{_≡_};
 ghost use Prim.Native.Nat.{_-_, _≤_};
 ghost use lib.ListN.{length};
-ghost use Rattle.words.specs.Owed.{Room};
+ghost use Rattle.words.specs.Owed.{CutRoom};
 ghost use Rattle.statements.specs.Tables.{gatesIn};
 ghost use Rattle.bench.specs.Text.{netIn};
 ghost use Rattle.bench.specs.Promise.{Reads};
-ghost use Rattle.bench.specs.Owed.{AnswersNet, AnswersText, Named, Defined, Used, Told, Lined};
+ghost use Rattle.bench.specs.Owed.{NetDone, TextDone, ReadKindsReady, ReadUsesReady, ReadNamesReady, ReadDefsReady, ReadLinesReady};
 
 // What the reader answers.
 pub enum Read {
@@ -43,8 +43,8 @@ fn read_kinds_in(
     kinds: &mut [u8],
     circuit: &mut [u8],
 ) -> Read
-    requires { ⌜ Named (now text) (now words) (now ends) (now forms) inputs (now firsts) (now seconds) (now outs) × (length (now kinds) ≡ 8193) ⌝ }
-    ensures { λ r. ⌜ AnswersNet (netIn (now (text .entry))) (now (circuit .entry)) (now (circuit .exit)) r ⌝ }
+    requires { ⌜ ReadKindsReady (now text) (now words) (now ends) (now forms) inputs (now firsts) (now seconds) (now outs) × (length (now kinds) ≡ 8193) ⌝ }
+    ensures { λ r. ⌜ NetDone (netIn (now (text .entry))) (now (circuit .entry)) (now (circuit .exit)) r ⌝ }
 {
     put_kinds(text, words, ends, forms, kinds);
     let gates = firsts.len();
@@ -62,8 +62,8 @@ fn read_kinds(
     outs: &[u16],
     circuit: &mut [u8],
 ) -> Read
-    requires { ⌜ Named (now text) (now words) (now ends) (now forms) inputs (now firsts) (now seconds) (now outs) ⌝ }
-    ensures { λ r. ⌜ AnswersNet (netIn (now (text .entry))) (now (circuit .entry)) (now (circuit .exit)) r ⌝ }
+    requires { ⌜ ReadKindsReady (now text) (now words) (now ends) (now forms) inputs (now firsts) (now seconds) (now outs) ⌝ }
+    ensures { λ r. ⌜ NetDone (netIn (now (text .entry))) (now (circuit .entry)) (now (circuit .exit)) r ⌝ }
 {
     let mut kinds = [0u8; 8193];
     read_kinds_in(
@@ -97,9 +97,9 @@ fn read_names_in(
     o: &mut [u16],
     circuit: &mut [u8],
 ) -> Read
-    requires { ⌜ Defined (now text) (now words) (now ends) (now forms) inputs (now defs) (now numbers) × Used (now text) (now firsts) (now seconds) (now outs) ⌝ }
+    requires { ⌜ ReadUsesReady (now text) (now words) (now ends) (now forms) inputs (now defs) (now numbers) × ReadNamesReady (now text) (now firsts) (now seconds) (now outs) ⌝ }
     requires { ⌜ (length (now a) ≡ length (now firsts)) × (length (now b) ≡ length (now seconds)) × (length (now o) ≡ length (now outs)) ⌝ }
-    ensures { λ r. ⌜ AnswersText (now (text .entry)) (now (circuit .entry)) (now (circuit .exit)) r ⌝ }
+    ensures { λ r. ⌜ TextDone (now (text .entry)) (now (circuit .entry)) (now (circuit .exit)) r ⌝ }
 {
     let v = resolve(text, defs, numbers, outs, firsts, seconds, o, a, b);
     match v {
@@ -121,8 +121,8 @@ fn read_names(
     outs: &[u16],
     circuit: &mut [u8],
 ) -> Read
-    requires { ⌜ Defined (now text) (now words) (now ends) (now forms) inputs (now defs) (now numbers) × Used (now text) (now firsts) (now seconds) (now outs) ⌝ }
-    ensures { λ r. ⌜ AnswersText (now (text .entry)) (now (circuit .entry)) (now (circuit .exit)) r ⌝ }
+    requires { ⌜ ReadUsesReady (now text) (now words) (now ends) (now forms) inputs (now defs) (now numbers) × ReadNamesReady (now text) (now firsts) (now seconds) (now outs) ⌝ }
+    ensures { λ r. ⌜ TextDone (now (text .entry)) (now (circuit .entry)) (now (circuit .exit)) r ⌝ }
 {
     let mut a = [0u16; 8192];
     let mut b = [0u16; 8192];
@@ -161,9 +161,9 @@ fn read_uses_in(
     outs: &mut [u16],
     circuit: &mut [u8],
 ) -> Read
-    requires { ⌜ Defined (now text) (now words) (now ends) (now forms) (length (now defs) - gates) (now defs) (now numbers) × (gates ≡ gatesIn (now forms)) ⌝ }
+    requires { ⌜ ReadUsesReady (now text) (now words) (now ends) (now forms) (length (now defs) - gates) (now defs) (now numbers) × (gates ≡ gatesIn (now forms)) ⌝ }
     requires { ⌜ (length (now firsts) ≡ 8193) × (length (now seconds) ≡ 8193) × (length (now outs) ≡ 8193) ⌝ }
-    ensures { λ r. ⌜ AnswersText (now (text .entry)) (now (circuit .entry)) (now (circuit .exit)) r ⌝ }
+    ensures { λ r. ⌜ TextDone (now (text .entry)) (now (circuit .entry)) (now (circuit .exit)) r ⌝ }
 {
     put_sources(words, ends, forms, firsts, seconds);
     let u = put_outs(words, ends, forms, outs);
@@ -193,8 +193,8 @@ fn read_uses(
     numbers: &[u16],
     circuit: &mut [u8],
 ) -> Read
-    requires { ⌜ Defined (now text) (now words) (now ends) (now forms) (length (now defs) - gates) (now defs) (now numbers) × (gates ≡ gatesIn (now forms)) ⌝ }
-    ensures { λ r. ⌜ AnswersText (now (text .entry)) (now (circuit .entry)) (now (circuit .exit)) r ⌝ }
+    requires { ⌜ ReadUsesReady (now text) (now words) (now ends) (now forms) (length (now defs) - gates) (now defs) (now numbers) × (gates ≡ gatesIn (now forms)) ⌝ }
+    ensures { λ r. ⌜ TextDone (now (text .entry)) (now (circuit .entry)) (now (circuit .exit)) r ⌝ }
 {
     let mut firsts = [0u16; 8193];
     let mut seconds = [0u16; 8193];
@@ -225,9 +225,9 @@ fn read_defs_in(
     numbers: &mut [u16],
     circuit: &mut [u8],
 ) -> Read
-    requires { ⌜ Told (now text) (now words) (now ends) (now forms) × (gates ≡ gatesIn (now forms)) ⌝ }
+    requires { ⌜ ReadDefsReady (now text) (now words) (now ends) (now forms) × (gates ≡ gatesIn (now forms)) ⌝ }
     requires { ⌜ (length (now defs) ≡ 8193) × (length (now numbers) ≡ 8193) ⌝ }
-    ensures { λ r. ⌜ AnswersText (now (text .entry)) (now (circuit .entry)) (now (circuit .exit)) r ⌝ }
+    ensures { λ r. ⌜ TextDone (now (text .entry)) (now (circuit .entry)) (now (circuit .exit)) r ⌝ }
 {
     let d = put_defs(words, ends, forms, gates, defs, numbers);
     read_uses(
@@ -250,8 +250,8 @@ fn read_defs(
     gates: usize,
     circuit: &mut [u8],
 ) -> Read
-    requires { ⌜ Told (now text) (now words) (now ends) (now forms) × (gates ≡ gatesIn (now forms)) ⌝ }
-    ensures { λ r. ⌜ AnswersText (now (text .entry)) (now (circuit .entry)) (now (circuit .exit)) r ⌝ }
+    requires { ⌜ ReadDefsReady (now text) (now words) (now ends) (now forms) × (gates ≡ gatesIn (now forms)) ⌝ }
+    ensures { λ r. ⌜ TextDone (now (text .entry)) (now (circuit .entry)) (now (circuit .exit)) r ⌝ }
 {
     let mut defs = [0u16; 8193];
     let mut numbers = [0u16; 8193];
@@ -275,16 +275,16 @@ fn read_lines_in(
     forms: &mut [u8],
     circuit: &mut [u8],
 ) -> Read
-    requires { ⌜ Lined (now text) (now words) (now ends) × (length (now forms) ≡ length (now ends)) × (length (now ends) ≤ 32769) ⌝ }
-    ensures { λ r. ⌜ AnswersText (now (text .entry)) (now (circuit .entry)) (now (circuit .exit)) r ⌝ }
+    requires { ⌜ ReadLinesReady (now text) (now words) (now ends) × (length (now forms) ≡ length (now ends)) × (length (now ends) ≤ 32769) ⌝ }
+    ensures { λ r. ⌜ TextDone (now (text .entry)) (now (circuit .entry)) (now (circuit .exit)) r ⌝ }
 {
     let gates = put_forms(text, words, ends, forms);
     read_defs(text, words, ends, forms, gates, circuit)
 }
 
 fn read_lines(text: &[u8], words: &[u16], ends: &[u16], circuit: &mut [u8]) -> Read
-    requires { ⌜ Lined (now text) (now words) (now ends) × (length (now ends) ≤ 32769) ⌝ }
-    ensures { λ r. ⌜ AnswersText (now (text .entry)) (now (circuit .entry)) (now (circuit .exit)) r ⌝ }
+    requires { ⌜ ReadLinesReady (now text) (now words) (now ends) × (length (now ends) ≤ 32769) ⌝ }
+    ensures { λ r. ⌜ TextDone (now (text .entry)) (now (circuit .entry)) (now (circuit .exit)) r ⌝ }
 {
     let mut forms = [0u8; 32769];
     let lines = ends.len();
@@ -293,8 +293,8 @@ fn read_lines(text: &[u8], words: &[u16], ends: &[u16], circuit: &mut [u8]) -> R
 
 // The words.
 fn read_words_in(text: &[u8], words: &mut [u16], ends: &mut [u16], circuit: &mut [u8]) -> Read
-    requires { ⌜ Room (now text) (now words) (now ends) ⌝ }
-    ensures { λ r. ⌜ AnswersText (now (text .entry)) (now (circuit .entry)) (now (circuit .exit)) r ⌝ }
+    requires { ⌜ CutRoom (now text) (now words) (now ends) ⌝ }
+    ensures { λ r. ⌜ TextDone (now (text .entry)) (now (circuit .entry)) (now (circuit .exit)) r ⌝ }
 {
     let found = cut(text, words, ends);
     read_lines(text, &words[..found.words], &ends[..found.lines], circuit)
@@ -302,7 +302,7 @@ fn read_words_in(text: &[u8], words: &mut [u16], ends: &mut [u16], circuit: &mut
 
 fn read_words(text: &[u8], circuit: &mut [u8]) -> Read
     requires { ⌜ length (now text) ≤ 32768 ⌝ }
-    ensures { λ r. ⌜ AnswersText (now (text .entry)) (now (circuit .entry)) (now (circuit .exit)) r ⌝ }
+    ensures { λ r. ⌜ TextDone (now (text .entry)) (now (circuit .entry)) (now (circuit .exit)) r ⌝ }
 {
     let mut words = [0u16; 16385];
     let mut ends = [0u16; 32769];

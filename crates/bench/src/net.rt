@@ -9,16 +9,16 @@ use records::put_records;
 ghost use mathlib.Core.Path.{_≡_};
 ghost use lib.ListN.{length};
 ghost use Rattle.records.specs.Net.{recordsOf};
-ghost use Rattle.records.specs.Owed.{netOf, Fits};
+ghost use Rattle.records.specs.Owed.{netOf, PutRecordsReady};
 ghost use Rattle.bench.specs.Promise.{bufferRules};
-ghost use Rattle.bench.specs.Owed.{Answers, AnswersRecords, AnswersNet, Whole, Ordered, Resolved};
+ghost use Rattle.bench.specs.Owed.{ReadDone, RecordsDone, NetDone, LayReady, ReadOrderReady, ReadNetReady};
 
 // ---- from the records to the lent buffer
 
 // Refusal 10, or the records in the buffer.
 fn lay(records: &[u8], n: usize, circuit: &mut [u8]) -> Read
-    requires { ⌜ Whole (now records) n ⌝ }
-    ensures { λ r. ⌜ Answers (bufferRules (length (now (circuit .entry)))) (now (records .entry)) (now (circuit .entry)) (now (circuit .exit)) r ⌝ }
+    requires { ⌜ LayReady (now records) n ⌝ }
+    ensures { λ r. ⌜ ReadDone (bufferRules (length (now (circuit .entry)))) (now (records .entry)) (now (circuit .entry)) (now (circuit .exit)) r ⌝ }
 {
     if circuit.len() != 16384 {
         return Read::Refused(10, 0);
@@ -29,7 +29,7 @@ fn lay(records: &[u8], n: usize, circuit: &mut [u8]) -> Read
 
 // The circuit check on the records.
 fn hand_over(records: &[u8], circuit: &mut [u8]) -> Read
-    ensures { λ r. ⌜ AnswersRecords (now (records .entry)) (now (circuit .entry)) (now (circuit .exit)) r ⌝ }
+    ensures { λ r. ⌜ RecordsDone (now (records .entry)) (now (circuit .entry)) (now (circuit .exit)) r ⌝ }
 {
     let v = check(records);
     match v {
@@ -51,8 +51,8 @@ fn read_order_in(
     records: &mut [u8],
     circuit: &mut [u8],
 ) -> Read
-    requires { ⌜ Fits (netOf inputs (now kinds) (now firsts) (now seconds) (now outs)) (now order) (now records) ⌝ }
-    ensures { λ r. ⌜ AnswersRecords (recordsOf (netOf inputs (now (kinds .entry)) (now (firsts .entry)) (now (seconds .entry)) (now (outs .entry)))) (now (circuit .entry)) (now (circuit .exit)) r ⌝ }
+    requires { ⌜ PutRecordsReady (netOf inputs (now kinds) (now firsts) (now seconds) (now outs)) (now order) (now records) ⌝ }
+    ensures { λ r. ⌜ RecordsDone (recordsOf (netOf inputs (now (kinds .entry)) (now (firsts .entry)) (now (seconds .entry)) (now (outs .entry)))) (now (circuit .entry)) (now (circuit .exit)) r ⌝ }
 {
     put_records(inputs, kinds, firsts, seconds, outs, order, records);
     hand_over(records, circuit)
@@ -68,8 +68,8 @@ fn read_order(
     order: &[u16],
     circuit: &mut [u8],
 ) -> Read
-    requires { ⌜ Ordered (netOf inputs (now kinds) (now firsts) (now seconds) (now outs)) (now order) ⌝ }
-    ensures { λ r. ⌜ AnswersRecords (recordsOf (netOf inputs (now (kinds .entry)) (now (firsts .entry)) (now (seconds .entry)) (now (outs .entry)))) (now (circuit .entry)) (now (circuit .exit)) r ⌝ }
+    requires { ⌜ ReadOrderReady (netOf inputs (now kinds) (now firsts) (now seconds) (now outs)) (now order) ⌝ }
+    ensures { λ r. ⌜ RecordsDone (recordsOf (netOf inputs (now (kinds .entry)) (now (firsts .entry)) (now (seconds .entry)) (now (outs .entry)))) (now (circuit .entry)) (now (circuit .exit)) r ⌝ }
 {
     let n = inputs + firsts.len();
     if 2048 < n {
@@ -98,8 +98,8 @@ fn read_net_in(
     order: &mut [u16],
     circuit: &mut [u8],
 ) -> Read
-    requires { ⌜ Resolved (netOf inputs (now kinds) (now firsts) (now seconds) (now outs)) × (length (now order) ≡ length (now firsts)) ⌝ }
-    ensures { λ r. ⌜ AnswersNet (netOf inputs (now (kinds .entry)) (now (firsts .entry)) (now (seconds .entry)) (now (outs .entry))) (now (circuit .entry)) (now (circuit .exit)) r ⌝ }
+    requires { ⌜ ReadNetReady (netOf inputs (now kinds) (now firsts) (now seconds) (now outs)) × (length (now order) ≡ length (now firsts)) ⌝ }
+    ensures { λ r. ⌜ NetDone (netOf inputs (now (kinds .entry)) (now (firsts .entry)) (now (seconds .entry)) (now (outs .entry))) (now (circuit .entry)) (now (circuit .exit)) r ⌝ }
 {
     let v = arrange(firsts, seconds, order);
     match v {
@@ -117,8 +117,8 @@ pub fn read_net(
     outs: &[u16],
     circuit: &mut [u8],
 ) -> Read
-    requires { ⌜ Resolved (netOf inputs (now kinds) (now firsts) (now seconds) (now outs)) ⌝ }
-    ensures { λ r. ⌜ AnswersNet (netOf inputs (now (kinds .entry)) (now (firsts .entry)) (now (seconds .entry)) (now (outs .entry))) (now (circuit .entry)) (now (circuit .exit)) r ⌝ }
+    requires { ⌜ ReadNetReady (netOf inputs (now kinds) (now firsts) (now seconds) (now outs)) ⌝ }
+    ensures { λ r. ⌜ NetDone (netOf inputs (now (kinds .entry)) (now (firsts .entry)) (now (seconds .entry)) (now (outs .entry))) (now (circuit .entry)) (now (circuit .exit)) r ⌝ }
 {
     let mut order = [0u16; 8192];
     let gates = firsts.len();

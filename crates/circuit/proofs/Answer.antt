@@ -18,14 +18,14 @@ use Rattle.answers.proofs.Records.{records-same}
 use Rattle.circuit.specs.declared.Checked.{Checked}
 use Rattle.circuit.specs.declared.Checked.the-variants.{Accepted, Refused}
 use Rattle.circuit.specs.Record.{linesOf, isInput, inputsOf, outputsOf, byteIs}
-use Rattle.circuit.specs.Promise.{layoutRules, countRules, circuitRules, countedOf, checkOf, numbersOf, Checks}
+use Rattle.circuit.specs.Promise.{layoutRules, countRules, circuitRules, countedOf, checkOf, checkedNumbers, Checks}
 use Rattle.circuit.proofs.Lines.{layout-same}
 
 pub checks : (c : List ℕ) {r : Checked} → r ≡ checkOf c → Checks c r
-unfolding checkOf numbersOf
+unfolding checkOf checkedNumbers
 checks c e = record {
   answer = e;
-  numbers = ap numbersOf e ∙ numbers-told numbersOf (λ m k. refl) (refusal (circuitRules c)) (Accepted (linesOf c) (inputsOf c) (outputsOf c));
+  numbers = ap checkedNumbers e ∙ numbers-told checkedNumbers (λ m k. refl) (refusal (circuitRules c)) (Accepted (linesOf c) (inputsOf c) (outputsOf c));
 }
 
 pub layout-refused : (c : List ℕ) (x y : ℕ) → refusal (layoutRules c) ≡ Ruling.Refused x y → Refused x y ≡ checkOf c

@@ -42,11 +42,11 @@ unfoldable pub checkOf : List ℕ → Checked
 checkOf c = answered Refused (refusal (circuitRules c)) (Accepted (linesOf c) (inputsOf c) (outputsOf c))
 
 -- the paper's number and values for each case of the answer
-unfoldable pub numbersOf : Checked → Numbers
-numbersOf (Accepted n m o) = success n m o
-numbersOf (Refused number place) = refusedAt number place
+unfoldable pub checkedNumbers : Checked → Numbers
+checkedNumbers (Accepted n m o) = success n m o
+checkedNumbers (Refused number place) = refusedAt number place
 
 -- the promise, whatever the bytes: the answer's case, and its number and values
 pub record Checks (c : List ℕ) (r : Checked) : Type 0 where
   pub answer : r ≡ checkOf c
-  pub numbers : numbersOf r ≡ told (refusal (circuitRules c)) (success (linesOf c) (inputsOf c) (outputsOf c))
+  pub numbers : checkedNumbers r ≡ told (refusal (circuitRules c)) (success (linesOf c) (inputsOf c) (outputsOf c))

@@ -31,36 +31,36 @@ use Rattle.cnf.proofs.Sizes.{words-length}
 use Rattle.clauses.specs.declared.Written.{Written}
 use Rattle.clauses.specs.declared.Written.the-variants.{Success, Refused}
 use Rattle.line_clauses.specs.Clauses.{clausesOf, variablesOf}
-use Rattle.clauses.specs.Promise.{roomRules, clausesFor, wordsFor, clauseRules, writtenOf, numbersOf, laidOn, Writes}
-use Rattle.clauses.specs.Owed.{Counted, WholeRoom, Answers}
+use Rattle.clauses.specs.Promise.{roomRules, clausesFor, wordsFor, clauseRules, writtenOf, writtenNumbers, laidOn, Writes}
+use Rattle.clauses.specs.Owed.{WholeReady, WholeRoom, ClausesDone}
 
 -- ---- rule by rule
 
 takes-words : {cs : Clauses} {size : Size} → Takes cs size → size .words ≡ length (wordsOf cs)
 takes-words {cs} t = t .words ∙ sym (words-length cs)
 
-pub whole-room : {c : List ℕ} {f : Fault} {n outputs : ℕ} {size : Size} {w : List ℤ} → Counted c n outputs → Takes (clausesOf c f n) size → size .words ≤ length w → WholeRoom c f n outputs w
+pub whole-room : {c : List ℕ} {f : Fault} {n outputs : ℕ} {size : Size} {w : List ℤ} → WholeReady c n outputs → Takes (clausesOf c f n) size → size .words ≤ length w → WholeRoom c f n outputs w
 whole-room p t l = record { counted = p; room = omega (arith, takes-words t) }
 
 module _ {cs : Clauses} {v : ℕ} {w : List ℤ} where
-  pub short : {size : Size} → Takes cs size → length w < size .words → Answers (roomRules (length (wordsOf cs)) (length w)) cs v w w (Refused 11 (size .words))
+  pub short : {size : Size} → Takes cs size → length w < size .words → ClausesDone (roomRules (length (wordsOf cs)) (length w)) cs v w w (Refused 11 (size .words))
   unfolding roomRules refusal said
   short {size} t l =
       let q : leb (length (wordsOf cs)) (length w) ≡ false = lt-leb (length (wordsOf cs)) (length w) (omega (arith, takes-words t)) in
       record { answer = rw (q, takes-words t); words = rw q }
 
   pub fits : {size : Size} {w′ : List ℤ} {variables : ℕ} → Takes cs size → variables ≡ v → size .words ≤ length w → w′ ≡ laidOn w (wordsOf cs)
-      → Answers (roomRules (length (wordsOf cs)) (length w)) cs v w w′ (Success (size .words) (size .clauses) variables)
+      → ClausesDone (roomRules (length (wordsOf cs)) (length w)) cs v w w′ (Success (size .words) (size .clauses) variables)
   unfolding roomRules refusal said
   fits {size} t d l e =
       let q : leb (length (wordsOf cs)) (length w) ≡ true = le-leb (length (wordsOf cs)) (length w) (omega (arith, takes-words t)) in
       record { answer = rw (q, takes-words t, t .clauses, d); words = rw q e }
 
   -- a refusal ends it; where there is none, the rules after it decide
-  pub first-refused : (rules more : List Rule) {number place : ℕ} → refusal rules ≡ Ruling.Refused number place → Answers (rules ++ more) cs v w w (Refused number place)
+  pub first-refused : (rules more : List Rule) {number place : ℕ} → refusal rules ≡ Ruling.Refused number place → ClausesDone (rules ++ more) cs v w w (Refused number place)
   first-refused rules more e = record { answer = rw (after-refused rules more e); words = rw (after-refused rules more e) }
 
-  pub first-fine : (rules more : List Rule) {w′ : List ℤ} {r : Written} → refusal rules ≡ Ruling.Fine → Answers more cs v w w′ r → Answers (rules ++ more) cs v w w′ r
+  pub first-fine : (rules more : List Rule) {w′ : List ℤ} {r : Written} → refusal rules ≡ Ruling.Fine → ClausesDone more cs v w w′ r → ClausesDone (rules ++ more) cs v w w′ r
   first-fine rules more e p = record { answer = rw (after-fine rules more e) (p .answer); words = rw (after-fine rules more e) (p .words) }
 
 -- the fault that is not refused is one record
@@ -72,7 +72,7 @@ pub any-inputs : {c : List ℕ} {n m o : ℕ} → Accepts c n m o → Accepts c 
 any-inputs a = rw (a .inputs) at a
 
 -- the circuit that the check accepts
-pub counted : {c : List ℕ} {n m o : ℕ} → Accepts c n m o → Counted c n o
+pub counted : {c : List ℕ} {n m o : ℕ} → Accepts c n m o → WholeReady c n o
 counted {c} {n} {m} {o} a =
     let few : n ≤ 2048 = omega (arith, a .lines, a .good .most-lines) in
     let e : o ≡ outputsBefore c n = a .outputs ∙ ap (outputsBefore c) (sym (a .lines)) in
@@ -82,11 +82,11 @@ counted {c} {n} {m} {o} a =
       few-outputs = omega (arith, count-most n (isOutput c));
     }
 
-pub writes : {c fs : List ℕ} {w w′ : List ℤ} {r : Written} → Answers (clauseRules c fs (length w)) (clausesFor c (faultAt fs 0)) (variablesOf c (linesOf c)) w w′ r → Writes c fs w w′ r
-unfolding writtenOf numbersOf
+pub writes : {c fs : List ℕ} {w w′ : List ℤ} {r : Written} → ClausesDone (clauseRules c fs (length w)) (clausesFor c (faultAt fs 0)) (variablesOf c (linesOf c)) w w′ r → Writes c fs w w′ r
+unfolding writtenOf writtenNumbers
 writes {c} {fs} {w} p = record {
   answer = p .answer;
-  numbers = ap numbersOf (p .answer) ∙ numbers-told numbersOf (λ x y. refl) (refusal (clauseRules c fs (length w))) _;
+  numbers = ap writtenNumbers (p .answer) ∙ numbers-told writtenNumbers (λ x y. refl) (refusal (clauseRules c fs (length w))) _;
   words = p .words;
 }
 

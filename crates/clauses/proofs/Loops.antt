@@ -17,7 +17,7 @@ use Rattle.ground.proofs.Gather.{gather-mono}
 use Rattle.cnf.proofs.Decode.{words-append, words-gather}
 use Rattle.ground.proofs.Put.{put-none, put-one, put-long, put-then}
 use Rattle.line_clauses.specs.Clauses.{differenceVar, differenceClauses, differences}
-use Rattle.line_clauses.specs.Owed.{Circuit, LineRoom, DifferenceRoom}
+use Rattle.line_clauses.specs.Owed.{CircuitReady, LineRoom, DifferenceRoom}
 
 -- ---- the lines: the first k of n have been written
 
@@ -35,7 +35,7 @@ piece-inside piece n k l =
     (rw (words-gather piece (suc k), words-gather piece n) (gather-mono (λ i. wordsOf (piece i)) (suc k) n l))
 
 module _ {piece : ℕ → Clauses} {n : ℕ} {w₀ : List ℤ} {at : ℕ} {w : List ℤ} {next k : ℕ} (so : SoFar piece n w₀ at w next k) where
-  pub line-room : {c : List ℕ} → Circuit c n → at + length (wordsOf (gather piece n)) ≤ length w₀ → k < n → LineRoom c n k (piece k) w next
+  pub line-room : {c : List ℕ} → CircuitReady c n → at + length (wordsOf (gather piece n)) ≤ length w₀ → k < n → LineRoom c n k (piece k) w next
   line-room p r l = record {
     line = record { circuit = p; inside = l };
     room = omega (arith, piece-inside piece n k l, put-long (so .put), so .put .next-is);

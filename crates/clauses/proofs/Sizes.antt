@@ -16,11 +16,11 @@ use Rattle.lists.specs.declared.Fault.{Fault}
 use Rattle.cnf.specs.declared.Size.{Size}
 use Rattle.ground.specs.Lists.{gather}
 use Rattle.cnf.specs.Cnf.{Clauses}
-use Rattle.cnf.specs.Table.{table, gateClauses, sites}
+use Rattle.cnf.specs.Table.{clauseTable, gateClauses, sites}
 use Rattle.cnf.specs.Write.{sizeOf, Takes}
 use Rattle.cnf.proofs.Sizes.{size-append, Measure, in-words, in-clauses, measure-both}
 use Rattle.line_clauses.specs.Clauses.{differenceVar, goodVar, faultyVar, goodClauses, faultyClauses, differenceClauses, differences, clausesOf}
-use Rattle.line_clauses.specs.Owed.{LineTakes}
+use Rattle.line_clauses.specs.Owed.{LineSizeDone}
 
 -- ---- the loop: what the first k lines take
 
@@ -38,7 +38,7 @@ pub size-none : (c : List ℕ) (f : Fault) (n : ℕ) → SizeSoFar c f n 0 0 0
 size-none c f n = record { at-most = omega arith; words-are = refl; clauses-are = refl; few-words = omega arith; few-clauses = omega arith }
 
 module _ {c : List ℕ} {f : Fault} {n words clauses k : ℕ} (so : SizeSoFar c f n words clauses k) where
-  pub size-more : {r : Size} → k < n → LineTakes c f n k r → SizeSoFar c f n (words + r .words) (clauses + r .clauses) (k + 1)
+  pub size-more : {r : Size} → k < n → LineSizeDone c f n k r → SizeSoFar c f n (words + r .words) (clauses + r .clauses) (k + 1)
   size-more {r} l p = record {
     at-most = omega arith;
     words-are = rw (add-one, size-append, so .words-are, p .takes .words);
@@ -64,11 +64,11 @@ module _ {measure : Clauses → ℕ} (m : Measure measure) (much : ℕ) (xor : (
   at-outputs (suc k) = m .add (gather (differenceClauses c n) k) (differenceClauses c n k) ∙ rw (at-outputs k, at-line k, mul-add)
 
 xor-words : (number : ℕ → ℕ) → sizeOf (gateClauses 7 number) ≡ 16
-unfolding gateClauses table
+unfolding gateClauses clauseTable
 xor-words number = refl
 
 xor-clauses : (number : ℕ → ℕ) → length (gateClauses 7 number) ≡ 4
-unfolding gateClauses table
+unfolding gateClauses clauseTable
 xor-clauses number = refl
 
 pub differences-length : (n m : ℕ) → length (differences n m) ≡ m

@@ -13,29 +13,29 @@ use Rattle.lists.specs.Faults.{faultAt, faultRules}
 use Rattle.ground.specs.Lists.{gather}
 use Rattle.cnf.specs.Cnf.{Clauses, wordsOf}
 use Rattle.line_clauses.specs.Clauses.{clausesOf, variablesOf}
-use Rattle.line_clauses.specs.Owed.{Circuit}
+use Rattle.line_clauses.specs.Owed.{CircuitReady}
 use Rattle.clauses.specs.declared.Written.{Written}
 use Rattle.clauses.specs.declared.Written.the-variants.{Success, Refused}
 use Rattle.clauses.specs.Promise.{roomRules, laidOn}
 
 -- an accepted circuit of n lines with so many outputs
-pub record Counted (c : List ℕ) (n outputs : ℕ) : Type 0 where
-  pub circuit : Circuit c n
+pub record WholeReady (c : List ℕ) (n outputs : ℕ) : Type 0 where
+  pub circuit : CircuitReady c n
   pub outputs-are : outputs ≡ outputsBefore c n
   pub few-outputs : outputs ≤ 2048
 
 -- room from `at` on for what all the lines bring
 pub record LinesRoom (c : List ℕ) (n : ℕ) (piece : ℕ → Clauses) (w : List ℤ) (at : ℕ) : Type 0 where
-  pub circuit : Circuit c n
+  pub circuit : CircuitReady c n
   pub room : at + length (wordsOf (gather piece n)) ≤ length w
 
 pub record WholeRoom (c : List ℕ) (f : Fault) (n outputs : ℕ) (w : List ℤ) : Type 0 where
-  pub counted : Counted c n outputs
+  pub counted : WholeReady c n outputs
   pub room : length (wordsOf (clausesOf c f n)) ≤ length w
 
 -- ---- the answer and the words afterwards, where these are the rules, the clauses and the number of variables
 
-pub record Answers (rules : List Rule) (cs : Clauses) (variables : ℕ) (w w′ : List ℤ) (r : Written) : Type 0 where
+pub record ClausesDone (rules : List Rule) (cs : Clauses) (variables : ℕ) (w w′ : List ℤ) (r : Written) : Type 0 where
   pub answer : r ≡ answered Refused (refusal rules) (Success (length (wordsOf cs)) (length cs) variables)
   pub words : w′ ≡ unless (refusal rules) w (laidOn w (wordsOf cs))
 
@@ -43,11 +43,11 @@ pub record Answers (rules : List Rule) (cs : Clauses) (variables : ℕ) (w w′ 
 abbrev pub fitRules : List ℕ → Fault → ℕ → ℕ → List Rule
 fitRules c f n room = roomRules (length (wordsOf (clausesOf c f n))) room
 
-abbrev pub FitAnswers : List ℕ → Fault → ℕ → List ℤ → List ℤ → Written → Type 0
-FitAnswers c f n w w′ r = Answers (fitRules c f n (length w)) (clausesOf c f n) (variablesOf c n) w w′ r
+abbrev pub FitDone : List ℕ → Fault → ℕ → List ℤ → List ℤ → Written → Type 0
+FitDone c f n w w′ r = ClausesDone (fitRules c f n (length w)) (clausesOf c f n) (variablesOf c n) w w′ r
 
 -- and those left once the circuit is accepted: the fault's come first
-abbrev pub RestAnswers : List ℕ → List ℕ → ℕ → List ℤ → List ℤ → Written → Type 0
-RestAnswers c fs n w w′ r =
+abbrev pub RestDone : List ℕ → List ℕ → ℕ → List ℤ → List ℤ → Written → Type 0
+RestDone c fs n w w′ r =
     let f = faultAt fs 0 in
-    Answers (faultRules 1 c fs ++ fitRules c f n (length w)) (clausesOf c f n) (variablesOf c n) w w′ r
+    ClausesDone (faultRules 1 c fs ++ fitRules c f n (length w)) (clausesOf c f n) (variablesOf c n) w w′ r

@@ -41,9 +41,9 @@ writtenOf c fs room =
     (Success (length (wordsFor c (faultAt fs 0))) (length (clausesFor c (faultAt fs 0))) (variablesOf c (linesOf c)))
 
 -- the paper's number and values for each case of the answer
-unfoldable pub numbersOf : Written → Numbers
-numbersOf (Success w l v) = success w l v
-numbersOf (Refused number place) = refusedAt number place
+unfoldable pub writtenNumbers : Written → Numbers
+writtenNumbers (Success w l v) = success w l v
+writtenNumbers (Refused number place) = refusedAt number place
 
 -- the words v, and then what stood there
 abbrev pub laidOn : List ℤ → List ℤ → List ℤ
@@ -53,6 +53,6 @@ laidOn w v = v ++ drop (length v) w
 pub record Writes (c fs : List ℕ) (w w′ : List ℤ) (r : Written) : Type 0 where
   pub answer : r ≡ writtenOf c fs (length w)
   pub numbers :
-      numbersOf r
+      writtenNumbers r
       ≡ told (refusal (clauseRules c fs (length w))) (success (length (wordsFor c (faultAt fs 0))) (length (clausesFor c (faultAt fs 0))) (variablesOf c (linesOf c)))
   pub words : w′ ≡ unless (refusal (clauseRules c fs (length w))) w (laidOn w (wordsFor c (faultAt fs 0)))

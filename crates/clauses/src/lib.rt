@@ -27,7 +27,7 @@ ghost use Rattle.line_clauses.specs.Clauses.{stuckLiteral, goodClauses, faultyC
 ghost use Rattle.clauses.specs.Promise.{laidOn, Writes};
 ghost use Rattle.circuit.specs.Record.{inputsOf};
 ghost use Rattle.circuit.specs.Formed.{Accepts};
-ghost use Rattle.clauses.specs.Owed.{Counted, LinesRoom, WholeRoom, FitAnswers, RestAnswers};
+ghost use Rattle.clauses.specs.Owed.{WholeReady, LinesRoom, WholeRoom, FitDone, RestDone};
 
 // What the writer answers.
 pub enum Written {
@@ -41,7 +41,7 @@ pub enum Written {
 
 // The whole list.
 fn whole_size(circuit: &[u8], fault: Fault, n: usize, outputs: usize) -> Size
-    requires { ⌜ Counted (now circuit) n outputs ⌝ }
+    requires { ⌜ WholeReady (now circuit) n outputs ⌝ }
     ensures { λ r. ⌜ Takes (clausesOf (now (circuit .entry)) fault n) r ⌝ }
 {
     let mut words = 0;
@@ -147,8 +147,8 @@ fn put_all(circuit: &[u8], fault: Fault, n: usize, outputs: usize, words: &mut [
 
 // On an accepted circuit and a fault of it: the list, if it fits.
 fn fitted(circuit: &[u8], fault: Fault, n: usize, outputs: usize, words: &mut [i32]) -> Written
-    requires { ⌜ Counted (now circuit) n outputs ⌝ }
-    ensures { λ r. ⌜ FitAnswers (now (circuit .entry)) fault n (now (words .entry)) (now (words .exit)) r ⌝ }
+    requires { ⌜ WholeReady (now circuit) n outputs ⌝ }
+    ensures { λ r. ⌜ FitDone (now (circuit .entry)) fault n (now (words .entry)) (now (words .exit)) r ⌝ }
 {
     let size = whole_size(circuit, fault, n, outputs);
     let need = size.words;
@@ -162,7 +162,7 @@ fn fitted(circuit: &[u8], fault: Fault, n: usize, outputs: usize, words: &mut [i
 // On an accepted circuit: the fault's refusals, then the list.
 fn accepted(circuit: &[u8], fault: &[u8], n: usize, outputs: usize, words: &mut [i32]) -> Written
     requires { ⌜ Accepts (now circuit) n (inputsOf (now circuit)) outputs ⌝ }
-    ensures { λ r. ⌜ RestAnswers (now (circuit .entry)) (now (fault .entry)) n (now (words .entry)) (now (words .exit)) r ⌝ }
+    ensures { λ r. ⌜ RestDone (now (circuit .entry)) (now (fault .entry)) n (now (words .entry)) (now (words .exit)) r ⌝ }
 {
     let v = check_faults(circuit, fault, 1);
     match v {

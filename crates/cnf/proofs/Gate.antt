@@ -17,7 +17,7 @@ use Rattle.gates.specs.Gate.{lastKind}
 use Rattle.gates.specs.Boolean.{boolGate}
 use Rattle.cnf.specs.Lists.{anyOf, allOf}
 use Rattle.cnf.specs.Cnf.{Assignment, truth, satisfied, literalTo, variablesTo}
-use Rattle.cnf.specs.Table.{Literal, table, wordOf, gateClauses}
+use Rattle.cnf.specs.Table.{Literal, clauseTable, wordOf, gateClauses}
 use Rattle.cnf.proofs.Lists.{all-same, any-same, map-same, all-weaker, all-map}
 use Rattle.cnf.proofs.Decode.{plus-literal, minus-literal, minus-truth}
 
@@ -31,13 +31,13 @@ siteOk : Literal → Bool
 siteOk l = leb (siteOf l) 2
 
 sitesTest : ℕ → Bool
-sitesTest kind = allOf (allOf siteOk) (table kind)
+sitesTest kind = allOf (allOf siteOk) (clauseTable kind)
 
 sites-all : T (allBelow (suc lastKind) sitesTest)
-unfolding sitesTest siteOk siteOf table
+unfolding sitesTest siteOk siteOf clauseTable
 sites-all = tt
 
-sites-ok : (kind : ℕ) → kind ≤ lastKind → allOf (allOf siteOk) (table kind) ≡ true
+sites-ok : (kind : ℕ) → kind ≤ lastKind → allOf (allOf siteOk) (clauseTable kind) ≡ true
 unfolding sitesTest
 sites-ok kind l = T-is _ (at-below (suc lastKind) sitesTest sites-all kind (omega arith))
 
@@ -56,7 +56,7 @@ at-site P own first second l e = go (siteOf l) (leb-true (siteOf l) 2 e)
 pub gate-sites : (kind : ℕ) (m n : ℕ → ℕ) → kind ≤ lastKind → m 0 ≡ n 0 → m 1 ≡ n 1 → m 2 ≡ n 2 → gateClauses kind m ≡ gateClauses kind n
 unfolding gateClauses siteOf
 gate-sites kind m n last own first second =
-    map-same (allOf siteOk) (map (wordOf m)) (map (wordOf n)) (map-same siteOk (wordOf m) (wordOf n) words) (table kind) (sites-ok kind last)
+    map-same (allOf siteOk) (map (wordOf m)) (map (wordOf n)) (map-same siteOk (wordOf m) (wordOf n) words) (clauseTable kind) (sites-ok kind last)
   where
     words : (l : Literal) → siteOk l ≡ true → wordOf m l ≡ wordOf n l
     words (Literal.plus s) e = ap pos (at-site (λ s. m s ≡ n s) own first second (Literal.plus s) e)
@@ -69,7 +69,7 @@ NumberTo v n = (1 ≤ n) × (n ≤ v)
 pub gate-variables : (v kind : ℕ) (number : ℕ → ℕ) → kind ≤ lastKind → NumberTo v (number 0) → NumberTo v (number 1) → NumberTo v (number 2) → variablesTo v (gateClauses kind number) ≡ true
 unfolding gateClauses siteOf
 gate-variables v kind number last own first second =
-    all-map (allOf (literalTo v)) (map (wordOf number)) (table kind) ∙ all-weaker (allOf siteOk) _ clause (table kind) (sites-ok kind last)
+    all-map (allOf (literalTo v)) (map (wordOf number)) (clauseTable kind) ∙ all-weaker (allOf siteOk) _ clause (clauseTable kind) (sites-ok kind last)
   where
     to : (l : Literal) → siteOk l ≡ true → NumberTo v (number (siteOf l))
     to = at-site (λ s. NumberTo v (number s)) own first second
@@ -102,13 +102,13 @@ giving : List Bool → ℕ → Bool
 giving l s = getD l s false
 
 rowTest : ℕ → List Bool → Bool
-rowTest kind l = Bool·beq (allOf (anyOf (truthAt (giving l))) (table kind)) (Bool·beq (giving l 0) (boolGate kind (giving l)))
+rowTest kind l = Bool·beq (allOf (anyOf (truthAt (giving l))) (clauseTable kind)) (Bool·beq (giving l 0) (boolGate kind (giving l)))
 
 rowsTest : ℕ → Bool
 rowsTest kind = eqb kind 0 || atAll 3 (rowTest kind)
 
 rows-all : T (allBelow (suc lastKind) rowsTest)
-unfolding rowsTest atAll rowTest giving truthAt table boolGate
+unfolding rowsTest atAll rowTest giving truthAt clauseTable boolGate
 rows-all = tt
 
 beq-is : (a b : Bool) → T (Bool·beq a b) → a ≡ b
@@ -130,11 +130,11 @@ module _ (kind : ℕ) (x : ℕ → Bool) (some : 1 ≤ kind) (last : kind ≤ la
   unfolding rowsTest three
   row-test = at-all (rowTest kind) three (simp (ne-eqb kind 0 (omega arith)) at (at-below (suc lastKind) rowsTest rows-all kind (omega arith)))
 
-  row : allOf (anyOf (truthAt x)) (table kind) ≡ Bool·beq (x 0) (boolGate kind x)
+  row : allOf (anyOf (truthAt x)) (clauseTable kind) ≡ Bool·beq (x 0) (boolGate kind x)
   unfolding rowTest giving three boolGate
   row =
       all-same (allOf siteOk) (anyOf (truthAt x)) (anyOf (truthAt (giving three)))
-      (any-same siteOk (truthAt x) (truthAt (giving three)) truth-is) (table kind) (sites-ok kind last)
+      (any-same siteOk (truthAt x) (truthAt (giving three)) truth-is) (clauseTable kind) (sites-ok kind last)
       ∙ beq-is _ _ row-test
 
 -- ---- the law: an assignment satisfies a gate's clauses exactly if its own variable has the gate's value
@@ -155,9 +155,9 @@ module _ (σ : Assignment) (kind : ℕ) (number : ℕ → ℕ) (numbered : (s : 
 
   pub gate-law : 1 ≤ kind → kind ≤ lastKind → satisfied σ (gateClauses kind number) ≡ Bool·beq (σ (number 0)) (boolGate kind (λ s. σ (number s)))
   unfolding gateClauses
-  gate-law some last = clauses-truth (table kind) ∙ row kind (λ s. σ (number s)) some last
+  gate-law some last = clauses-truth (clauseTable kind) ∙ row kind (λ s. σ (number s)) some last
 
 -- an input has no clauses
 pub no-clauses : (kind : ℕ) (number : ℕ → ℕ) → kind ≡ 0 → gateClauses kind number ≡ []
-unfolding gateClauses table
+unfolding gateClauses clauseTable
 no-clauses kind number e = rw e

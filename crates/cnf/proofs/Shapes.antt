@@ -1,4 +1,4 @@
--- The rows of the table, as the code writes them: a buffer, an AND or a XOR with some literals negated.
+-- The rows of the clauseTable, as the code writes them: a buffer, an AND or a XOR with some literals negated.
 -- Assumes nothing.
 use mathlib.Core.Path.{_≡_, refl, ap, _∙_}
 use mathlib.Core.Bool.{Bool, true, false, not}
@@ -12,7 +12,7 @@ use borrow.Author.Tests.{ne-eqb}
 use Rattle.ground.specs.Choose.{choose}
 use Rattle.gates.specs.Gate.{lastKind}
 use Rattle.cnf.specs.Cnf.{wordsOf}
-use Rattle.cnf.specs.Table.{table, gateClauses, sites}
+use Rattle.cnf.specs.Table.{clauseTable, gateClauses, sites}
 use Rattle.cnf.specs.Write.{signed, byShape, shapeWords, isOneOf, gateWords}
 use Rattle.cnf.proofs.Gate.{no-clauses}
 
@@ -21,7 +21,7 @@ abbrev signedWords : ℕ → Bool → Bool → ℕ → ℕ → ℕ → List ℤ
 signedWords kind t u y a b = shapeWords kind (signed t y) (signed (not t) y) (signed u a) (signed (not u) a) (signed u b) (signed (not u) b)
 
 shapes : (kind y a b : ℕ) → kind ≤ lastKind → gateWords kind (sites y a b) ≡ choose (eqb kind 0) [] (signedWords kind (isOneOf kind 4 5 8) (isOneOf kind 2 5 6) y a b)
-unfolding gateClauses table signed byShape isOneOf
+unfolding gateClauses clauseTable signed byShape isOneOf
 shapes zero y a b h = refl
 shapes (suc zero) y a b h = refl
 shapes (suc (suc zero)) y a b h = refl

@@ -16,7 +16,7 @@ use Rattle.ground.proofs.Below.{at-below}
 use Rattle.gates.specs.Gate.{lastKind}
 use Rattle.cnf.specs.declared.Size.{Size}
 use Rattle.cnf.specs.Cnf.{Clauses, wordsOf}
-use Rattle.cnf.specs.Table.{table, wordOf, gateClauses}
+use Rattle.cnf.specs.Table.{clauseTable, wordOf, gateClauses}
 use Rattle.cnf.specs.Write.{byShape, sizeOf, Takes}
 
 pub words-length : (clauses : Clauses) → length (wordsOf clauses) ≡ sizeOf clauses
@@ -48,13 +48,13 @@ measure-both m p q zero = omega (arith, m .none)
 measure-both m p q (suc n) = simp (m .add, measure-both m p q n) (omega arith)
 
 module _ (kind : ℕ) (number : ℕ → ℕ) where
-  pub gate-size : sizeOf (gateClauses kind number) ≡ sizeOf (table kind)
+  pub gate-size : sizeOf (gateClauses kind number) ≡ sizeOf (clauseTable kind)
   unfolding gateClauses
-  gate-size = size-map (wordOf number) (table kind)
+  gate-size = size-map (wordOf number) (clauseTable kind)
 
-  pub gate-length : length (gateClauses kind number) ≡ length (table kind)
+  pub gate-length : length (gateClauses kind number) ≡ length (clauseTable kind)
   unfolding gateClauses
-  gate-length = length-map (table kind) (map (wordOf number))
+  gate-length = length-map (clauseTable kind) (map (wordOf number))
 
 -- ---- by the kind
 
@@ -63,29 +63,29 @@ unfoldable pub byKind : ℕ → ℕ → ℕ → ℕ → ℕ
 byKind kind buffer and xor = choose (eqb kind 0) 0 (byShape kind buffer and xor)
 
 sizeTest : ℕ → Bool
-sizeTest kind = eqb (sizeOf (table kind)) (byKind kind 6 10 16) && eqb (length (table kind)) (byKind kind 2 3 4)
+sizeTest kind = eqb (sizeOf (clauseTable kind)) (byKind kind 6 10 16) && eqb (length (clauseTable kind)) (byKind kind 2 3 4)
 
 fewTest : ℕ → Bool
-fewTest kind = leb (sizeOf (table kind)) 16 && leb (length (table kind)) 4
+fewTest kind = leb (sizeOf (clauseTable kind)) 16 && leb (length (clauseTable kind)) 4
 
 size-all : T (allBelow (suc lastKind) sizeTest)
-unfolding sizeTest byKind byShape table
+unfolding sizeTest byKind byShape clauseTable
 size-all = tt
 
 few-all : T (allBelow (suc lastKind) fewTest)
-unfolding fewTest table
+unfolding fewTest clauseTable
 few-all = tt
 
 module _ (kind : ℕ) (l : kind ≤ lastKind) where
   size-test : T (sizeTest kind)
   size-test = at-below (suc lastKind) sizeTest size-all kind (omega arith)
 
-  pub takes : (r : Size) → r .words ≡ byKind kind 6 10 16 → r .clauses ≡ byKind kind 2 3 4 → Takes (table kind) r
+  pub takes : (r : Size) → r .words ≡ byKind kind 6 10 16 → r .clauses ≡ byKind kind 2 3 4 → Takes (clauseTable kind) r
   unfolding sizeTest
   takes r p q =
-      let h = and-yes (eqb (sizeOf (table kind)) (byKind kind 6 10 16)) _ size-test in
+      let h = and-yes (eqb (sizeOf (clauseTable kind)) (byKind kind 6 10 16)) _ size-test in
       record { words = p ∙ sym (eqb→eq _ _ (h .0)); clauses = q ∙ sym (eqb→eq _ _ (h .1)) }
 
-  pub few : (sizeOf (table kind) ≤ 16) × (length (table kind) ≤ 4)
+  pub few : (sizeOf (clauseTable kind) ≤ 16) × (length (clauseTable kind) ≤ 4)
   unfolding fewTest
-  few = let h = and-yes (leb (sizeOf (table kind)) 16) _ (at-below (suc lastKind) fewTest few-all kind (omega arith)) in (leb→le _ 16 (h .0), leb→le _ 4 (h .1))
+  few = let h = and-yes (leb (sizeOf (clauseTable kind)) 16) _ (at-below (suc lastKind) fewTest few-all kind (omega arith)) in (leb→le _ 16 (h .0), leb→le _ 4 (h .1))

@@ -1,4 +1,4 @@
--- The clauses of a gate, by its kind: the paper's table, over the gate's own value y and its pins a and b.
+-- The clauses of a gate, by its kind: the paper's clauseTable, over the gate's own value y and its pins a and b.
 -- Assumes nothing.
 use mathlib.Core.List.{List, [], _∷_, map}
 use Prim.Native.Nat.{ℕ}
@@ -32,8 +32,8 @@ abbrev -b : Literal
 -b = Literal.minus 2
 
 -- an input, kind 0, has none
-unfoldable pub table : ℕ → List (List Literal)
-table kind =
+unfoldable pub clauseTable : ℕ → List (List Literal)
+clauseTable kind =
     choose (eqb kind 1) ((-y ∷ a ∷ []) ∷ (y ∷ -a ∷ []) ∷ [])
     (choose (eqb kind 2) ((-y ∷ -a ∷ []) ∷ (y ∷ a ∷ []) ∷ [])
     (choose (eqb kind 3) ((-y ∷ a ∷ []) ∷ (-y ∷ b ∷ []) ∷ (y ∷ -a ∷ -b ∷ []) ∷ [])
@@ -50,7 +50,7 @@ wordOf number (Literal.plus s) = pos (number s)
 wordOf number (Literal.minus s) = negℤ (pos (number s))
 
 unfoldable pub gateClauses : ℕ → (ℕ → ℕ) → Clauses
-gateClauses kind number = map (map (wordOf number)) (table kind)
+gateClauses kind number = map (map (wordOf number)) (clauseTable kind)
 
 -- variable y at the gate itself, a and b at its pins
 abbrev pub sites : ℕ → ℕ → ℕ → ℕ → ℕ

@@ -4,7 +4,7 @@ ghost use Prim.Native.Nat.{_+_, _≤_};
 ghost use lib.IntN.{ℤ, negℤ};
 ghost use lib.ListN.{length};
 ghost use Rattle.gates.specs.Gate.{lastKind};
-ghost use Rattle.cnf.specs.Table.{table, sites};
+ghost use Rattle.cnf.specs.Table.{clauseTable, sites};
 ghost use Rattle.ground.specs.Put.{Put};
 ghost use Rattle.cnf.specs.Write.{Variable, signed, single, pair, triple, bufferWords, andWords, xorWords, byShape, shapeWords, isOneOf, gateWords, GateRoom, Takes};
 
@@ -176,7 +176,7 @@ pub fn put_gate(words: &mut [i32], at: usize, kind: u8, y: usize, a: usize, b: u
 // How many words and clauses a gate of this kind takes.
 pub fn size_of(kind: u8) -> Size
     requires { ⌜ kind ≤ lastKind ⌝ }
-    ensures { λ r. ⌜ Takes (table kind) r ⌝ }
+    ensures { λ r. ⌜ Takes (clauseTable kind) r ⌝ }
 {
     if kind == 0 {
         return Size {

@@ -17,32 +17,32 @@ use Rattle.needs.proofs.Words.{meets-is}
 use Rattle.needs.proofs.Turns.{not-kept, kept-other, turn-drops, turn-keeps}
 use Rattle.needs.proofs.Sound.{all-kept, start-meets}
 use Rattle.counts.specs.Counted.{hit, Counted}
-use Rattle.counts.specs.Owed.{Moved, Row, Cells, Saw, neededOf}
+use Rattle.counts.specs.Owed.{CellsDone, RowRoom, CellsRoom, SeeDone, neededOf}
 use Rattle.counts.proofs.Moves.{Bytes}
 use Rattle.counts.proofs.Detected.{SeenTo, seen-none, seen-one, seen-all}
 use Rattle.counts.proofs.Sets.{counted-same, counted-in, counted-out, counted-none}
 use Rattle.counts.proofs.Decided.{decided}
 use Rattle.tables.specs.Table.{Sized}
-use Rattle.compact.specs.Owed.{Sizes, Zeros, AllCounted, Ready, Turned}
+use Rattle.compact.specs.Owed.{CountsRoom, Zeros, CountAllDone, TurnReady, TurnDone}
 
 -- ---- a pattern's row of the table
 
 pub row-inside : (p P F : ℕ) → p < P → p * F + F ≤ P * F
 row-inside p P F l = rw (← suc-mul p F) (mul-le-mul-right F l)
 
-pub row-cells : {c s t : List ℕ} {F P : ℕ} → Sizes c s t F P → (p : ℕ) → p < P → Cells c t (p * F) F
+pub row-cells : {c s t : List ℕ} {F P : ℕ} → CountsRoom c s t F P → (p : ℕ) → p < P → CellsRoom c t (p * F) F
 row-cells {c} {s} {t} {F} {P} z p l = record { few = z .few-faults; cells = z .cells; entries = omega (arith, row-inside p P F l, z .table) }
 
-pub row-faults : {c s t : List ℕ} {F P : ℕ} → Sizes c s t F P → (p : ℕ) → p < P → Row s 0 t (p * F) F
+pub row-faults : {c s t : List ℕ} {F P : ℕ} → CountsRoom c s t F P → (p : ℕ) → p < P → RowRoom s 0 t (p * F) F
 row-faults {c} {s} {t} {F} {P} z p l = record { cells = omega (arith, z .faults, z .few-faults); entries = omega (arith, row-inside p P F l, z .table) }
 
 -- other memory of the same size
-pub sizes-after : {c s t : List ℕ} {F P : ℕ} (d r : List ℕ) → Sizes c s t F P → length d ≡ length c → length r ≡ length s → Sizes d r t F P
+pub sizes-after : {c s t : List ℕ} {F P : ℕ} (d r : List ℕ) → CountsRoom c s t F P → length d ≡ length c → length r ≡ length s → CountsRoom d r t F P
 sizes-after d r z e f = record { few-faults = z .few-faults; few-patterns = z .few-patterns; cells = rw e (z .cells); faults = f ∙ z .faults; table = z .table }
 
 -- ---- the start
 
-start-sizes : (n k : ℕ) (t : List ℕ) (F P : ℕ) → 256 * F + F ≤ n → k ≡ 256 → Sized F P (length t) → Sizes (replicate n 0) (replicate k 0) t F P
+start-sizes : (n k : ℕ) (t : List ℕ) (F P : ℕ) → 256 * F + F ≤ n → k ≡ 256 → Sized F P (length t) → CountsRoom (replicate n 0) (replicate k 0) t F P
 start-sizes n k t F P e f z = record {
   few-faults = z .few-faults;
   few-patterns = z .few-patterns;
@@ -55,7 +55,7 @@ start-sizes n k t F P e f z = record {
 pub started : (cells : ℕ) {t : List ℕ} {F P : ℕ}
     → 256 * F + F ≤ cells
     → Sized F P (length t)
-    → Sizes (replicate cells 0) (replicate 256 0) t F P × (Zeros (replicate cells 0) × Zeros (replicate 256 0))
+    → CountsRoom (replicate cells 0) (replicate 256 0) t F P × (Zeros (replicate cells 0) × Zeros (replicate 256 0))
 started cells {t} {F} {P} room sized = (start-sizes cells 256 t F P room refl sized, (filled-at cells 0, filled-at 256 0))
 
 -- ---- the patterns below p are counted
@@ -82,8 +82,8 @@ module _ {t : List ℕ} {F P : ℕ} {c₀ s₀ : List ℕ} where
         → p < P
         → length d ≡ length c
         → length r ≡ length s
-        → Moved true (hit t (p * F) F) c d
-        → Saw t (p * F) F s r
+        → CellsDone true (hit t (p * F) F) c d
+        → SeeDone t (p * F) F s r
         → CountedTo t F P c₀ s₀ (p + 1) d r
     one-counted l e f m w = record {
       at-most = omega arith;
@@ -97,7 +97,7 @@ module _ {t : List ℕ} {F P : ℕ} {c₀ s₀ : List ℕ} where
         same q n (yes h) = lt-ltb q p h ∙ sym (lt-ltb q (p + 1) (omega arith))
         same q n (no h) = le-ltb q p (omega arith) ∙ sym (le-ltb q (p + 1) (omega arith))
 
-    pub all-counted : P ≤ p → AllCounted t F P c s
+    pub all-counted : P ≤ p → CountAllDone t F P c s
     all-counted l = record {
       counted = counted-same (so .counted) whole (λ q h. lt-ltb q p (omega arith));
       seen = seen-all (so .seen) (omega (arith, so .at-most));
@@ -105,17 +105,17 @@ module _ {t : List ℕ} {F P : ℕ} {c₀ s₀ : List ℕ} where
 
 -- ---- a turn
 
-module _ {t : List ℕ} {F P p : ℕ} {m c s : List ℕ} (few : F ≤ 256) (many : P ≤ 256) (l : p < P) (ready : Ready t F P (p + 1) m c s) where
+module _ {t : List ℕ} {F P p : ℕ} {m c s : List ℕ} (few : F ≤ 256) (many : P ≤ 256) (l : p < P) (ready : TurnReady t F P (p + 1) m c s) where
   by-counts : {r : Bool} → r ≡ neededOf c s t (p * F) F → lacks (entriesOf F t) F P (kept (set m p 0)) ≡ r
   by-counts e = sym (e ∙ decided m few many (ready .counted) (ready .seen) (ready .enough) p l (ready .in-set p (omega arith)))
 
-  pub stays : {r : Bool} → r ≡ neededOf c s t (p * F) F → r ≡ true → Turned t F P p m m c s
+  pub stays : {r : Bool} → r ≡ neededOf c s t (p * F) F → r ≡ true → TurnDone t F P p m m c s
   stays e q = record {
     marks = sym (turn-keeps (entriesOf F t) F P m p (by-counts e ∙ q));
     ready = record { counted = ready .counted; seen = ready .seen; enough = ready .enough; in-set = λ q h. ready .in-set q (omega arith) };
   }
 
-  pub goes : {r : Bool} {d : List ℕ} → r ≡ neededOf c s t (p * F) F → r ≡ false → Moved false (hit t (p * F) F) c d → Bytes d → Turned t F P p m (set m p 0) d s
+  pub goes : {r : Bool} {d : List ℕ} → r ≡ neededOf c s t (p * F) F → r ≡ false → CellsDone false (hit t (p * F) F) c d → Bytes d → TurnDone t F P p m (set m p 0) d s
   goes e q moved byte = record {
     marks = sym (turn-drops (entriesOf F t) F P m p (by-counts e ∙ q));
     ready = record {
@@ -132,11 +132,11 @@ pub record ToGo (t : List ℕ) (F P : ℕ) (s c₀ m₀ : List ℕ) (k : ℕ) (c
   pub at-most : k ≤ P
   pub cells : length c ≡ length c₀
   pub marks : length m ≡ length m₀
-  pub ready : Ready t F P k m c s
+  pub ready : TurnReady t F P k m c s
   pub to-go : turns (entriesOf F t) F P k m ≡ compacted (entriesOf F t) F P
 
 module _ {t : List ℕ} {F P : ℕ} {s c₀ m₀ : List ℕ} where
-  pub all-to-go : m₀ ≡ replicate P 1 → AllCounted t F P c₀ s → ToGo t F P s c₀ m₀ P c₀ m₀
+  pub all-to-go : m₀ ≡ replicate P 1 → CountAllDone t F P c₀ s → ToGo t F P s c₀ m₀ P c₀ m₀
   unfolding compacted
   all-to-go e a = record {
     at-most = omega arith;
@@ -155,10 +155,10 @@ module _ {t : List ℕ} {F P : ℕ} {s c₀ m₀ : List ℕ} where
       in-it q h = rw e (all-kept (entriesOf F t) F P q h)
 
   module _ {k : ℕ} {c m : List ℕ} (so : ToGo t F P s c₀ m₀ k c m) where
-    pub ready-next : 0 < k → Ready t F P (k - 1 + 1) m c s
+    pub ready-next : 0 < k → TurnReady t F P (k - 1 + 1) m c s
     ready-next h = let q : k - 1 + 1 ≡ k = omega arith in rw q (so .ready)
 
-    pub one-gone : {d l : List ℕ} → 0 < k → length d ≡ length c → length l ≡ length m → Turned t F P (k - 1) m l d s → ToGo t F P s c₀ m₀ (k - 1) d l
+    pub one-gone : {d l : List ℕ} → 0 < k → length d ≡ length c → length l ≡ length m → TurnDone t F P (k - 1) m l d s → ToGo t F P s c₀ m₀ (k - 1) d l
     unfolding turns
     one-gone h ec em w = let q : suc (k - 1) ≡ k = omega arith in record {
       at-most = omega (arith, so .at-most);

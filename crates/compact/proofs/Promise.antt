@@ -15,7 +15,7 @@ use Rattle.needs.specs.Words.{Detected, LastToFirst, Sound}
 use Rattle.needs.proofs.Sound.{compacted-so, compacted-sound, none-detected}
 use Rattle.tables.specs.Table.{tableRules}
 use Rattle.compact.specs.Promise.{marksRules, Compacts}
-use Rattle.compact.specs.Owed.{Finishes}
+use Rattle.compact.specs.Owed.{CompactDone}
 
 module _ {F P : ℕ} {t m : List ℕ} where
   -- two results that the promise allows are equal
@@ -44,16 +44,16 @@ module _ {F P : ℕ} {t m : List ℕ} where
 
   -- ---- as the code comes to it
 
-  pub finish-10 : (length m ≡ P → ⊥) → Finishes F P t m (Refused 10 0) m
+  pub finish-10 : (length m ≡ P → ⊥) → CompactDone F P t m (Refused 10 0) m
   unfolding marksRules refusal said
   finish-10 n = record { answer = rw (ne-eqb (length m) P n); marks = rw (ne-eqb (length m) P n) }
 
-  pub finish-fine : {m′ : List ℕ} → length m ≡ P → m′ ≡ compacted (entriesOf F t) F P → Finishes F P t m Fine m′
+  pub finish-fine : {m′ : List ℕ} → length m ≡ P → m′ ≡ compacted (entriesOf F t) F P → CompactDone F P t m Fine m′
   unfolding marksRules refusal said
   finish-fine e s = record { answer = rw (eq-eqb (length m) P e); marks = rw (eq-eqb (length m) P e) s }
 
   pub table-refused : {n k : ℕ} → refusal (tableRules F P t) ≡ Refused n k → Compacts F P t m (Refused n k) m
   table-refused e = let q = after-refused (tableRules F P t) (marksRules P m) e in record { answer = sym q; numbers = rw q; marks = rw q }
 
-  pub table-kept : {r : Ruling} {m′ : List ℕ} → refusal (tableRules F P t) ≡ Fine → Finishes F P t m r m′ → Compacts F P t m r m′
+  pub table-kept : {r : Ruling} {m′ : List ℕ} → refusal (tableRules F P t) ≡ Fine → CompactDone F P t m r m′ → Compacts F P t m r m′
   table-kept e w = let q = after-fine (tableRules F P t) (marksRules P m) e in record { answer = w .answer ∙ sym q; numbers = rw (w .answer ∙ sym q); marks = rw q (w .marks) }

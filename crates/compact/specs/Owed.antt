@@ -13,7 +13,7 @@ use Rattle.needs.specs.Words.{Meets}
 use Rattle.counts.specs.Counted.{Counted, Seen}
 use Rattle.compact.specs.Promise.{marksRules}
 
-pub record Sizes (c s t : List ℕ) (F P : ℕ) : Type 0 where
+pub record CountsRoom (c s t : List ℕ) (F P : ℕ) : Type 0 where
   pub few-faults : F ≤ 256
   pub few-patterns : P ≤ 256
   pub cells : 256 * F + F ≤ length c
@@ -24,27 +24,27 @@ abbrev pub Zeros : List ℕ → Type 0
 Zeros l = (k : ℕ) → getD l k 0 ≡ 0
 
 -- all patterns are counted in c, and the detected faults are noted in s
-pub record AllCounted (t : List ℕ) (F P : ℕ) (c s : List ℕ) : Type 0 where
+pub record CountAllDone (t : List ℕ) (F P : ℕ) (c s : List ℕ) : Type 0 where
   pub counted : Counted t F P whole c
   pub seen : Seen t F P s
 
-pub record Place (m : List ℕ) (P p : ℕ) : Type 0 where
+pub record TurnRoom (m : List ℕ) (P p : ℕ) : Type 0 where
   pub marks : length m ≡ P
   pub below : p < P
 
 -- before the turns of the first k patterns: the counts are those of the set, which meets every need and has the first k
-pub record Ready (t : List ℕ) (F P k : ℕ) (m c s : List ℕ) : Type 0 where
+pub record TurnReady (t : List ℕ) (F P k : ℕ) (m c s : List ℕ) : Type 0 where
   pub counted : Counted t F P (kept m) c
   pub seen : Seen t F P s
   pub enough : Meets (entriesOf F t) F P (kept m)
   pub in-set : (q : ℕ) → q < k → kept m q ≡ true
 
 -- the turn of pattern p
-pub record Turned (t : List ℕ) (F P p : ℕ) (m m′ c′ s : List ℕ) : Type 0 where
+pub record TurnDone (t : List ℕ) (F P p : ℕ) (m m′ c′ s : List ℕ) : Type 0 where
   pub marks : m′ ≡ turn (entriesOf F t) F P m p
-  pub ready : Ready t F P p m′ c′ s
+  pub ready : TurnReady t F P p m′ c′ s
 
 -- the compactor after the table's rules
-pub record Finishes (F P : ℕ) (t m : List ℕ) (r : Ruling) (m′ : List ℕ) : Type 0 where
+pub record CompactDone (F P : ℕ) (t m : List ℕ) (r : Ruling) (m′ : List ℕ) : Type 0 where
   pub answer : r ≡ refusal (marksRules P m)
   pub marks : m′ ≡ unless (refusal (marksRules P m)) m (compacted (entriesOf F t) F P)

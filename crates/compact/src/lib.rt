@@ -8,7 +8,7 @@ ghost use Rattle.tables.specs.Entries.{entriesOf};
 ghost use Rattle.tables.specs.Table.{Sized};
 ghost use Rattle.needs.specs.Needs.{compacted};
 ghost use Rattle.compact.specs.Promise.{Compacts};
-ghost use Rattle.compact.specs.Owed.{Sizes, Zeros, AllCounted, Place, Ready, Turned, Finishes};
+ghost use Rattle.compact.specs.Owed.{CountsRoom, Zeros, CountAllDone, TurnRoom, TurnReady, TurnDone, CompactDone};
 
 // Marks every pattern as kept.
 fn keep_all(marks: &mut [u8])
@@ -23,9 +23,9 @@ fn keep_all(marks: &mut [u8])
 
 // Counts all patterns in, and notes the detected faults.
 fn count_all(counts: &mut [u8], seen: &mut [u8], table: &[u8], n: usize, patterns: usize)
-    requires { ⌜ Sizes (now counts) (now seen) (now table) n patterns ⌝ }
+    requires { ⌜ CountsRoom (now counts) (now seen) (now table) n patterns ⌝ }
     requires { ⌜ Zeros (now counts) × Zeros (now seen) ⌝ }
-    ensures { λ _. ⌜ AllCounted (now (table .entry)) n patterns (now (counts .exit)) (now (seen .exit)) ⌝ }
+    ensures { λ _. ⌜ CountAllDone (now (table .entry)) n patterns (now (counts .exit)) (now (seen .exit)) ⌝ }
 {
     let mut p = 0;
     while p < patterns {
@@ -46,10 +46,10 @@ fn turn(
     patterns: usize,
     p: usize,
 )
-    requires { ⌜ Sizes (now counts) (now seen) (now table) n patterns ⌝ }
-    requires { ⌜ Place (now marks) patterns p ⌝ }
-    requires { ⌜ Ready (now table) n patterns (p + 1) (now marks) (now counts) (now seen) ⌝ }
-    ensures { λ _. ⌜ Turned (now (table .entry)) n patterns p (now (marks .entry)) (now (marks .exit)) (now (counts .exit)) (now (seen .entry)) ⌝ }
+    requires { ⌜ CountsRoom (now counts) (now seen) (now table) n patterns ⌝ }
+    requires { ⌜ TurnRoom (now marks) patterns p ⌝ }
+    requires { ⌜ TurnReady (now table) n patterns (p + 1) (now marks) (now counts) (now seen) ⌝ }
+    ensures { λ _. ⌜ TurnDone (now (table .entry)) n patterns p (now (marks .entry)) (now (marks .exit)) (now (counts .exit)) (now (seen .entry)) ⌝ }
 {
     let from = p * n;
     if counts::needed(counts, seen, table, from, n) {
@@ -68,9 +68,9 @@ fn drop_spare(
     n: usize,
     patterns: usize,
 )
-    requires { ⌜ Sizes (now counts) (now seen) (now table) n patterns ⌝ }
+    requires { ⌜ CountsRoom (now counts) (now seen) (now table) n patterns ⌝ }
     requires { ⌜ now marks ≡ replicate patterns 1 ⌝ }
-    requires { ⌜ AllCounted (now table) n patterns (now counts) (now seen) ⌝ }
+    requires { ⌜ CountAllDone (now table) n patterns (now counts) (now seen) ⌝ }
     ensures { λ _. ⌜ now (marks .exit) ≡ compacted (entriesOf n (now (table .entry))) n patterns ⌝ }
 {
     let mut left = patterns;
@@ -90,7 +90,7 @@ fn mark_all(
     n: usize,
     patterns: usize,
 )
-    requires { ⌜ Sizes (now counts) (now seen) (now table) n patterns ⌝ }
+    requires { ⌜ CountsRoom (now counts) (now seen) (now table) n patterns ⌝ }
     requires { ⌜ Zeros (now counts) × Zeros (now seen) ⌝ }
     requires { ⌜ length (now marks) ≡ patterns ⌝ }
     ensures { λ _. ⌜ now (marks .exit) ≡ compacted (entriesOf n (now (table .entry))) n patterns ⌝ }
@@ -125,7 +125,7 @@ fn mark_many(n: usize, patterns: usize, table: &[u8], marks: &mut [u8])
 // Over a table that keeps its rules.
 fn compact_table(n: usize, patterns: usize, table: &[u8], marks: &mut [u8]) -> Ruling
     requires { ⌜ Sized n patterns (length (now table)) ⌝ }
-    ensures { λ r. ⌜ Finishes n patterns (now (table .entry)) (now (marks .entry)) r (now (marks .exit)) ⌝ }
+    ensures { λ r. ⌜ CompactDone n patterns (now (table .entry)) (now (marks .entry)) r (now (marks .exit)) ⌝ }
 {
     if marks.len() != patterns {
         return Ruling::Refused(10, 0);

@@ -16,7 +16,7 @@ use Rattle.ground.proofs.Tests.{one-or}
 use Rattle.tables.specs.Entries.{entriesOf}
 use Rattle.needs.specs.Needs.{fails}
 use Rattle.counts.specs.Counted.{Seen}
-use Rattle.counts.specs.Owed.{Saw}
+use Rattle.counts.specs.Owed.{SeeDone}
 
 -- ---- the first i faults of a pattern are seen
 
@@ -38,7 +38,7 @@ module _ {t : List ℕ} {from : ℕ} {old : List ℕ} {i : ℕ} {new : List ℕ}
       go f l (yes q) = rw (q, getD-set-same new i (bitOr (getD new i 0) x) 0 room, is, so .rest i (omega arith))
       go f l (no d) = getD-set-other new i f _ 0 d ∙ so .done f (omega arith)
 
-  pub saw-all : (n : ℕ) → n ≤ i → Saw t from n old new
+  pub saw-all : (n : ℕ) → n ≤ i → SeeDone t from n old new
   saw-all n h = record { fault = λ f l. so .done f (omega arith) }
 
 -- ---- the faults of the first p patterns are seen
@@ -50,7 +50,7 @@ module _ {t : List ℕ} {F : ℕ} where
   pub seen-none : {s : List ℕ} → ((k : ℕ) → getD s k 0 ≡ 0) → SeenTo t F 0 s
   seen-none none = record { fault = λ f l. none f }
 
-  pub seen-one : {p : ℕ} {s r : List ℕ} → SeenTo t F p s → Saw t (p * F) F s r → SeenTo t F (p + 1) r
+  pub seen-one : {p : ℕ} {s r : List ℕ} → SeenTo t F p s → SeeDone t (p * F) F s r → SeenTo t F (p + 1) r
   seen-one {p} so m = record {
     fault = λ f l.
         m .fault f l

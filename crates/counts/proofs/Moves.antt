@@ -17,7 +17,7 @@ use Rattle.ground.specs.Below.{anyBelow}
 use Rattle.ground.proofs.Tests.{both, never-both, one-either}
 use Rattle.ground.proofs.Below.{some-any}
 use Rattle.counts.specs.Counted.{hitRow, hitPair, hit}
-use Rattle.counts.specs.Owed.{Counts, Moved}
+use Rattle.counts.specs.Owed.{Counts, CellsDone}
 
 -- ---- one count
 
@@ -35,12 +35,12 @@ counts-then false x y a b c d e = omega arith
 abbrev pub Bytes : List ℕ → Type 0
 Bytes c = (k : ℕ) → getD c k 0 < 256
 
-pub moved-none : (into : Bool) {h : ℕ → Bool} {c : List ℕ} → Bytes c → ((k : ℕ) → h k ≡ false) → Moved into h c c
+pub moved-none : (into : Bool) {h : ℕ → Bool} {c : List ℕ} → Bytes c → ((k : ℕ) → h k ≡ false) → CellsDone into h c c
 moved-none into byte none = record { cell = λ k. rw (none k) (counts-none into _ (byte k)) }
 
-module _ {into : Bool} {h l : ℕ → Bool} {old mid : List ℕ} (so : Moved into h old mid) where
+module _ {into : Bool} {h l : ℕ → Bool} {old mid : List ℕ} (so : CellsDone into h old mid) where
   -- the same cells
-  pub moved-same : ((k : ℕ) → l k ≡ h k) → Moved into l old mid
+  pub moved-same : ((k : ℕ) → l k ≡ h k) → CellsDone into l old mid
   moved-same same = record { cell = λ k. rw (same k) (so .cell k) }
 
   -- one cell more
@@ -49,7 +49,7 @@ module _ {into : Bool} {h l : ℕ → Bool} {old mid : List ℕ} (so : Moved int
       → h j ≡ false
       → ((k : ℕ) → (k ≡ j → ⊥) → l k ≡ h k)
       → Counts into (one (l j)) (getD mid j 0) r
-      → Moved into l old (set mid j r)
+      → CellsDone into l old (set mid j r)
   moved-cell j r room off same e = record { cell = λ k. go k (ℕ-discrete k j) }
     where
       go : (k : ℕ) → Dec (k ≡ j) → Counts into (one (l k)) (getD old k 0) (getD (set mid j r) k 0)
@@ -59,7 +59,7 @@ module _ {into : Bool} {h l : ℕ → Bool} {old mid : List ℕ} (so : Moved int
       go k (no d) = rw (getD-set-other mid j k r 0 d, same k d) (so .cell k)
 
   -- other cells more
-  pub moved-then : {new : List ℕ} → Moved into l mid new → ((k : ℕ) → (h k && l k) ≡ false) → Moved into (λ k. h k || l k) old new
+  pub moved-then : {new : List ℕ} → CellsDone into l mid new → ((k : ℕ) → (h k && l k) ≡ false) → CellsDone into (λ k. h k || l k) old new
   moved-then {new} more apart = record {
     cell = λ k.
         rw (one-either (h k) (l k) (apart k))
@@ -99,15 +99,15 @@ module _ (t : List ℕ) (from want at : ℕ) where
       rw (le-leb at (at + f) (omega arith), lt-ltb (at + f) (at + n) (omega arith), q)
 
   -- none is counted, and then the next one
-  pub row-none : {into : Bool} {c : List ℕ} → Bytes c → Moved into (hitRow t from want at 0) c c
+  pub row-none : {into : Bool} {c : List ℕ} → Bytes c → CellsDone into (hitRow t from want at 0) c c
   row-none {into} byte = moved-none into byte (λ k. row-outside 0 k (λ a b. omega arith))
 
   pub row-next : {into : Bool} {old new : List ℕ} (f : ℕ) {x : ℕ} (r : ℕ)
-      → Moved into (hitRow t from want at f) old new
+      → CellsDone into (hitRow t from want at f) old new
       → x ≡ one (eqb (getD t (from + f) 0) want)
       → at + f < length new
       → Counts into x (getD new (at + f) 0) r
-      → Moved into (hitRow t from want at (f + 1)) old (set new (at + f) r)
+      → CellsDone into (hitRow t from want at (f + 1)) old (set new (at + f) r)
   row-next f r so is room c =
       moved-cell so (at + f) r room (row-outside f (at + f) (λ a b. omega arith)) (row-other f)
       (rw (row-at (f + 1) f (omega arith), ← is) c)
@@ -116,14 +116,14 @@ module _ (t : List ℕ) (from want at : ℕ) where
 
 module _ (t : List ℕ) (from : ℕ) where
   -- where g's own entry is unknown, and where it is known
-  pub pairs-unknown : {into : Bool} {c : List ℕ} (g : ℕ) → Bytes c → 1 < getD t (from + g) 0 → Moved into (λ k. hitPair t from k g) c c
+  pub pairs-unknown : {into : Bool} {c : List ℕ} (g : ℕ) → Bytes c → 1 < getD t (from + g) 0 → CellsDone into (λ k. hitPair t from k g) c c
   unfolding hitPair
   pairs-unknown {into} g byte u = moved-none into byte (λ k. rw (lt-leb (getD t (from + g) 0) 1 u))
 
   pub pairs-known : {into : Bool} {old new : List ℕ} (g : ℕ)
       → getD t (from + g) 0 ≤ 1
-      → Moved into (hitRow t from (1 - getD t (from + g) 0) (256 * g) g) old new
-      → Moved into (λ k. hitPair t from k g) old new
+      → CellsDone into (hitRow t from (1 - getD t (from + g) 0) (256 * g) g) old new
+      → CellsDone into (λ k. hitPair t from k g) old new
   unfolding hitPair
   pairs-known g u so = moved-same so (λ k. rw (le-leb (getD t (from + g) 0) 1 u))
 
@@ -143,14 +143,14 @@ module _ (t : List ℕ) (from : ℕ) where
   past-pairs g k few w = let h = some-any g (hitPair t from k) w in omega (arith, h .1, pair-inside (h .0) k (h .2))
 
   -- another row of pairs, and the row of faults after all of them
-  module _ {into : Bool} {old new : List ℕ} (g : ℕ) (so : Moved into (λ k. anyBelow g (hitPair t from k)) old new) where
-    pub pairs-next : {last : List ℕ} → g < 256 → Moved into (λ k. hitPair t from k g) new last → Moved into (λ k. anyBelow (g + 1) (hitPair t from k)) old last
+  module _ {into : Bool} {old new : List ℕ} (g : ℕ) (so : CellsDone into (λ k. anyBelow g (hitPair t from k)) old new) where
+    pub pairs-next : {last : List ℕ} → g < 256 → CellsDone into (λ k. hitPair t from k g) new last → CellsDone into (λ k. anyBelow (g + 1) (hitPair t from k)) old last
     pairs-next few more =
         rw (add-one g)
         (moved-then so more (λ k. never-both (anyBelow g (hitPair t from k)) (hitPair t from k g) (λ w.
         pair-outside g k (λ a b. omega (arith, past-pairs g k (omega arith) w)))))
 
-    pub faults-next : {last : List ℕ} → g ≤ 256 → Moved into (hitRow t from 1 (256 * g) g) new last → Moved into (hit t from g) old last
+    pub faults-next : {last : List ℕ} → g ≤ 256 → CellsDone into (hitRow t from 1 (256 * g) g) new last → CellsDone into (hit t from g) old last
     unfolding hit
     faults-next few more =
         moved-then so more (λ k. never-both (anyBelow g (hitPair t from k)) (hitRow t from 1 (256 * g) g k) (λ w.

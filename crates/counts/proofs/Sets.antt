@@ -15,7 +15,7 @@ use Rattle.tables.specs.Entries.{entriesOf}
 use Rattle.needs.specs.Needs.{Patterns, fails, tells}
 use Rattle.needs.proofs.Entries.{tells-other}
 use Rattle.counts.specs.Counted.{hitPair, hit, Counted}
-use Rattle.counts.specs.Owed.{Moved}
+use Rattle.counts.specs.Owed.{CellsDone}
 use Rattle.counts.proofs.Moves.{Bytes, row-outside, row-at, pair-outside}
 
 -- ---- what a cell says
@@ -68,10 +68,10 @@ module _ (P p : ℕ) (l : p < P) (K L : Patterns) (off : K p ≡ false) (on : L 
       ∙ ap (λ (b : Bool). countBelow P (λ q. K q && h q) + one (b && h p)) on
 
   module _ {t : List ℕ} {F : ℕ} {c d : List ℕ} where
-    pub counted-in : Counted t F P K c → Moved true (hit t (p * F) F) c d → Counted t F P L d
+    pub counted-in : Counted t F P K c → CellsDone true (hit t (p * F) F) c d → Counted t F P L d
     counted-in a m = record { cell = λ k. omega (arith, a .cell k, m .cell k, count-step (λ q. hit t (q * F) F k)) }
 
-    pub counted-out : Counted t F P L c → Moved false (hit t (p * F) F) c d → Bytes d → Counted t F P K d
+    pub counted-out : Counted t F P L c → CellsDone false (hit t (p * F) F) c d → Bytes d → Counted t F P K d
     counted-out a m byte = record {
       cell = λ k. omega (arith, a .cell k, m .cell k, byte k, count-step (λ q. hit t (q * F) F k), one-most (hit t (p * F) F k));
     }

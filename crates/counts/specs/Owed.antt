@@ -17,20 +17,20 @@ abbrev pub Counts : Bool → ℕ → ℕ → ℕ → Type 0
 Counts into x a b = choose into b a ≡ (choose into a b + x) % 256
 
 -- so at each cell: one where the test holds
-pub record Moved (into : Bool) (h : ℕ → Bool) (old new : List ℕ) : Type 0 where
+pub record CellsDone (into : Bool) (h : ℕ → Bool) (old new : List ℕ) : Type 0 where
   pub cell : (k : ℕ) → Counts into (one (h k)) (getD old k 0) (getD new k 0)
 
-pub record Row (c : List ℕ) (at : ℕ) (t : List ℕ) (from n : ℕ) : Type 0 where
+pub record RowRoom (c : List ℕ) (at : ℕ) (t : List ℕ) (from n : ℕ) : Type 0 where
   pub cells : at + n ≤ length c
   pub entries : from + n ≤ length t
 
-pub record Cells (c t : List ℕ) (from n : ℕ) : Type 0 where
+pub record CellsRoom (c t : List ℕ) (from n : ℕ) : Type 0 where
   pub few : n ≤ 256
   pub cells : 256 * n + n ≤ length c
   pub entries : from + n ≤ length t
 
 -- the first n faults are seen where the pattern fails them
-pub record Saw (t : List ℕ) (from n : ℕ) (old new : List ℕ) : Type 0 where
+pub record SeeDone (t : List ℕ) (from n : ℕ) (old new : List ℕ) : Type 0 where
   pub fault : (f : ℕ) → f < n → getD new f 0 ≡ bitOr (getD old f 0) (one (eqb (getD t (from + f) 0) 1))
 
 -- ---- the only one of its kind

@@ -7,7 +7,7 @@ ghost use lib.ListN.{length};
 ghost use Rattle.ground.specs.Choose.{one};
 ghost use Rattle.ground.specs.Below.{anyBelow};
 ghost use Rattle.counts.specs.Counted.{hitRow, hitPair, hit};
-ghost use Rattle.counts.specs.Owed.{Counts, Moved, Row, Cells, Saw, soleOf, soleIn, soleAt, neededOf};
+ghost use Rattle.counts.specs.Owed.{Counts, CellsDone, RowRoom, CellsRoom, SeeDone, soleOf, soleIn, soleAt, neededOf};
 
 // 1 where the two are the same, else 0.
 fn same(x: u8, y: u8) -> u8
@@ -40,8 +40,8 @@ fn count_row(
     want: u8,
     into: bool,
 )
-    requires { ⌜ Row (now counts) at (now table) from n ⌝ }
-    ensures { λ _. ⌜ Moved into (hitRow (now (table .entry)) from want at n) (now (counts .entry)) (now (counts .exit)) ⌝ }
+    requires { ⌜ RowRoom (now counts) at (now table) from n ⌝ }
+    ensures { λ _. ⌜ CellsDone into (hitRow (now (table .entry)) from want at n) (now (counts .entry)) (now (counts .exit)) ⌝ }
 {
     let mut f = 0;
     while f < n {
@@ -55,7 +55,7 @@ fn count_row(
 fn count_pairs(counts: &mut [u8], table: &[u8], from: usize, g: usize, into: bool)
     requires { ⌜ 256 * g + g ≤ length (now counts) ⌝ }
     requires { ⌜ from + g < length (now table) ⌝ }
-    ensures { λ _. ⌜ Moved into (λ k. hitPair (now (table .entry)) from k g) (now (counts .entry)) (now (counts .exit)) ⌝ }
+    ensures { λ _. ⌜ CellsDone into (λ k. hitPair (now (table .entry)) from k g) (now (counts .entry)) (now (counts .exit)) ⌝ }
 {
     let e = table[from + g];
     if 1 < e {
@@ -66,8 +66,8 @@ fn count_pairs(counts: &mut [u8], table: &[u8], from: usize, g: usize, into: boo
 
 // Counts a pattern in or out.
 pub fn count_pattern(counts: &mut [u8], table: &[u8], from: usize, n: usize, into: bool)
-    requires { ⌜ Cells (now counts) (now table) from n ⌝ }
-    ensures { λ _. ⌜ Moved into (hit (now (table .entry)) from n) (now (counts .entry)) (now (counts .exit)) ⌝ }
+    requires { ⌜ CellsRoom (now counts) (now table) from n ⌝ }
+    ensures { λ _. ⌜ CellsDone into (hit (now (table .entry)) from n) (now (counts .entry)) (now (counts .exit)) ⌝ }
 {
     let mut g = 0;
     while g < n {
@@ -79,8 +79,8 @@ pub fn count_pattern(counts: &mut [u8], table: &[u8], from: usize, n: usize, int
 
 // Notes the faults that a pattern fails.
 pub fn see_pattern(seen: &mut [u8], table: &[u8], from: usize, n: usize)
-    requires { ⌜ Row (now seen) 0 (now table) from n ⌝ }
-    ensures { λ _. ⌜ Saw (now (table .entry)) from n (now (seen .entry)) (now (seen .exit)) ⌝ }
+    requires { ⌜ RowRoom (now seen) 0 (now table) from n ⌝ }
+    ensures { λ _. ⌜ SeeDone (now (table .entry)) from n (now (seen .entry)) (now (seen .exit)) ⌝ }
 {
     let mut f = 0;
     while f < n {
@@ -109,7 +109,7 @@ fn sole_in(
     n: usize,
     want: u8,
 ) -> u8
-    requires { ⌜ Row (now counts) at (now table) from n ⌝ }
+    requires { ⌜ RowRoom (now counts) at (now table) from n ⌝ }
     requires { ⌜ n ≤ length (now seen) ⌝ }
     ensures { λ r. ⌜ r ≡ one (anyBelow n (soleIn (now (counts .entry)) (now (seen .entry)) at (now (table .entry)) from want)) ⌝ }
 {
@@ -142,7 +142,7 @@ fn sole_at(counts: &[u8], seen: &[u8], table: &[u8], from: usize, g: usize) -> b
 
 // Whether the counted patterns, without this one of them, would lack something.
 pub fn needed(counts: &[u8], seen: &[u8], table: &[u8], from: usize, n: usize) -> bool
-    requires { ⌜ Cells (now counts) (now table) from n ⌝ }
+    requires { ⌜ CellsRoom (now counts) (now table) from n ⌝ }
     requires { ⌜ n ≤ length (now seen) ⌝ }
     ensures { λ r. ⌜ r ≡ neededOf (now (counts .entry)) (now (seen .entry)) (now (table .entry)) from n ⌝ }
 {

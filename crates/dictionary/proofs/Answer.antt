@@ -17,17 +17,17 @@ use Rattle.lists.specs.Faults.{faultCount}
 use Rattle.lists.specs.Patterns.{patternCount}
 use Rattle.lists.specs.Both.{listRules}
 use Rattle.lists.proofs.Both.{lists-say, good-lists}
-use Rattle.rows.specs.Owed.{Ready, Filled}
-use Rattle.dictionary.specs.Promise.{restRules, dictionaryRules, Answered, Dictionary}
+use Rattle.rows.specs.Owed.{TableReady, TableDone}
+use Rattle.dictionary.specs.Promise.{dictionaryRestRules, dictionaryRules, Answered, Dictionary}
 
 module _ (c : List ℕ) (n m : ℕ) (fs ps : List ℕ) where
   -- tests and words of the rules agree
-  pub rest-say : (table work : ℕ) → AllSay (restRules c n m fs ps table work)
+  pub rest-say : (table work : ℕ) → AllSay (dictionaryRestRules c n m fs ps table work)
   rest-say table work =
       both-say (listRules c m fs ps) _ (lists-say c m fs ps) (lent-says (faultCount fs * patternCount m ps) table (2 * n) work)
 
   -- what is not refused is ready
-  pub ready : (table work : ℕ) → Known c n m → refusal (restRules c n m fs ps table work) ≡ Fine → Ready c n m fs ps table work
+  pub ready : (table work : ℕ) → Known c n m → refusal (dictionaryRestRules c n m fs ps table work) ≡ Fine → TableReady c n m fs ps table work
   ready table work k e =
       let a = both-fine (listRules c m fs ps) _ e in
       let lists = good-lists c m fs ps (a .0) in
@@ -49,7 +49,7 @@ module _ (rules : List Rule) (c : List ℕ) (n m : ℕ) (fs ps t w : List ℕ) w
   pub refused-answer : {x y : ℕ} → refusal rules ≡ Refused x y → Answered rules c n m fs ps t w (Refused x y) t w
   refused-answer e = record { answer = sym e; numbers = rw e; table = rw e; work = rw e }
 
-  pub filled-answer : {t′ w′ : List ℕ} → refusal rules ≡ Fine → Filled c n m fs ps t′ w′ → Answered rules c n m fs ps t w Fine t′ w′
+  pub filled-answer : {t′ w′ : List ℕ} → refusal rules ≡ Fine → TableDone c n m fs ps t′ w′ → Answered rules c n m fs ps t w Fine t′ w′
   filled-answer e f = record { answer = sym e; numbers = rw e; table = rw e (f .table-is); work = rw e (f .work-is) }
 
   -- rules that hold may stand before
@@ -65,14 +65,14 @@ module _ (c fs ps t w : List ℕ) where
   pub circuit-refused : {x y : ℕ} → refusal (circuitRules c) ≡ Refused x y → Dictionary c fs ps t w (Refused x y) t w
   circuit-refused e =
       refused-answer (dictionaryRules c fs ps t w) c (linesOf c) (inputsOf c) fs ps t w
-      (after-refused (circuitRules c) (restRules c (linesOf c) (inputsOf c) fs ps (length t) (length w)) e)
+      (after-refused (circuitRules c) (dictionaryRestRules c (linesOf c) (inputsOf c) fs ps (length t) (length w)) e)
 
   pub circuit-accepted : {n m o : ℕ} {r : Ruling} {t′ w′ : List ℕ}
       → Accepts c n m o
-      → Answered (restRules c n m fs ps (length t) (length w)) c n m fs ps t w r t′ w′
+      → Answered (dictionaryRestRules c n m fs ps (length t) (length w)) c n m fs ps t w r t′ w′
       → Dictionary c fs ps t w r t′ w′
   circuit-accepted k a =
-      more-rules (restRules c (linesOf c) (inputsOf c) fs ps (length t) (length w)) c (linesOf c) (inputsOf c) fs ps t w (circuitRules c) (k .fine)
+      more-rules (dictionaryRestRules c (linesOf c) (inputsOf c) fs ps (length t) (length w)) c (linesOf c) (inputsOf c) fs ps t w (circuitRules c) (k .fine)
       (rw (k .lines, k .inputs) at a)
 
   -- two results that the promise allows are equal

@@ -13,7 +13,7 @@ use Rattle.answers.proofs.Rules.{applies, refused, not-fine, both-say}
 use Rattle.circuit.specs.Record.{linesOf, inputsOf}
 use Rattle.circuit.specs.Promise.{circuitRules}
 use Rattle.circuit.proofs.Answer.{circuit-says}
-use Rattle.rows.specs.Table.{tableOf, workOf}
+use Rattle.rows.specs.Table.{tableOf, tableWork}
 use Rattle.rows.specs.Words.{Made}
 use Rattle.rows.proofs.Entries.{made, one-made}
 use Rattle.dictionary.specs.Promise.{dictionaryRules, Dictionary}
@@ -46,7 +46,7 @@ in-words c fs ps t w {r} {t′} {w′} d = record {
     fine e =
         let q : refusal (dictionaryRules c fs ps t w) ≡ Fine = sym (d .answer) ∙ e in
         let table : t′ ≡ tableOf c (linesOf c) (inputsOf c) fs ps = d .table ∙ rw q in
-        let work : w′ ≡ workOf c (linesOf c) (inputsOf c) fs ps = d .work ∙ rw q in
+        let work : w′ ≡ tableWork c (linesOf c) (inputsOf c) fs ps = d .work ∙ rw q in
         rw (table, work) (made c (linesOf c) (inputsOf c) fs ps)
 
 -- and what meets the words keeps the promise
@@ -76,6 +76,6 @@ by-words c fs ps t w {r} {t′} {w′} i = record {
     table Fine e = one-made c (linesOf c) (inputsOf c) fs ps (i .made e) .0
     table (Refused m k) e = i .nothing m k e .0
 
-    work : (v : Ruling) → r ≡ v → w′ ≡ unless v w (workOf c (linesOf c) (inputsOf c) fs ps)
+    work : (v : Ruling) → r ≡ v → w′ ≡ unless v w (tableWork c (linesOf c) (inputsOf c) fs ps)
     work Fine e = one-made c (linesOf c) (inputsOf c) fs ps (i .made e) .1
     work (Refused m k) e = i .nothing m k e .1

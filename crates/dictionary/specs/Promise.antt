@@ -13,14 +13,14 @@ use Rattle.circuit.specs.Promise.{circuitRules}
 use Rattle.lists.specs.Faults.{faultCount}
 use Rattle.lists.specs.Patterns.{patternCount}
 use Rattle.lists.specs.Both.{listRules}
-use Rattle.rows.specs.Table.{tableOf, workOf}
+use Rattle.rows.specs.Table.{tableOf, tableWork}
 
 -- what is checked after the circuit: the faults, the patterns, and the exact sizes: table faults × patterns, work memory 2N
-abbrev pub restRules : List ℕ → ℕ → ℕ → List ℕ → List ℕ → ℕ → ℕ → List Rule
-restRules c n m fs ps table work = listRules c m fs ps ++ lentRules (faultCount fs * patternCount m ps) table (2 * n) work
+abbrev pub dictionaryRestRules : List ℕ → ℕ → ℕ → List ℕ → List ℕ → ℕ → ℕ → List Rule
+dictionaryRestRules c n m fs ps table work = listRules c m fs ps ++ lentRules (faultCount fs * patternCount m ps) table (2 * n) work
 
 abbrev pub dictionaryRules : List ℕ → List ℕ → List ℕ → List ℕ → List ℕ → List Rule
-dictionaryRules c fs ps t w = circuitRules c ++ restRules c (linesOf c) (inputsOf c) fs ps (length t) (length w)
+dictionaryRules c fs ps t w = circuitRules c ++ dictionaryRestRules c (linesOf c) (inputsOf c) fs ps (length t) (length w)
 
 -- where these rules are to be checked, t and w were lent, and r, t′ and w′ come back: the answer, its number and values,
 -- and every byte of the table and of the work memory
@@ -28,7 +28,7 @@ pub record Answered (rules : List Rule) (c : List ℕ) (n m : ℕ) (fs ps t w : 
   pub answer : r ≡ refusal rules
   pub numbers : told r done ≡ told (refusal rules) done
   pub table : t′ ≡ unless (refusal rules) t (tableOf c n m fs ps)
-  pub work : w′ ≡ unless (refusal rules) w (workOf c n m fs ps)
+  pub work : w′ ≡ unless (refusal rules) w (tableWork c n m fs ps)
 
 -- the promise, whatever the bytes
 abbrev pub Dictionary : List ℕ → List ℕ → List ℕ → List ℕ → List ℕ → Ruling → List ℕ → List ℕ → Type 0

@@ -8,8 +8,8 @@ use rows::fill_table;
 ghost use mathlib.Core.Path.{_≡_};
 ghost use Rattle.answers.specs.Rules.{refusal};
 ghost use Rattle.circuit.specs.Formed.{Known};
-ghost use Rattle.dictionary.specs.Promise.{restRules, Dictionary};
-ghost use Rattle.dictionary.specs.Owed.{RestAnswered};
+ghost use Rattle.dictionary.specs.Promise.{dictionaryRestRules, Dictionary};
+ghost use Rattle.dictionary.specs.Owed.{DictionaryDone};
 
 // Refusals 6 to 10.
 fn check_rest(
@@ -22,7 +22,7 @@ fn check_rest(
     work: usize,
 ) -> Ruling
     requires { ⌜ Known (now circuit) n inputs ⌝ }
-    ensures { λ r. ⌜ r ≡ refusal (restRules (now (circuit .entry)) n inputs (now (faults .entry)) (now (patterns .entry)) table work) ⌝ }
+    ensures { λ r. ⌜ r ≡ refusal (dictionaryRestRules (now (circuit .entry)) n inputs (now (faults .entry)) (now (patterns .entry)) table work) ⌝ }
 {
     let v = check_lists(circuit, inputs, faults, patterns);
     match v {
@@ -46,7 +46,7 @@ fn accepted(
     work: &mut [u8],
 ) -> Ruling
     requires { ⌜ Known (now circuit) n inputs ⌝ }
-    ensures { λ r. ⌜ RestAnswered (now (circuit .entry)) n inputs (now (faults .entry)) (now (patterns .entry)) (now (table .entry)) (now (work .entry))
+    ensures { λ r. ⌜ DictionaryDone (now (circuit .entry)) n inputs (now (faults .entry)) (now (patterns .entry)) (now (table .entry)) (now (work .entry))
         r (now (table .exit)) (now (work .exit)) ⌝ }
 {
     let v = check_rest(

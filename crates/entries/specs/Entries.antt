@@ -10,7 +10,7 @@ use Rattle.answers.specs.Rules.{refusal, unless}
 use Rattle.answers.specs.Area.{Numbers, success, told, done, Entered, entered}
 use Rattle.circuit.specs.Record.{linesOf, inputsOf, outputsOf}
 use Rattle.circuit.specs.Promise.{circuitRules}
-use Rattle.rows.specs.Table.{tableOf, workOf}
+use Rattle.rows.specs.Table.{tableOf, tableWork}
 use Rattle.dictionary.specs.Promise.{dictionaryRules}
 use Rattle.entries.specs.declared.Reply.{Reply}
 use Rattle.tables.specs.Entries.{entriesOf}
@@ -32,24 +32,24 @@ abbrev pub checkNumbers : List ℕ → Numbers
 checkNumbers c = told (refusal (circuitRules c)) (success (linesOf c) (inputsOf c) (outputsOf c))
 
 -- the dictionary maker: done; the table t and the work memory w, lent with the answer area a, become t′ and w′
-pub record Made (c fs ps t w a : List ℕ) (r : ℕ) (t′ w′ a′ : List ℕ) : Type 0 where
+pub record DictionaryEntered (c fs ps t w a : List ℕ) (r : ℕ) (t′ w′ a′ : List ℕ) : Type 0 where
   pub answer : Entered a (told (refusal (dictionaryRules c fs ps t w)) done) r a′
   pub table : t′ ≡ entered a t (unless (refusal (dictionaryRules c fs ps t w)) t (tableOf c (linesOf c) (inputsOf c) fs ps))
-  pub work : w′ ≡ entered a w (unless (refusal (dictionaryRules c fs ps t w)) w (workOf c (linesOf c) (inputsOf c) fs ps))
+  pub work : w′ ≡ entered a w (unless (refusal (dictionaryRules c fs ps t w)) w (tableWork c (linesOf c) (inputsOf c) fs ps))
 
 -- the compactor: done; the marks m, lent with the answer area a, become m′
-pub record Compacted (F P : ℕ) (t m a : List ℕ) (r : ℕ) (m′ a′ : List ℕ) : Type 0 where
+pub record CompactEntered (F P : ℕ) (t m a : List ℕ) (r : ℕ) (m′ a′ : List ℕ) : Type 0 where
   pub answer : Entered a (told (refusal (compactRules F P t m)) done) r a′
   pub marks : m′ ≡ entered a m (unless (refusal (compactRules F P t m)) m (needs.compacted (entriesOf F t) F P))
 
 -- the test search: outcome and nodes; the test buffer t and the work memory w become t′ and w′
-pub record Found (c f : List ℕ) (b : ℕ) (t w a : List ℕ) (r : ℕ) (t′ w′ a′ : List ℕ) : Type 0 where
+pub record SearchEntered (c f : List ℕ) (b : ℕ) (t w a : List ℕ) (r : ℕ) (t′ w′ a′ : List ℕ) : Type 0 where
   pub answer : Entered a (told (refusal (searchRules c f (length t) (length w))) (verdictNumbers (verdictFor c (faultAt f 0) b))) r a′
   pub test : t′ ≡ entered a t (unless (refusal (searchRules c f (length t) (length w))) t (testFor c (faultAt f 0) b t))
   pub work : w′ ≡ entered a w (unless (refusal (searchRules c f (length t) (length w))) w (workFor c (faultAt f 0) b w))
 
 -- the clause writer: words, clauses and variables; the words w become w′
-pub record Laid (c f : List ℕ) (w : List ℤ) (a : List ℕ) (r : ℕ) (w′ : List ℤ) (a′ : List ℕ) : Type 0 where
+pub record ClausesEntered (c f : List ℕ) (w : List ℤ) (a : List ℕ) (r : ℕ) (w′ : List ℤ) (a′ : List ℕ) : Type 0 where
   pub answer :
       Entered a
       (told (refusal (clauseRules c f (length w))) (success (length (wordsFor c (faultAt f 0))) (length (clausesFor c (faultAt f 0))) (variablesOf c (linesOf c))))
@@ -57,6 +57,6 @@ pub record Laid (c f : List ℕ) (w : List ℤ) (a : List ℕ) (r : ℕ) (w′ :
   pub words : w′ ≡ entered a w (unless (refusal (clauseRules c f (length w))) w (laidOn w (wordsFor c (faultAt f 0))))
 
 -- the reader of the bench notation: records; the buffer c, lent with the answer area a, becomes c′
-pub record Taken (t c a : List ℕ) (r : ℕ) (c′ a′ : List ℕ) : Type 0 where
+pub record BenchEntered (t c a : List ℕ) (r : ℕ) (c′ a′ : List ℕ) : Type 0 where
   pub answer : Entered a (told (refusal (benchRules t (length c))) (success (linesOf (recordsIn t)) 0 0)) r a′
   pub circuit : c′ ≡ entered a c (unless (refusal (benchRules t (length c))) c (reading.laidOn c (recordsIn t)))

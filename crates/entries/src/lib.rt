@@ -15,12 +15,12 @@ use search::search;
 ghost use mathlib.Core.Path.{_≡_};
 ghost use Rattle.answers.specs.Area.{refusedAt, told, done, Entered};
 ghost use Rattle.answers.specs.Area as answering;
-ghost use Rattle.circuit.specs.Promise.{numbersOf};
+ghost use Rattle.circuit.specs.Promise.{checkedNumbers};
 ghost use Rattle.search.specs.Promise.{verdictNumbers};
 ghost use Rattle.search.specs.Promise as searching;
 ghost use Rattle.clauses.specs.Promise as writing;
 ghost use Rattle.bench.specs.Promise as reading;
-ghost use Rattle.entries.specs.Entries.{numbersIn, checkNumbers, Made, Compacted, Found, Laid, Taken};
+ghost use Rattle.entries.specs.Entries.{numbersIn, checkNumbers, DictionaryEntered, CompactEntered, SearchEntered, ClausesEntered, BenchEntered};
 
 // The size of the answer area, and the refusal of any other.
 const AREA: usize = 32;
@@ -69,7 +69,7 @@ fn of_ruling(v: Ruling) -> Reply
 }
 
 fn of_checked(v: Checked) -> Reply
-    ensures { λ r. ⌜ numbersIn r ≡ numbersOf v ⌝ }
+    ensures { λ r. ⌜ numbersIn r ≡ checkedNumbers v ⌝ }
 {
     match v {
         Checked::Accepted(n, inputs, outputs) => success(n as u64, inputs as u64, outputs as u64),
@@ -88,7 +88,7 @@ fn of_verdict(v: Verdict) -> Reply
 }
 
 fn of_searched(v: Searched) -> Reply
-    ensures { λ r. ⌜ numbersIn r ≡ searching.numbersOf v ⌝ }
+    ensures { λ r. ⌜ numbersIn r ≡ searching.searchedNumbers v ⌝ }
 {
     match v {
         Searched::Verdict(found) => of_verdict(found),
@@ -97,7 +97,7 @@ fn of_searched(v: Searched) -> Reply
 }
 
 fn of_written(v: Written) -> Reply
-    ensures { λ r. ⌜ numbersIn r ≡ writing.numbersOf v ⌝ }
+    ensures { λ r. ⌜ numbersIn r ≡ writing.writtenNumbers v ⌝ }
 {
     match v {
         Written::Success(words, clauses, variables) => success(
@@ -110,7 +110,7 @@ fn of_written(v: Written) -> Reply
 }
 
 fn of_read(v: Read) -> Reply
-    ensures { λ r. ⌜ numbersIn r ≡ reading.numbersOf v ⌝ }
+    ensures { λ r. ⌜ numbersIn r ≡ reading.readNumbers v ⌝ }
 {
     match v {
         Read::Records(n) => success(n as u64, 0, 0),
@@ -148,7 +148,7 @@ pub extern "C" fn ullimaqsu_dictionary(
     work: &mut [u8],
     answer: &mut [u8],
 ) -> u32
-    ensures { λ r. ⌜ Made (now (circuit .entry)) (now (faults .entry)) (now (patterns .entry)) (now (table .entry)) (now (work .entry)) (now (answer .entry))
+    ensures { λ r. ⌜ DictionaryEntered (now (circuit .entry)) (now (faults .entry)) (now (patterns .entry)) (now (table .entry)) (now (work .entry)) (now (answer .entry))
         r (now (table .exit)) (now (work .exit)) (now (answer .exit)) ⌝ }
 {
     if answer.len() != AREA {
@@ -166,7 +166,7 @@ pub extern "C" fn ullimaqsu_compact(
     marks: &mut [u8],
     answer: &mut [u8],
 ) -> u32
-    ensures { λ r. ⌜ Compacted «fault_count» «pattern_count» (now (table .entry)) (now (marks .entry)) (now (answer .entry)) r (now (marks .exit)) (now (answer .exit)) ⌝ }
+    ensures { λ r. ⌜ CompactEntered «fault_count» «pattern_count» (now (table .entry)) (now (marks .entry)) (now (answer .entry)) r (now (marks .exit)) (now (answer .exit)) ⌝ }
 {
     if answer.len() != AREA {
         return OTHER_SIZE;
@@ -184,7 +184,7 @@ pub extern "C" fn ullimaqsu_search(
     work: &mut [u8],
     answer: &mut [u8],
 ) -> u32
-    ensures { λ r. ⌜ Found (now (circuit .entry)) (now (fault .entry)) budget (now (test .entry)) (now (work .entry)) (now (answer .entry))
+    ensures { λ r. ⌜ SearchEntered (now (circuit .entry)) (now (fault .entry)) budget (now (test .entry)) (now (work .entry)) (now (answer .entry))
         r (now (test .exit)) (now (work .exit)) (now (answer .exit)) ⌝ }
 {
     if answer.len() != AREA {
@@ -201,7 +201,7 @@ pub extern "C" fn ullimaqsu_clauses(
     words: &mut [i32],
     answer: &mut [u8],
 ) -> u32
-    ensures { λ r. ⌜ Laid (now (circuit .entry)) (now (fault .entry)) (now (words .entry)) (now (answer .entry)) r (now (words .exit)) (now (answer .exit)) ⌝ }
+    ensures { λ r. ⌜ ClausesEntered (now (circuit .entry)) (now (fault .entry)) (now (words .entry)) (now (answer .entry)) r (now (words .exit)) (now (answer .exit)) ⌝ }
 {
     if answer.len() != AREA {
         return OTHER_SIZE;
@@ -212,7 +212,7 @@ pub extern "C" fn ullimaqsu_clauses(
 
 #[no_mangle]
 pub extern "C" fn ullimaqsu_bench(text: &[u8], circuit: &mut [u8], answer: &mut [u8]) -> u32
-    ensures { λ r. ⌜ Taken (now (text .entry)) (now (circuit .entry)) (now (answer .entry)) r (now (circuit .exit)) (now (answer .exit)) ⌝ }
+    ensures { λ r. ⌜ BenchEntered (now (text .entry)) (now (circuit .entry)) (now (answer .entry)) r (now (circuit .exit)) (now (answer .exit)) ⌝ }
 {
     if answer.len() != AREA {
         return OTHER_SIZE;

@@ -9,14 +9,14 @@ use Rattle.ground.proofs.Grow.{grow-length}
 use Rattle.lists.specs.declared.Fault.{Fault}
 use Rattle.simulate.specs.Simulate.{unforced, lineValue}
 use Rattle.simulate.specs.Work.{goodOf, faultyOf, bothOf}
-use Rattle.simulate.specs.Owed.{AddsFaulty}
+use Rattle.simulate.specs.Owed.{FaultyValuesDone}
 use Rattle.entry.specs.Entry.{entryOf, entryAt}
-use Rattle.entry.specs.Owed.{Looked, LooksFrom}
+use Rattle.entry.specs.Owed.{LookDone, FaultEntryDone}
 
 pub looks : (fault : Fault) (c : List ℕ) (n : ℕ) (w w′ : List ℕ) {r : ℕ}
-    → AddsFaulty fault c n w w′
+    → FaultyValuesDone fault c n w w′
     → r ≡ entryOf c (take n w′) (drop n w′) n
-    → LooksFrom fault c n w w′ r
+    → FaultEntryDone fault c n w w′ r
 unfolding entryAt
 looks fault c n w w′ adds e p good =
     let all : w′ ≡ bothOf fault c p n = adds p good in
@@ -29,6 +29,6 @@ looks fault c n w w′ adds e p good =
 -- the good values first
 pub looked : (fault : Fault) (c p : List ℕ) (n : ℕ) (w x w′ : List ℕ) {r : ℕ}
     → w ≡ goodOf c p n ++ x
-    → LooksFrom fault c n w w′ r
-    → Looked fault c p n w′ r
+    → FaultEntryDone fault c n w w′ r
+    → LookDone fault c p n w′ r
 looked fault c p n w x w′ e l = l p (ap (take n) e ∙ take-at (goodOf c p n) x n (grow-length (lineValue unforced c p) n))

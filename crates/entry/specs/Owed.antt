@@ -9,7 +9,7 @@ use lib.ListN.{length, take}
 use Rattle.ground.specs.Choose.{choose}
 use Rattle.lists.specs.declared.Fault.{Fault}
 use Rattle.simulate.specs.Work.{goodOf, bothOf}
-use Rattle.simulate.specs.Owed.{Room}
+use Rattle.simulate.specs.Owed.{GoodValuesReady}
 use Rattle.tables.specs.Entries.{pass, fail, unknown}
 use Rattle.entry.specs.Entry.{Test, differ, agree, entryAt}
 
@@ -24,20 +24,20 @@ statusOf out a b = statusBy agree out a b
 unfoldable pub joinedOf : ℕ → ℕ → ℕ
 joinedOf r s = choose (eqb s pass) r unknown
 
-pub record Halves (c : List ℕ) (n work : ℕ) : Type 0 where
+pub record EntryRoom (c : List ℕ) (n work : ℕ) : Type 0 where
   pub circuit : length c ≡ 8 * n
   pub two : work ≡ n + n
 
 -- room for a look at a pattern and a fault
-pub record Ready (c : List ℕ) (inputs : ℕ) (fault : Fault) (n work : ℕ) : Type 0 where
-  pub room : Room c inputs n work
+pub record LookReady (c : List ℕ) (inputs : ℕ) (fault : Fault) (n work : ℕ) : Type 0 where
+  pub room : GoodValuesReady c inputs n work
   pub line : fault .line < n
 
 -- a look at the pattern p and a fault: the entry, and the work memory afterwards
-pub record Looked (fault : Fault) (c p : List ℕ) (n : ℕ) (work : List ℕ) (r : ℕ) : Type 0 where
+pub record LookDone (fault : Fault) (c p : List ℕ) (n : ℕ) (work : List ℕ) (r : ℕ) : Type 0 where
   pub entry-is : r ≡ entryAt fault c p n
   pub work-is : work ≡ bothOf fault c p n
 
 -- the same where the first half of w has the good values, under whatever pattern
-abbrev pub LooksFrom : Fault → List ℕ → ℕ → List ℕ → List ℕ → ℕ → Type 0
-LooksFrom fault c n w w′ r = (p : List ℕ) → take n w ≡ goodOf c p n → Looked fault c p n w′ r
+abbrev pub FaultEntryDone : Fault → List ℕ → ℕ → List ℕ → List ℕ → ℕ → Type 0
+FaultEntryDone fault c n w w′ r = (p : List ℕ) → take n w ≡ goodOf c p n → LookDone fault c p n w′ r

@@ -7,9 +7,9 @@ use tables::PASS;
 use tables::UNKNOWN;
 ghost use mathlib.Core.Path.{_≡_};
 ghost use lib.ListN.{length, take, drop};
-ghost use Rattle.simulate.specs.Owed.{FaultRoom};
+ghost use Rattle.simulate.specs.Owed.{FaultyValuesReady};
 ghost use Rattle.entry.specs.Entry.{entryOf};
-ghost use Rattle.entry.specs.Owed.{statusOf, joinedOf, Halves, Ready, Looked, LooksFrom};
+ghost use Rattle.entry.specs.Owed.{statusOf, joinedOf, EntryRoom, LookReady, LookDone, FaultEntryDone};
 
 // What one line says, by its output byte and its good and faulty value.
 fn status(out: u8, a: u8, b: u8) -> u8
@@ -38,7 +38,7 @@ fn joined(r: u8, s: u8) -> u8
 
 // The entry, where the work memory holds the good and the faulty values of n lines.
 pub fn entry_in(circuit: &[u8], work: &[u8], n: usize) -> u8
-    requires { ⌜ Halves (now circuit) n (length (now work)) ⌝ }
+    requires { ⌜ EntryRoom (now circuit) n (length (now work)) ⌝ }
     ensures { λ r. ⌜ r ≡ entryOf (now (circuit .entry)) (take n (now (work .entry))) (drop n (now (work .entry))) n ⌝ }
 {
     let mut k = 0;
@@ -56,8 +56,8 @@ pub fn entry_in(circuit: &[u8], work: &[u8], n: usize) -> u8
 
 // The entry of a fault, where the first half of the work memory has the good values; the second gets the faulty ones.
 pub fn fault_entry(circuit: &[u8], fault: Fault, work: &mut [u8], n: usize) -> u8
-    requires { ⌜ FaultRoom (now circuit) fault n (length (now work)) ⌝ }
-    ensures { λ r. ⌜ LooksFrom fault (now (circuit .entry)) n (now (work .entry)) (now (work .exit)) r ⌝ }
+    requires { ⌜ FaultyValuesReady (now circuit) fault n (length (now work)) ⌝ }
+    ensures { λ r. ⌜ FaultEntryDone fault (now (circuit .entry)) n (now (work .entry)) (now (work .exit)) r ⌝ }
 {
     faulty_values(circuit, fault, work, n);
     entry_in(circuit, work, n)
@@ -65,8 +65,8 @@ pub fn fault_entry(circuit: &[u8], fault: Fault, work: &mut [u8], n: usize) -> u
 
 // Looks at a pattern and a fault: the work memory gets the good values, then the faulty ones, and the entry comes back.
 pub fn look(circuit: &[u8], pattern: &[u8], fault: Fault, work: &mut [u8], n: usize) -> u8
-    requires { ⌜ Ready (now circuit) (length (now pattern)) fault n (length (now work)) ⌝ }
-    ensures { λ r. ⌜ Looked fault (now (circuit .entry)) (now (pattern .entry)) n (now (work .exit)) r ⌝ }
+    requires { ⌜ LookReady (now circuit) (length (now pattern)) fault n (length (now work)) ⌝ }
+    ensures { λ r. ⌜ LookDone fault (now (circuit .entry)) (now (pattern .entry)) n (now (work .exit)) r ⌝ }
 {
     good_values(circuit, pattern, work, n);
     fault_entry(circuit, fault, work, n)

@@ -17,7 +17,7 @@ use Rattle.simulate.specs.Boolean.{Vector, good, truthAt}
 use Rattle.syntax.proofs.Says.{right-text}
 use Rattle.statements.specs.Tables.{inputsIn}
 use Rattle.names.specs.Names.{nameRules}
-use Rattle.records.specs.Net.{sizeOf, lineOf}
+use Rattle.records.specs.Net.{netSize, netLine}
 use Rattle.netlist.specs.Solved.{Solved, Right}
 use Rattle.netlist.proofs.Sizes.{net-says, net-refusal, net-accepted}
 use Rattle.netlist.specs.Sizes.{netSizes}
@@ -25,7 +25,7 @@ use Rattle.circuit.specs.Sizes.{sizeRules}
 use Rattle.netlist.proofs.Values.{solution3, unique3, solution2, unique2}
 use Rattle.bench.specs.Text.{formsIn, defsIn, usesIn, netIn}
 use Rattle.bench.specs.Promise.{benchRules, recordsIn}
-use Rattle.equations.specs.Numbers.{nameOf, numberOf, lineFor}
+use Rattle.equations.specs.Numbers.{nameOf, numberFor, lineFor}
 use Rattle.equations.specs.Computes.{sizeIn, outputsIn, OneSolution, Computes}
 use Rattle.equations.proofs.Tables.{inputs-are}
 use Rattle.equations.proofs.RightNet.{size-is, number-below, right-net}
@@ -39,20 +39,20 @@ use Rattle.equations.proofs.Parts.{Parts, parts}
 module _ (t : List ℕ) (none : refusal (nameRules t (defsIn t) (usesIn t)) ≡ Fine) where
   -- what solves the net, and is the only one, solves the text, and is the only one
   one-solution : {A : Type 0} {gate : ℕ → (ℕ → A) → A} {inputs : ℕ → A} (value : ℕ → A)
-      → Solved gate (netIn t) inputs (λ x. value (lineOf (netIn t) x))
-      → ((v : ℕ → A) → Solved gate (netIn t) inputs v → (x : ℕ) → x < sizeOf (netIn t) → v x ≡ value (lineOf (netIn t) x))
+      → Solved gate (netIn t) inputs (λ x. value (netLine (netIn t) x))
+      → ((v : ℕ → A) → Solved gate (netIn t) inputs v → (x : ℕ) → x < netSize (netIn t) → v x ≡ value (netLine (netIn t) x))
       → OneSolution gate t inputs (λ w. value (lineFor t w))
   unfolding lineFor
   one-solution value s u = record {
     solves = text-solves t none s;
     only = λ other o w d.
-        ap other (sym (name-of t none w d)) ∙ u (λ x. other (nameOf t x)) (net-solved t none o) (numberOf t w) (number-below t none w d);
+        ap other (sym (name-of t none w d)) ∙ u (λ x. other (nameOf t x)) (net-solved t none o) (numberFor t w) (number-below t none w d);
   }
 
 -- sizes within the limits
 pub record Sized (t : List ℕ) : Type 0 where
-  pub some : 1 ≤ sizeOf (netIn t)
-  pub few : sizeOf (netIn t) ≤ 2048
+  pub some : 1 ≤ netSize (netIn t)
+  pub few : netSize (netIn t) ≤ 2048
   pub inputs : netIn t .inputs ≤ 64
   pub outputs : 1 ≤ length (netIn t .outputs)
 
@@ -72,7 +72,7 @@ module _ (t : List ℕ) (room : ℕ) (p : Parts t room) where
   s : Sized t
   s = sized t r (p .circuit)
 
-  few : sizeOf (netIn t) ≤ 65536
+  few : netSize (netIn t) ≤ 65536
   few = omega (arith, s .few)
 
   accepted : checkOf (recordsIn t) ≡ Accepted (sizeIn t) (inputsIn (formsIn t)) (outputsIn t)
@@ -80,13 +80,13 @@ module _ (t : List ℕ) (room : ℕ) (p : Parts t room) where
       net-accepted (netIn t) r (s .some) (s .few) (s .inputs) (s .outputs) ∙ cc (size-is t, inputs-are t, outputs-count t (p .names) r)
 
   -- with three values
-  values : (q : List ℕ) → OneSolution gateOf t (λ j. getD q j 0) (λ w. getD (goodOf (recordsIn t) q (sizeOf (netIn t))) (lineFor t w) 0)
+  values : (q : List ℕ) → OneSolution gateOf t (λ j. getD q j 0) (λ w. getD (goodOf (recordsIn t) q (netSize (netIn t))) (lineFor t w) 0)
   values q =
-      one-solution t (p .names) (λ k. getD (goodOf (recordsIn t) q (sizeOf (netIn t))) k 0) (solution3 (netIn t) r few q) (λ v. unique3 (netIn t) r few q)
+      one-solution t (p .names) (λ k. getD (goodOf (recordsIn t) q (netSize (netIn t))) k 0) (solution3 (netIn t) r few q) (λ v. unique3 (netIn t) r few q)
 
   -- over Bool
-  truths : (x : Vector) → OneSolution boolGate t x (λ w. truthAt good (recordsIn t) x (sizeOf (netIn t)) (lineFor t w))
-  truths x = one-solution t (p .names) (truthAt good (recordsIn t) x (sizeOf (netIn t))) (solution2 (netIn t) r few x) (λ v. unique2 (netIn t) r few x)
+  truths : (x : Vector) → OneSolution boolGate t x (λ w. truthAt good (recordsIn t) x (netSize (netIn t)) (lineFor t w))
+  truths x = one-solution t (p .names) (truthAt good (recordsIn t) x (netSize (netIn t))) (solution2 (netIn t) r few x) (λ v. unique2 (netIn t) r few x)
 
   computes-parts : Computes t (recordsIn t)
   computes-parts = record {

@@ -10,13 +10,13 @@ use lib.ListN.{getD}
 use Rattle.ground.specs.Choose.{choose}
 use Rattle.answers.specs.declared.Ruling.the-variants.{Fine}
 use Rattle.answers.specs.Rules.{refusal}
-use Rattle.statements.specs.Tables.{isGate, gatesTo}
+use Rattle.statements.specs.Tables.{saysGate, gatesTo}
 use Rattle.names.specs.Names.{nameRules}
 use Rattle.order.specs.Order as order
 use Rattle.records.specs.Net.{gatesOf, pinOf}
 use Rattle.bench.specs.Text.{formsIn, defsIn, usesIn, netIn}
-use Rattle.equations.specs.Right.{Line, Reads, Way, last, then, TextCycle}
-use Rattle.equations.specs.Numbers.{nameOf, numberOf}
+use Rattle.equations.specs.Right.{Line, ReadsFrom, TextWay, last, then, TextCycle}
+use Rattle.equations.specs.Numbers.{nameOf, numberFor}
 use Rattle.equations.proofs.Tables.{Nth, counted, gates-are, gate-line, pin-get}
 use Rattle.equations.proofs.SameMeaning.{name-of-gate, name-of-pin, number-of-gate}
 
@@ -47,12 +47,12 @@ module _ (t : List ℕ) where
   module _ (none : refusal (nameRules t (defsIn t) (usesIn t)) ≡ Fine) where
     -- ---- from the text to the net
 
-    net-source : {k h : ℕ} → Line isGate t k → Reads t k h → Source (gatesTo (formsIn t) k) (gatesTo (formsIn t) h)
+    net-source : {k h : ℕ} → Line saysGate t k → ReadsFrom t k h → Source (gatesTo (formsIn t) k) (gatesTo (formsIn t) h)
     net-source {k} {h} l r =
         pin-source (gatesTo (formsIn t) k) (r .pin) (gatesTo (formsIn t) h) (rw (gates-are t) (counted (r .gate)))
-        (pin-get l (r .pin) ∙ ap (numberOf t) (r .is) ∙ number-of-gate t none (r .gate))
+        (pin-get l (r .pin) ∙ ap (numberFor t) (r .is) ∙ number-of-gate t none (r .gate))
 
-    net-way : {k h : ℕ} → Line isGate t k → Way t k h → NetWay (gatesTo (formsIn t) k) (gatesTo (formsIn t) h)
+    net-way : {k h : ℕ} → Line saysGate t k → TextWay t k h → NetWay (gatesTo (formsIn t) k) (gatesTo (formsIn t) h)
     net-way l (last r) = order.last (net-source l r)
     net-way l (then r w) = order.then (net-source l r) (net-way (r .gate) w)
 
@@ -61,7 +61,7 @@ module _ (t : List ℕ) where
 
     -- ---- and back
 
-    text-reads : {g x : ℕ} (n : Nth isGate t g) (m : Nth isGate t x) → Source g x → Reads t (n .place) (m .place)
+    text-reads : {g x : ℕ} (n : Nth saysGate t g) (m : Nth saysGate t x) → Source g x → ReadsFrom t (n .place) (m .place)
     text-reads {g} {x} n m r =
         let p = source-pin g x r in
         let e : pinOf (netIn t) (gatesTo (formsIn t) (n .place)) (p .0) ≡ gatesTo (formsIn t) (m .place) =
@@ -72,7 +72,7 @@ module _ (t : List ℕ) where
           is = sym (name-of-pin t none (n .line) (p .0)) ∙ ap (nameOf t) e ∙ name-of-gate t none (m .line);
         }
 
-    text-way : {g x : ℕ} (n : Nth isGate t g) (m : Nth isGate t x) → NetWay g x → Way t (n .place) (m .place)
+    text-way : {g x : ℕ} (n : Nth saysGate t g) (m : Nth saysGate t x) → NetWay g x → TextWay t (n .place) (m .place)
     text-way n m (order.last r) = last (text-reads n m r)
     text-way n m (order.then r w) = let o = gate-line t (r .gate) in then (text-reads n o r) (text-way o m w)
 

@@ -9,10 +9,10 @@ use Rattle.answers.specs.declared.Ruling.the-variants.{Fine}
 use Rattle.answers.specs.Rules.{refusal}
 use Rattle.gates.specs.Gate.{pinsOf}
 use Rattle.gates.proofs.Laws.{few-pins}
-use Rattle.statements.specs.Tables.{isInput, isGate, gatesTo}
+use Rattle.statements.specs.Tables.{saysInput, saysGate, gatesTo}
 use Rattle.names.specs.Names.{nameRules}
 use Rattle.records.specs.Net as net
-use Rattle.records.specs.Net.{sizeOf, lineOf, numberOn, recordsOf}
+use Rattle.records.specs.Net.{netSize, netLine, numberOn, recordsOf}
 use Rattle.netlist.specs.Solved.{Right}
 use Rattle.netlist.proofs.Numbers.{line-gate}
 use Rattle.netlist.proofs.Fields.{net-kind, net-pin}
@@ -26,24 +26,24 @@ use Rattle.equations.proofs.RightNet.{size-is}
 use Rattle.equations.proofs.SameMeaning.{gate-defines, input-defines, number-of-gate}
 use Rattle.equations.proofs.Lines.{number-on, own-lines}
 
-module _ (t : List ℕ) (none : refusal (nameRules t (defsIn t) (usesIn t)) ≡ Fine) (r : Right (netIn t)) (few : sizeOf (netIn t) ≤ 65536) where
+module _ (t : List ℕ) (none : refusal (nameRules t (defsIn t) (usesIn t)) ≡ Fine) (r : Right (netIn t)) (few : netSize (netIn t) ≤ 65536) where
   own : OwnLines t
   own = own-lines t none r
 
-  inside : (w : List ℕ) → Defined t w → lineFor t w < sizeOf (netIn t)
+  inside : (w : List ℕ) → Defined t w → lineFor t w < netSize (netIn t)
   inside w d = rw (size-is t) (own .inside w d)
 
   -- ---- an input
 
-  input-kind : (k : ℕ) → Line isInput t k → net.kindOn (netIn t) (lineFor t (nameOn t k)) ≡ 0
-  unfolding net.kindOn
+  input-kind : (k : ℕ) → Line saysInput t k → net.netKind (netIn t) (lineFor t (nameOn t k)) ≡ 0
+  unfolding net.netKind
   input-kind k l =
       let e : lineFor t (nameOn t k) < netIn t .inputs = omega (arith, own .inputs-first k l, counted l, inputs-are t) in
       rw (lt-ltb (lineFor t (nameOn t k)) (netIn t .inputs) e)
 
   -- ---- a gate
 
-  module _ (k : ℕ) (l : Line isGate t k) where
+  module _ (k : ℕ) (l : Line saysGate t k) where
     number-is : numberOn (netIn t) (lineFor t (nameOn t k)) ≡ gatesTo (formsIn t) k
     number-is = number-on t none r (nameOn t k) (k, gate-defines l) ∙ number-of-gate t none l
 
@@ -51,15 +51,15 @@ module _ (t : List ℕ) (none : refusal (nameRules t (defsIn t) (usesIn t)) ≡ 
     behind : netIn t .inputs ≤ lineFor t (nameOn t k)
     unfolding lineFor
     behind =
-        let e = ap (lineOf (netIn t)) (number-of-gate t none l) ∙ line-gate (netIn t) (gatesTo (formsIn t) k) (rw (gates-are t) (counted l)) in
+        let e = ap (netLine (netIn t)) (number-of-gate t none l) ∙ line-gate (netIn t) (gatesTo (formsIn t) k) (rw (gates-are t) (counted l)) in
         omega (arith, e)
 
-    gate-kind : net.kindOn (netIn t) (lineFor t (nameOn t k)) ≡ kindOn t k
-    unfolding net.kindOn
+    gate-kind : net.netKind (netIn t) (lineFor t (nameOn t k)) ≡ kindOn t k
+    unfolding net.netKind
     gate-kind = rw (le-ltb (lineFor t (nameOn t k)) (netIn t .inputs) behind, number-is) (kind-get l)
 
-    gate-pin : (s : ℕ) → s ≤ pinsOf (kindOn t k) → net.sourceOn (netIn t) (lineFor t (nameOn t k)) s ≡ lineFor t (sourceOn t k s)
-    unfolding net.sourceOn lineFor
+    gate-pin : (s : ℕ) → s ≤ pinsOf (kindOn t k) → net.netSource (netIn t) (lineFor t (nameOn t k)) s ≡ lineFor t (sourceOn t k s)
+    unfolding net.netSource lineFor
     gate-pin s h = rw (gate-kind, le-leb s (pinsOf (kindOn t k)) h, number-is, pin-get l s)
 
   pub own-records : OwnRecords t (recordsOf (netIn t))

@@ -12,12 +12,12 @@ use Rattle.answers.specs.Rules.{refusal}
 use Rattle.syntax.specs.Syntax.{Formed}
 use Rattle.names.specs.Names.{nameRules}
 use Rattle.order.proofs.Says as order
-use Rattle.records.specs.Net.{gatesOf, placedOf, lineOf}
+use Rattle.records.specs.Net.{gatesOf, placedOf, netLine}
 use Rattle.netlist.specs.Solved.{Right}
 use Rattle.netlist.proofs.Numbers.{line-gate, order-long, order-gate, order-at}
 use Rattle.bench.specs.Text.{defsIn, usesIn, netIn}
 use Rattle.equations.specs.Meaning.{nameOn}
-use Rattle.equations.specs.Numbers.{numberOf, lineFor}
+use Rattle.equations.specs.Numbers.{numberFor, lineFor}
 use Rattle.equations.specs.Placing.{InOrder, FirstLeft}
 use Rattle.equations.proofs.Tables.{inputs-are, map-get, gate-line}
 use Rattle.equations.proofs.SameMeaning.{number-of-gate}
@@ -34,7 +34,7 @@ module _ (t : List ℕ) (f : Formed t) (none : refusal (nameRules t (defsIn t) (
     long = sym (length-map (w .lines) (number t)) ∙ ap length (w .are) ∙ order-long (netIn t) r
 
     -- the number of gate i of the order
-    number-at : (i : ℕ) → i < length (w .lines) → numberOf t (nameOn t (getD (w .lines) i 0)) ≡ getD (placedOf (netIn t)) i 0
+    number-at : (i : ℕ) → i < length (w .lines) → numberFor t (nameOn t (getD (w .lines) i 0)) ≡ getD (placedOf (netIn t)) i 0
     number-at i l =
         number-of-gate t none (order-gates t (w .placed .steps) (getD (w .lines) i 0) (elem-at (w .lines) i l))
         ∙ sym (map-get (number t) (w .lines) i l)
@@ -52,7 +52,7 @@ module _ (t : List ℕ) (f : Formed t) (none : refusal (nameRules t (defsIn t) (
           ∙ order.all-placed (netIn t .firsts) (netIn t .seconds) (r .placed) (number t k) (number-inside t l);
       lines = λ i l.
           let h : i < gatesOf (netIn t) = omega (arith, long) in
-          ap (lineOf (netIn t)) (number-at i l)
+          ap (netLine (netIn t)) (number-at i l)
           ∙ line-gate (netIn t) (getD (placedOf (netIn t)) i 0) (order-gate (netIn t) r i h)
           ∙ ap (λ (j : ℕ). netIn t .inputs + j) (order-at (netIn t) r i h)
           ∙ ap (λ (n : ℕ). n + i) (inputs-are t);

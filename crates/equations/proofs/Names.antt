@@ -19,7 +19,7 @@ use Rattle.names.proofs.Says.{names-say}
 use Rattle.names.proofs.OneDefinition.{one-definition, definition-is}
 use Rattle.bench.specs.Text.{formsIn, defsIn, usesIn}
 use Rattle.equations.specs.Right.{Defines, Defined, NamesRight}
-use Rattle.equations.specs.Numbers.{numberOf}
+use Rattle.equations.specs.Numbers.{numberFor}
 use Rattle.equations.proofs.Tables.{placeOf, def-get, def-inside, number-get}
 use Rattle.equations.proofs.Uses.{def-line, def-defines, outputAt, sourceAt, used-output, used-source, used-inside, used-cases}
 
@@ -50,8 +50,8 @@ module _ (t : List ℕ) (none : refusal (nameRules t (defsIn t) (usesIn t)) ≡ 
   }
 
   -- the number of a name is that of the line that defines it
-  pub number-of-name : {k : ℕ} {w : List ℕ} → Defines t k w → numberOf t w ≡ numberAt (formsIn t) k
-  unfolding numberOf
+  pub number-of-name : {k : ℕ} {w : List ℕ} → Defines t k w → numberFor t w ≡ numberAt (formsIn t) k
+  unfolding numberFor
   number-of-name {k} {w} p =
       let e = definition-is t (defsIn t) (usesIn t) none (defs-within t) (placeOf defines t k) (def-inside (p .line)) w (def-get (p .line) ∙ p .is) in
       let d : definition t (defsIn t) (length (defsIn t)) w - 1 ≡ placeOf defines t k = omega (arith, e) in

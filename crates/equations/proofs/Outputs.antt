@@ -17,9 +17,9 @@ use Rattle.answers.specs.Rules.{refusal}
 use Rattle.circuit.specs.Record as record-of
 use Rattle.words.specs.Words.{same}
 use Rattle.words.proofs.Same.{same-eq, same-refl}
-use Rattle.statements.specs.Tables.{isOutput, defines}
+use Rattle.statements.specs.Tables.{saysOutput, defines}
 use Rattle.names.specs.Names.{nameRules}
-use Rattle.records.specs.Net.{lineOf, numberOn, recordsOf}
+use Rattle.records.specs.Net.{netLine, numberOn, recordsOf}
 use Rattle.netlist.specs.Solved.{Right}
 use Rattle.netlist.proofs.Numbers.{line-number}
 use Rattle.netlist.proofs.Fields.{net-lines, net-out}
@@ -27,7 +27,7 @@ use Rattle.bench.specs.Text.{formsIn, defsIn, usesIn, netIn}
 use Rattle.shape.specs.Shape.{wordOn}
 use Rattle.equations.specs.Meaning.{linesIn, nameOn}
 use Rattle.equations.specs.Right.{Defines, Defined}
-use Rattle.equations.specs.Numbers.{numberOf, lineFor}
+use Rattle.equations.specs.Numbers.{numberFor, lineFor}
 use Rattle.equations.specs.Computes.{sizeIn, OwnLines, IsOutput, outputName, outputsIn}
 use Rattle.equations.proofs.Tables.{placeOf, counted, outputs-are, output-line, output-get}
 use Rattle.equations.proofs.Names.{names-right}
@@ -39,13 +39,13 @@ use Rattle.equations.proofs.Lines.{number-on, own-lines}
 
 module _ (t w : List ℕ) where
   abbrev outputOf : ℕ → Bool
-  outputOf k = isOutput (formsIn t) k && same (wordOn t k 1) w
+  outputOf k = saysOutput (formsIn t) k && same (wordOn t k 1) w
 
   name-output : outputName t w ≡ true → IsOutput t w
   unfolding outputName
   name-output e =
       let k = some-any (linesIn t) outputOf e in
-      let b = both (isOutput (formsIn t) (k .0)) (same (wordOn t (k .0) 1) w) (k .2) in
+      let b = both (saysOutput (formsIn t) (k .0)) (same (wordOn t (k .0) 1) w) (k .2) in
       record { place = k .0; line = record { inside = k .1; passes = b .0 }; is = same-eq (wordOn t (k .0) 1) w (b .1) }
 
   output-name : IsOutput t w → outputName t w ≡ true
@@ -59,7 +59,7 @@ module _ (t : List ℕ) (none : refusal (nameRules t (defsIn t) (usesIn t)) ≡ 
 
   -- ---- the net's outputs are the numbers of these names
 
-  number-output : (x : ℕ) → elem (netIn t .outputs) x ≡ true → (w : List ℕ) × IsOutput t w × (numberOf t w ≡ x)
+  number-output : (x : ℕ) → elem (netIn t .outputs) x ≡ true → (w : List ℕ) × IsOutput t w × (numberFor t w ≡ x)
   number-output x e =
       let p = elem-place (netIn t .outputs) x e in
       let n = output-line t (p .1) in (
@@ -68,9 +68,9 @@ module _ (t : List ℕ) (none : refusal (nameRules t (defsIn t) (usesIn t)) ≡ 
         sym (output-get (n .line)) ∙ ap (λ (i : ℕ). getD (netIn t .outputs) i 0) (n .before) ∙ p .2,
       )
 
-  output-number : (w : List ℕ) → IsOutput t w → elem (netIn t .outputs) (numberOf t w) ≡ true
+  output-number : (w : List ℕ) → IsOutput t w → elem (netIn t .outputs) (numberFor t w) ≡ true
   output-number w o =
-      rw (← o .is, ← output-get (o .line)) (elem-at (netIn t .outputs) (placeOf isOutput t (o .place)) (rw (outputs-are t) (counted (o .line))))
+      rw (← o .is, ← output-get (o .line)) (elem-at (netIn t .outputs) (placeOf saysOutput t (o .place)) (rw (outputs-are t) (counted (o .line))))
 
   -- ---- lines
 
@@ -85,7 +85,7 @@ module _ (t : List ℕ) (none : refusal (nameRules t (defsIn t) (usesIn t)) ≡ 
   outputs-exactly k l = (
     λ e.
         let w = number-output (numberOn (netIn t) k) (sym (flag k l) ∙ e) in
-        (w .0, w .1, ap (lineOf (netIn t)) (w .2) ∙ line-number (netIn t) r k (rw (size-is t) l)),
+        (w .0, w .1, ap (netLine (netIn t)) (w .2) ∙ line-number (netIn t) r k (rw (size-is t) l)),
     λ (w, o, e). flag k l ∙ rw (← e, number-on t none r w (output-defined w o)) (output-number w o),
   )
 

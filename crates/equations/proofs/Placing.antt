@@ -20,7 +20,7 @@ use Rattle.answers.specs.declared.Ruling.the-variants.{Fine}
 use Rattle.answers.specs.Rules.{refusal}
 use Rattle.gates.specs.Gate.{pinsOf}
 use Rattle.syntax.specs.Syntax.{Formed}
-use Rattle.statements.specs.Tables.{isGate, inputsTo, gatesTo}
+use Rattle.statements.specs.Tables.{saysGate, inputsTo, gatesTo}
 use Rattle.shape.proofs.Forms.{gate-sources}
 use Rattle.names.specs.Names.{nameRules}
 use Rattle.order.specs.Order as order
@@ -31,8 +31,8 @@ use Rattle.records.specs.Net.{Net, gatesOf, pinOf}
 use Rattle.bench.specs.Text.{formsIn, defsIn, usesIn, netIn}
 use Rattle.equations.specs.Meaning.{kindOn, sourceOn}
 use Rattle.equations.specs.Right.{Line, Defined}
-use Rattle.equations.specs.Numbers.{numberOf}
-use Rattle.equations.specs.Placing.{There, input, gate, Ready, Earliest, Order, nothing, next, Placed, Places}
+use Rattle.equations.specs.Numbers.{numberFor}
+use Rattle.equations.specs.Placing.{There, input, gate, Placeable, EarliestGate, TextOrder, nothing, next, TextPlaced, TextPlaces}
 use Rattle.equations.proofs.Tables.{counted, gates-are, gate-line, pin-get, gate-number, by-cases}
 use Rattle.equations.proofs.Names.{names-right, number-of-name}
 use Rattle.equations.proofs.SameMeaning.{number-of-gate, number-of-input}
@@ -62,19 +62,19 @@ module _ (t : List ℕ) where
 
   -- ---- lines of gates and their numbers
 
-  module _ {k : ℕ} (l : Line isGate t k) where
+  module _ {k : ℕ} (l : Line saysGate t k) where
     pub number-inside : number k < gatesOf (netIn t)
     number-inside = rw (gates-are t) (counted l)
 
     pub later : {h : ℕ} → k < h → number k < number h
-    later {h} e = count-below (isGate (formsIn t)) k h e (l .passes)
+    later {h} e = count-below (saysGate (formsIn t)) k h e (l .passes)
 
     pub later-line : {h : ℕ} → number h < number k → h < k
-    later-line {h} e = ⊎-elim (λ y. y) (λ y. absurd (omega (arith, count-mono (isGate (formsIn t)) k h y))) (either h k)
+    later-line {h} e = ⊎-elim (λ y. y) (λ y. absurd (omega (arith, count-mono (saysGate (formsIn t)) k h y))) (either h k)
 
-    module _ {j : ℕ} (m : Line isGate t j) where
+    module _ {j : ℕ} (m : Line saysGate t j) where
       one-line : number j ≡ number k → j ≡ k
-      one-line = count-one (isGate (formsIn t)) j k (m .passes) (l .passes)
+      one-line = count-one (saysGate (formsIn t)) j k (m .passes) (l .passes)
 
       eqb-same : eqb (number j) (number k) ≡ eqb j k
       eqb-same = go (ℕ-discrete j k)
@@ -85,9 +85,9 @@ module _ (t : List ℕ) where
 
   -- all of p are gates' lines
   abbrev pub Gates : List ℕ → Type 0
-  Gates p = (k : ℕ) → elem p k ≡ true → Line isGate t k
+  Gates p = (k : ℕ) → elem p k ≡ true → Line saysGate t k
 
-  head-gate : (j : ℕ) (p : List ℕ) → Gates (j ∷ p) → Line isGate t j
+  head-gate : (j : ℕ) (p : List ℕ) → Gates (j ∷ p) → Line saysGate t j
   unfolding elem
   head-gate j p g = g j (rw (eq-eqb j j refl))
 
@@ -95,7 +95,7 @@ module _ (t : List ℕ) where
   unfolding elem
   tail-gates j p g k e = g k (rw (e, or-true))
 
-  pub elem-same : (p : List ℕ) → Gates p → {k : ℕ} → Line isGate t k → elem (numbers p) (number k) ≡ elem p k
+  pub elem-same : (p : List ℕ) → Gates p → {k : ℕ} → Line saysGate t k → elem (numbers p) (number k) ≡ elem p k
   unfolding elem
   elem-same [] g l = refl
   elem-same (j ∷ p) g l = rw (eqb-same l (head-gate j p g), elem-same p (tail-gates j p g) l)
@@ -112,19 +112,19 @@ module _ (t : List ℕ) where
       cc
 
   -- what is placed are gates
-  pub order-gates : {p : List ℕ} → Order t p → Gates p
+  pub order-gates : {p : List ℕ} → TextOrder t p → Gates p
   unfolding elem
   order-gates nothing k e = absurd (false≢true e)
   order-gates (next q j o r i) k e = go (ℕ-discrete j k) (rw i at e) (order-gates o k)
     where
-      go : Dec (j ≡ k) → elem (q ++ (j ∷ [])) k ≡ true → (elem q k ≡ true → Line isGate t k) → Line isGate t k
+      go : Dec (j ≡ k) → elem (q ++ (j ∷ [])) k ≡ true → (elem q k ≡ true → Line saysGate t k) → Line saysGate t k
       go (yes y) f ih = rw (← y) (r .is-ready .gate)
       go (no n) f ih = ih (sym (elem-other q j k n) ∙ f)
 
   module _ (f : Formed t) (none : refusal (nameRules t (defsIn t) (usesIn t)) ≡ Fine) where
     -- ---- ready in the text is ready in the net
 
-    module _ {k : ℕ} (l : Line isGate t k) where
+    module _ {k : ℕ} (l : Line saysGate t k) where
       -- a gate's form is two more than its kind's pins
       form : getD (formsIn t) k 0 ≡ 2 + pinsOf (kindOn t k)
       form = let w = gate-sources t f k (l .passes) in w .1 ∙ w .0 .words
@@ -133,22 +133,22 @@ module _ (t : List ℕ) where
       some-pin = omega (arith, form, leb-true 3 (getD (formsIn t) k 0) (l .passes))
 
     module _ {p : List ℕ} (g : Gates p) where
-      there-to : {w : List ℕ} → There t p w → there (gatesOf (netIn t)) (numbers p) (numberOf t w) ≡ true
+      there-to : {w : List ℕ} → There t p w → there (gatesOf (netIn t)) (numbers p) (numberFor t w) ≡ true
       unfolding there
       there-to (input k l e) = rw (← e, number-of-input t none l, le-leb (gatesOf (netIn t)) (gatesOf (netIn t) + inputsTo (formsIn t) k) (omega arith))
       there-to (gate k l m e) = rw (← e, number-of-gate t none l, elem-same p g l, m, or-true)
 
-      there-from : {w : List ℕ} → Defined t w → there (gatesOf (netIn t)) (numbers p) (numberOf t w) ≡ true → There t p w
+      there-from : {w : List ℕ} → Defined t w → there (gatesOf (netIn t)) (numbers p) (numberFor t w) ≡ true → There t p w
       unfolding there
       there-from {w} (k, d) e = by-cases (λ l. gate k l (is-placed l (number-of-name t none d ∙ gate-number l)) (d .is)) (λ l. input k l (d .is)) (d .line)
         where
-          is-placed : Line isGate t k → numberOf t w ≡ number k → elem p k ≡ true
+          is-placed : Line saysGate t k → numberFor t w ≡ number k → elem p k ≡ true
           is-placed l n =
               sym (elem-same p g l) ∙ simp (lt-leb (gatesOf (netIn t)) (number k) (number-inside l)) at (rw n at e)
 
       module _ {k : ℕ} where
         -- with one pin the last word is the third
-        two-sources : Ready t p k → There t p (sourceOn t k 2)
+        two-sources : Placeable t p k → There t p (sourceOn t k 2)
         two-sources r = go (decLe 2 (pinsOf (kindOn t k)))
           where
             go : Dec (2 ≤ pinsOf (kindOn t k)) → There t p (sourceOn t k 2)
@@ -157,7 +157,7 @@ module _ (t : List ℕ) where
                 let last : getD (formsIn t) k 0 - 1 ≡ 2 = omega (arith, form (r .gate), some-pin (r .gate)) in
                 rw last (r .sources 1 (omega arith) (some-pin (r .gate)))
 
-        ready-to : Ready t p k → NetReady (numbers p) (number k) ≡ true
+        ready-to : Placeable t p k → NetReady (numbers p) (number k) ≡ true
         unfolding ready pinOf
         ready-to r =
             rw (
@@ -169,7 +169,7 @@ module _ (t : List ℕ) where
               there-to (two-sources r),
             )
 
-        ready-from : Line isGate t k → NetReady (numbers p) (number k) ≡ true → Ready t p k
+        ready-from : Line saysGate t k → NetReady (numbers p) (number k) ≡ true → Placeable t p k
         ready-from l e = record {
           gate = l;
           waits = sym (elem-same p g l) ∙ ready-new (netIn t .firsts) (netIn t .seconds) (numbers p) (number k) e;
@@ -177,7 +177,7 @@ module _ (t : List ℕ) where
               there-from (names-right t none .sources k l s) (rw (pin-get l s) at (pins-there (netIn t) (numbers p) (number k) e s));
         }
 
-      earliest-to : {k : ℕ} → Earliest t p k → order.Earliest (netIn t .firsts) (netIn t .seconds) (numbers p) (number k)
+      earliest-to : {k : ℕ} → EarliestGate t p k → order.Earliest (netIn t .firsts) (netIn t .seconds) (numbers p) (number k)
       earliest-to {k} e = record {
         inside = number-inside (e .is-ready .gate);
         is-ready = ready-to (e .is-ready);
@@ -190,7 +190,7 @@ module _ (t : List ℕ) where
               absurd (e .none-before (n .place) (later-line (e .is-ready .gate) (rw (n .before) l)) (ready-from (n .line) (rw (n .before) q)))
           go h l false q = refl
 
-      earliest-from : {k : ℕ} → Line isGate t k → order.Earliest (netIn t .firsts) (netIn t .seconds) (numbers p) (number k) → Earliest t p k
+      earliest-from : {k : ℕ} → Line saysGate t k → order.Earliest (netIn t .firsts) (netIn t .seconds) (numbers p) (number k) → EarliestGate t p k
       earliest-from {k} l e = record {
         is-ready = ready-from l (e .is-ready);
         none-before = λ h y r. false≢true (sym (e .none-before (number h) (later (r .gate) y)) ∙ ready-to r);
@@ -198,7 +198,7 @@ module _ (t : List ℕ) where
 
     -- ---- orders
 
-    order-to : {p : List ℕ} → Order t p → order.Order (netIn t .firsts) (netIn t .seconds) (numbers p)
+    order-to : {p : List ℕ} → TextOrder t p → order.Order (netIn t .firsts) (netIn t .seconds) (numbers p)
     order-to nothing = order.nothing
     order-to (next q k o e j) =
         order.next (numbers q) (number k) (order-to o) (earliest-to (order-gates o) e) (ap numbers j ∙ map-append number q (k ∷ []))
@@ -206,7 +206,7 @@ module _ (t : List ℕ) where
     -- an order of the text with these numbers
     record From (q : List ℕ) : Type 0 where
       lines : List ℕ
-      steps : Order t lines
+      steps : TextOrder t lines
       are : numbers lines ≡ q
 
     order-from : {q : List ℕ} → order.Order (netIn t .firsts) (netIn t .seconds) q → From q
@@ -220,7 +220,7 @@ module _ (t : List ℕ) where
           are = map-append number (w .lines) (n .place ∷ []) ∙ rw (w .are, n .before) (sym j);
         }
 
-    placed-to : {p : List ℕ} → Placed t p → order.Placed (netIn t .firsts) (netIn t .seconds) (numbers p)
+    placed-to : {p : List ℕ} → TextPlaced t p → order.Placed (netIn t .firsts) (netIn t .seconds) (numbers p)
     placed-to {p} d = record { steps = order-to (d .steps); ended = λ h l. go h l (NetReady (numbers p) h) refl }
       where
         go : (h : ℕ) → h < gatesOf (netIn t) → (b : Bool) → NetReady (numbers p) h ≡ b → b ≡ false
@@ -230,7 +230,7 @@ module _ (t : List ℕ) where
     -- the order of the text, and there is no other
     pub record Whole : Type 0 where
       pub lines : List ℕ
-      pub placed : Placed t lines
+      pub placed : TextPlaced t lines
       pub are : numbers lines ≡ orderOf (netIn t .firsts) (netIn t .seconds)
 
     pub whole : Whole
@@ -246,21 +246,21 @@ module _ (t : List ℕ) where
           are = w .are;
         }
 
-    pub one-order : {p q : List ℕ} → Placed t p → Placed t q → p ≡ q
+    pub one-order : {p q : List ℕ} → TextPlaced t p → TextPlaced t q → p ≡ q
     one-order {p} {q} d e =
         numbers-one p q (order-gates (d .steps)) (order-gates (e .steps)) (unique.same-order (placed-to d) (placed-to e))
 
     -- ---- which gates can be placed
 
-    module _ {k : ℕ} (l : Line isGate t k) where
-      pub places-to : Places t k → order.Places (netIn t .firsts) (netIn t .seconds) (number k)
+    module _ {k : ℕ} (l : Line saysGate t k) where
+      pub places-to : TextPlaces t k → order.Places (netIn t .firsts) (netIn t .seconds) (number k)
       places-to w = record {
         order = numbers (w .order);
         steps = order-to (w .steps);
         placed = elem-same (w .order) (order-gates (w .steps)) l ∙ w .placed;
       }
 
-      pub places-from : order.Places (netIn t .firsts) (netIn t .seconds) (number k) → Places t k
+      pub places-from : order.Places (netIn t .firsts) (netIn t .seconds) (number k) → TextPlaces t k
       places-from w =
           let o = order-from (w .steps) in
           record {

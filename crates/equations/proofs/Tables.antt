@@ -17,10 +17,10 @@ use Rattle.ground.proofs.Counting.{count-below}
 use Rattle.ground.proofs.Counting as counting
 use Rattle.ground.proofs.Lists.{collect-length}
 use Rattle.ground.proofs.Collect.{collect-get}
-use Rattle.words.specs.Words.{wordAt, wordsOf, endsOf}
+use Rattle.words.specs.Words.{wordAt, wordsIn, endsIn}
 use Rattle.syntax.specs.Kinds.{kindOf}
 use Rattle.statements.specs.Lines.{wordIn}
-use Rattle.statements.specs.Tables.{isInput, isOutput, isGate, defines, inputsTo, gatesTo, inputsIn, gatesIn, definedAt, numberAt, defsOf, numbersOf, outsOf, firstsOf, secondsOf, kindsOf}
+use Rattle.statements.specs.Tables.{saysInput, saysOutput, saysGate, defines, inputsTo, gatesTo, inputsIn, gatesIn, definedAt, numberAt, defsOf, defNumbersOf, outsOf, firstsOf, secondsOf, kindsOf}
 use Rattle.statements.proofs.Lengths.{outs-length, firsts-length}
 use Rattle.records.specs.Net.{gatesOf, pinOf}
 use Rattle.names.specs.Names as names
@@ -28,7 +28,7 @@ use Rattle.bench.specs.Text.{formsIn, defsIn, outsIn, firstsIn, numberIn, netIn
 use Rattle.shape.specs.Shape.{wordOn}
 use Rattle.equations.specs.Meaning.{linesIn, nameOn, kindOn, sourceOn}
 use Rattle.equations.specs.Right.{Line}
-use Rattle.equations.specs.Numbers.{gateNames, inputNames, nameOf, numberOf}
+use Rattle.equations.specs.Numbers.{gateNames, inputNames, nameOf, numberFor}
 
 -- ---- any table
 
@@ -66,8 +66,8 @@ module _ {test : List ℕ → ℕ → Bool} {t : List ℕ} {k : ℕ} (l : Line t
     pub get-inside : placeOf test t k < length (tableOf test t f)
     get-inside = omega (arith, counted, collect-length (test (formsIn t)) f (linesIn t))
 
-    pub get-number : getD (map (numberIn t) (tableOf test t f)) (placeOf test t k) 0 ≡ numberOf t (wordAt t (f k))
-    unfolding numberOf names.numberOf
+    pub get-number : getD (map (numberIn t) (tableOf test t f)) (placeOf test t k) 0 ≡ numberFor t (wordAt t (f k))
+    unfolding numberFor names.nameNumber
     get-number = map-get (numberIn t) (tableOf test t f) (placeOf test t k) get-inside ∙ ap (numberIn t) get
 
 -- ---- the tables of the net
@@ -75,101 +75,101 @@ module _ {test : List ℕ → ℕ → Bool} {t : List ℕ} {k : ℕ} (l : Line t
 module _ (t : List ℕ) where
   pub gates-are : gatesOf (netIn t) ≡ gatesIn (formsIn t)
   unfolding netIn
-  gates-are = length-map (firstsIn t) (numberIn t) ∙ firsts-length (wordsOf t) (endsOf t) (formsIn t)
+  gates-are = length-map (firstsIn t) (numberIn t) ∙ firsts-length (wordsIn t) (endsIn t) (formsIn t)
 
   pub inputs-are : netIn t .inputs ≡ inputsIn (formsIn t)
   unfolding netIn
   inputs-are = refl
 
-  pub outputs-are : length (netIn t .outputs) ≡ placeOf isOutput t (linesIn t)
+  pub outputs-are : length (netIn t .outputs) ≡ placeOf saysOutput t (linesIn t)
   unfolding netIn
-  outputs-are = length-map (outsIn t) (numberIn t) ∙ outs-length (wordsOf t) (endsOf t) (formsIn t)
+  outputs-are = length-map (outsIn t) (numberIn t) ∙ outs-length (wordsIn t) (endsIn t) (formsIn t)
 
 -- the line of a gate, of an input, of an output
-pub gate-line : (t : List ℕ) {g : ℕ} → g < gatesOf (netIn t) → Nth isGate t g
-gate-line t l = nth isGate t (omega (arith, gates-are t))
+pub gate-line : (t : List ℕ) {g : ℕ} → g < gatesOf (netIn t) → Nth saysGate t g
+gate-line t l = nth saysGate t (omega (arith, gates-are t))
 
-pub input-line : (t : List ℕ) {j : ℕ} → j < netIn t .inputs → Nth isInput t j
-input-line t l = nth isInput t (omega (arith, inputs-are t))
+pub input-line : (t : List ℕ) {j : ℕ} → j < netIn t .inputs → Nth saysInput t j
+input-line t l = nth saysInput t (omega (arith, inputs-are t))
 
-pub output-line : (t : List ℕ) {i : ℕ} → i < length (netIn t .outputs) → Nth isOutput t i
-output-line t l = nth isOutput t (omega (arith, outputs-are t))
+pub output-line : (t : List ℕ) {i : ℕ} → i < length (netIn t .outputs) → Nth saysOutput t i
+output-line t l = nth saysOutput t (omega (arith, outputs-are t))
 
 module _ {t : List ℕ} {k : ℕ} where
-  pub output-get : Line isOutput t k → getD (netIn t .outputs) (placeOf isOutput t k) 0 ≡ numberOf t (wordOn t k 1)
+  pub output-get : Line saysOutput t k → getD (netIn t .outputs) (placeOf saysOutput t k) 0 ≡ numberFor t (wordOn t k 1)
   unfolding netIn outsOf
-  output-get l = get-number l (λ i. wordIn (wordsOf t) (endsOf t) i 1)
+  output-get l = get-number l (λ i. wordIn (wordsIn t) (endsIn t) i 1)
 
   pub def-get : Line defines t k → wordAt t (getD (defsIn t) (placeOf defines t k) 0) ≡ nameOn t k
   unfolding defsOf
-  def-get l = ap (wordAt t) (get l (definedAt (wordsOf t) (endsOf t) (formsIn t)))
+  def-get l = ap (wordAt t) (get l (definedAt (wordsIn t) (endsIn t) (formsIn t)))
 
   pub def-inside : Line defines t k → placeOf defines t k < length (defsIn t)
   unfolding defsOf
-  def-inside l = get-inside l (definedAt (wordsOf t) (endsOf t) (formsIn t))
+  def-inside l = get-inside l (definedAt (wordsIn t) (endsIn t) (formsIn t))
 
-  pub number-get : Line defines t k → getD (numbersOf (formsIn t)) (placeOf defines t k) 0 ≡ numberAt (formsIn t) k
-  unfolding numbersOf
+  pub number-get : Line defines t k → getD (defNumbersOf (formsIn t)) (placeOf defines t k) 0 ≡ numberAt (formsIn t) k
+  unfolding defNumbersOf
   number-get l = get l (numberAt (formsIn t))
 
-  module _ (l : Line isGate t k) where
+  module _ (l : Line saysGate t k) where
     pub kind-get : getD (netIn t .kinds) (gatesTo (formsIn t) k) 0 ≡ kindOn t k
     unfolding netIn kindsOf
-    kind-get = get l (λ i. kindOf (wordAt t (wordIn (wordsOf t) (endsOf t) i 1)))
+    kind-get = get l (λ i. kindOf (wordAt t (wordIn (wordsIn t) (endsIn t) i 1)))
 
-    first-get : getD (netIn t .firsts) (gatesTo (formsIn t) k) 0 ≡ numberOf t (wordOn t k 2)
+    first-get : getD (netIn t .firsts) (gatesTo (formsIn t) k) 0 ≡ numberFor t (wordOn t k 2)
     unfolding netIn firstsOf
-    first-get = get-number l (λ i. wordIn (wordsOf t) (endsOf t) i 2)
+    first-get = get-number l (λ i. wordIn (wordsIn t) (endsIn t) i 2)
 
-    second-get : getD (netIn t .seconds) (gatesTo (formsIn t) k) 0 ≡ numberOf t (wordOn t k (getD (formsIn t) k 0 - 1))
+    second-get : getD (netIn t .seconds) (gatesTo (formsIn t) k) 0 ≡ numberFor t (wordOn t k (getD (formsIn t) k 0 - 1))
     unfolding netIn secondsOf
-    second-get = get-number l (λ i. wordIn (wordsOf t) (endsOf t) i (getD (formsIn t) i 0 - 1))
+    second-get = get-number l (λ i. wordIn (wordsIn t) (endsIn t) i (getD (formsIn t) i 0 - 1))
 
     -- the number at a pin is that of the source's name
-    pub pin-get : (s : ℕ) → pinOf (netIn t) (gatesTo (formsIn t) k) s ≡ numberOf t (sourceOn t k s)
+    pub pin-get : (s : ℕ) → pinOf (netIn t) (gatesTo (formsIn t) k) s ≡ numberFor t (sourceOn t k s)
     unfolding pinOf
     pin-get s = go (eqb s 1)
       where
         go : (b : Bool)
             → choose b (getD (netIn t .firsts) (gatesTo (formsIn t) k) 0) (getD (netIn t .seconds) (gatesTo (formsIn t) k) 0)
-            ≡ numberOf t (wordOn t k (choose b 2 (getD (formsIn t) k 0 - 1)))
+            ≡ numberFor t (wordOn t k (choose b 2 (getD (formsIn t) k 0 - 1)))
         go true = first-get
         go false = second-get
 
 -- ---- numbers and names
 
 module _ {t : List ℕ} {k : ℕ} where
-  pub gate-number : Line isGate t k → numberAt (formsIn t) k ≡ gatesTo (formsIn t) k
+  pub gate-number : Line saysGate t k → numberAt (formsIn t) k ≡ gatesTo (formsIn t) k
   unfolding numberAt
   gate-number l = rw (l .passes)
 
-  gate-name : Line isGate t k → nameOf t (gatesTo (formsIn t) k) ≡ nameOn t k
+  gate-name : Line saysGate t k → nameOf t (gatesTo (formsIn t) k) ≡ nameOn t k
   unfolding nameOf gateNames
   gate-name l =
-      let f = definedAt (wordsOf t) (endsOf t) (formsIn t) in
+      let f = definedAt (wordsIn t) (endsIn t) (formsIn t) in
       ap (wordAt t) (List·getD-append (gateNames t) (inputNames t) 0 (gatesTo (formsIn t) k) (get-inside l f) ∙ get l f)
 
-  pub input-number : Line isInput t k → numberAt (formsIn t) k ≡ gatesIn (formsIn t) + inputsTo (formsIn t) k
+  pub input-number : Line saysInput t k → numberAt (formsIn t) k ≡ gatesIn (formsIn t) + inputsTo (formsIn t) k
   unfolding numberAt
   input-number l =
       let e = eqb-true (getD (formsIn t) k 0) 1 (l .passes) in
-      let no-gate : isGate (formsIn t) k ≡ false = lt-leb 3 (getD (formsIn t) k 0) (omega arith) in
+      let no-gate : saysGate (formsIn t) k ≡ false = lt-leb 3 (getD (formsIn t) k 0) (omega arith) in
       rw no-gate
 
-  input-name : Line isInput t k → nameOf t (gatesIn (formsIn t) + inputsTo (formsIn t) k) ≡ nameOn t k
+  input-name : Line saysInput t k → nameOf t (gatesIn (formsIn t) + inputsTo (formsIn t) k) ≡ nameOn t k
   unfolding nameOf gateNames inputNames
   input-name l =
-      let f = definedAt (wordsOf t) (endsOf t) (formsIn t) in
+      let f = definedAt (wordsIn t) (endsIn t) (formsIn t) in
       ap (wordAt t)
-      (ap (λ (n : ℕ). getD (gateNames t ++ inputNames t) (n + inputsTo (formsIn t) k) 0) (sym (collect-length (isGate (formsIn t)) f (linesIn t)))
+      (ap (λ (n : ℕ). getD (gateNames t ++ inputNames t) (n + inputsTo (formsIn t) k) 0) (sym (collect-length (saysGate (formsIn t)) f (linesIn t)))
       ∙ getD-append-add (gateNames t) (inputNames t) (inputsTo (formsIn t) k) 0
       ∙ get l f)
 
   -- a line that defines a name is a gate or an input
-  pub by-cases : {P : Type 0} → (Line isGate t k → P) → (Line isInput t k → P) → Line defines t k → P
-  by-cases {P} g i l = go (isInput (formsIn t) k) refl (l .passes)
+  pub by-cases : {P : Type 0} → (Line saysGate t k → P) → (Line saysInput t k → P) → Line defines t k → P
+  by-cases {P} g i l = go (saysInput (formsIn t) k) refl (l .passes)
     where
-      go : (b : Bool) → isInput (formsIn t) k ≡ b → (b || isGate (formsIn t) k) ≡ true → P
+      go : (b : Bool) → saysInput (formsIn t) k ≡ b → (b || saysGate (formsIn t) k) ≡ true → P
       go true q e = i (record { inside = l .inside; passes = q })
       go false q e = g (record { inside = l .inside; passes = e })
 

@@ -11,9 +11,9 @@ use Rattle.ground.specs.Choose.{choose}
 use Rattle.ground.specs.Lists.{elem}
 use Rattle.ground.proofs.Lists.{collect-length}
 use Rattle.ground.proofs.Elem.{elem-at, elem-place, elem-append}
-use Rattle.words.specs.Words.{wordAt, wordsOf, endsOf}
+use Rattle.words.specs.Words.{wordAt, wordsIn, endsIn}
 use Rattle.statements.specs.Lines.{wordIn}
-use Rattle.statements.specs.Tables.{isOutput, isGate, defines, definedAt, defsOf, outsOf, firstsOf, secondsOf}
+use Rattle.statements.specs.Tables.{saysOutput, saysGate, defines, definedAt, defsOf, outsOf, firstsOf, secondsOf}
 use Rattle.statements.proofs.Sizes.{Inside, outs-within, firsts-within, seconds-within}
 use Rattle.bench.specs.Text.{formsIn, defsIn, outsIn, firstsIn, secondsIn, usesIn}
 use Rattle.shape.specs.Shape.{wordOn}
@@ -42,7 +42,7 @@ entry test t f x e =
 module _ (t : List ℕ) where
   pub def-line : (d : ℕ) → d < length (defsIn t) → Nth defines t d
   unfolding defsOf
-  def-line d l = nth defines t (omega (arith, collect-length (defines (formsIn t)) (definedAt (wordsOf t) (endsOf t) (formsIn t)) (linesIn t)))
+  def-line d l = nth defines t (omega (arith, collect-length (defines (formsIn t)) (definedAt (wordsIn t) (endsIn t) (formsIn t)) (linesIn t)))
 
   pub def-defines : {d : ℕ} (n : Nth defines t d) {w : List ℕ} → wordAt t (getD (defsIn t) d 0) ≡ w → Defines t (n .place) w
   def-defines n e = record { line = n .line; is = sym (def-get (n .line)) ∙ ap (λ (d : ℕ). wordAt t (getD (defsIn t) d 0)) (n .before) ∙ e }
@@ -59,27 +59,27 @@ or-cases false b f g e = g e
 module _ (t : List ℕ) where
   -- the byte of an output's name, and of the name of a gate's source at pin s
   abbrev pub outputAt : ℕ → ℕ
-  outputAt k = wordIn (wordsOf t) (endsOf t) k 1
+  outputAt k = wordIn (wordsIn t) (endsIn t) k 1
 
   abbrev pub sourceAt : ℕ → ℕ → ℕ
-  sourceAt k s = wordIn (wordsOf t) (endsOf t) k (choose (eqb s 1) 2 (getD (formsIn t) k 0 - 1))
+  sourceAt k s = wordIn (wordsIn t) (endsIn t) k (choose (eqb s 1) 2 (getD (formsIn t) k 0 - 1))
 
-  pub used-output : {k : ℕ} → Line isOutput t k → elem (usesIn t) (outputAt k) ≡ true
+  pub used-output : {k : ℕ} → Line saysOutput t k → elem (usesIn t) (outputAt k) ≡ true
   unfolding outsOf
   used-output {k} l = rw (elem-append (outsIn t) (firstsIn t ++ secondsIn t) (outputAt k), collected l outputAt)
 
-  pub used-source : {k : ℕ} → Line isGate t k → (s : ℕ) → elem (usesIn t) (sourceAt k s) ≡ true
+  pub used-source : {k : ℕ} → Line saysGate t k → (s : ℕ) → elem (usesIn t) (sourceAt k s) ≡ true
   unfolding firstsOf secondsOf
   used-source {k} l s =
       rw (elem-append (outsIn t) (firstsIn t ++ secondsIn t) (sourceAt k s), elem-append (firstsIn t) (secondsIn t) (sourceAt k s))
       (or-right (elem (outsIn t) (sourceAt k s)) (go (eqb s 1)))
     where
       at : Bool → ℕ
-      at b = wordIn (wordsOf t) (endsOf t) k (choose b 2 (getD (formsIn t) k 0 - 1))
+      at b = wordIn (wordsIn t) (endsIn t) k (choose b 2 (getD (formsIn t) k 0 - 1))
 
       go : (b : Bool) → (elem (firstsIn t) (at b) || elem (secondsIn t) (at b)) ≡ true
-      go true = rw (collected l (λ i. wordIn (wordsOf t) (endsOf t) i 2))
-      go false = or-right (elem (firstsIn t) (at false)) (collected l (λ i. wordIn (wordsOf t) (endsOf t) i (getD (formsIn t) i 0 - 1)))
+      go true = rw (collected l (λ i. wordIn (wordsIn t) (endsIn t) i 2))
+      go false = or-right (elem (firstsIn t) (at false)) (collected l (λ i. wordIn (wordsIn t) (endsIn t) i (getD (formsIn t) i 0 - 1)))
 
   -- a use is an output's or a gate's
   split : {P : Type 0} (i : ℕ)
@@ -98,12 +98,12 @@ module _ (t : List ℕ) where
       inside l w e = let p = elem-place l i e in rw (← p .2) (w (p .0) (p .1))
 
   pub used-cases : (P : List ℕ → Type 0)
-      → ((k : ℕ) → Line isOutput t k → P (wordOn t k 1))
-      → ((k : ℕ) → Line isGate t k → (s : ℕ) → P (sourceOn t k s))
+      → ((k : ℕ) → Line saysOutput t k → P (wordOn t k 1))
+      → ((k : ℕ) → Line saysGate t k → (s : ℕ) → P (sourceOn t k s))
       → (i : ℕ) → elem (usesIn t) i ≡ true → P (wordAt t i)
   unfolding outsOf firstsOf secondsOf
   used-cases P o g i =
       split i
-      (λ e. let w = entry isOutput t outputAt i e in rw (← w .is) (o (w .place) (w .line)))
-      (λ e. let w = entry isGate t (λ k. sourceAt k 1) i e in rw (← w .is) (g (w .place) (w .line) 1))
-      (λ e. let w = entry isGate t (λ k. sourceAt k 2) i e in rw (← w .is) (g (w .place) (w .line) 2))
+      (λ e. let w = entry saysOutput t outputAt i e in rw (← w .is) (o (w .place) (w .line)))
+      (λ e. let w = entry saysGate t (λ k. sourceAt k 1) i e in rw (← w .is) (g (w .place) (w .line) 1))
+      (λ e. let w = entry saysGate t (λ k. sourceAt k 2) i e in rw (← w .is) (g (w .place) (w .line) 2))

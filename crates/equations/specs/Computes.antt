@@ -17,7 +17,7 @@ use Rattle.simulate.specs.Work.{goodOf}
 use Rattle.simulate.specs.Boolean.{Vector, good, truthAt}
 use Rattle.words.specs.Words.{same}
 use Rattle.syntax.specs.Syntax.{RightText}
-use Rattle.statements.specs.Tables.{isInput, isOutput, isGate, defines, inputsTo, inputsIn, gatesIn}
+use Rattle.statements.specs.Tables.{saysInput, saysOutput, saysGate, defines, inputsTo, inputsIn, gatesIn}
 use Rattle.bench.specs.Text.{formsIn}
 use Rattle.shape.specs.Shape.{wordOn}
 use Rattle.equations.specs.Meaning.{linesIn, nameOn, kindOn, sourceOn, Solves}
@@ -37,7 +37,7 @@ pub record Acceptable (t : List ℕ) : Type 0 where
   pub no-cycle : TextCycle t → ⊥
   pub few-lines : sizeIn t ≤ 2048
   pub few-inputs : inputsIn (formsIn t) ≤ 64
-  pub some-output : (k : ℕ) × Line isOutput t k
+  pub some-output : (k : ℕ) × Line saysOutput t k
 
 -- ---- lines and names
 
@@ -46,23 +46,23 @@ pub record OwnLines (t : List ℕ) : Type 0 where
   pub inside : (w : List ℕ) → Defined t w → lineFor t w < sizeIn t
   pub apart : (v w : List ℕ) → Defined t v → Defined t w → lineFor t v ≡ lineFor t w → v ≡ w
   pub all : (k : ℕ) → k < sizeIn t → (w : List ℕ) × Defined t w × (lineFor t w ≡ k)
-  pub inputs-first : (k : ℕ) → Line isInput t k → lineFor t (nameOn t k) ≡ inputsTo (formsIn t) k
+  pub inputs-first : (k : ℕ) → Line saysInput t k → lineFor t (nameOn t k) ≡ inputsTo (formsIn t) k
 
 -- the records by the names of their lines: an input's has kind 0, a gate's its kind, and at each pin of it the line of the source's name
 pub record OwnRecords (t c : List ℕ) : Type 0 where
-  pub input : (k : ℕ) → Line isInput t k → record-of.kindAt c (lineFor t (nameOn t k)) ≡ 0
-  pub kind : (k : ℕ) → Line isGate t k → record-of.kindAt c (lineFor t (nameOn t k)) ≡ kindOn t k
-  pub pin : (k : ℕ) → Line isGate t k → (s : ℕ) → 1 ≤ s → s ≤ pinsOf (kindOn t k) → record-of.pinAt c (lineFor t (nameOn t k)) s ≡ lineFor t (sourceOn t k s)
+  pub input : (k : ℕ) → Line saysInput t k → record-of.kindAt c (lineFor t (nameOn t k)) ≡ 0
+  pub kind : (k : ℕ) → Line saysGate t k → record-of.kindAt c (lineFor t (nameOn t k)) ≡ kindOn t k
+  pub pin : (k : ℕ) → Line saysGate t k → (s : ℕ) → 1 ≤ s → s ≤ pinsOf (kindOn t k) → record-of.pinAt c (lineFor t (nameOn t k)) s ≡ lineFor t (sourceOn t k s)
 
 -- the name w stands in some OUTPUT
 pub record IsOutput (t w : List ℕ) : Type 0 where
   pub place : ℕ
-  pub line : Line isOutput t place
+  pub line : Line saysOutput t place
   pub is : wordOn t place 1 ≡ w
 
 -- as a test
 unfoldable pub outputName : List ℕ → List ℕ → Bool
-outputName t w = anyBelow (linesIn t) (λ k. isOutput (formsIn t) k && same (wordOn t k 1) w)
+outputName t w = anyBelow (linesIn t) (λ k. saysOutput (formsIn t) k && same (wordOn t k 1) w)
 
 -- how many names are outputs, by the lines that define them
 unfoldable pub outputsIn : List ℕ → ℕ

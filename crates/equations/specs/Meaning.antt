@@ -8,15 +8,15 @@ use Prim.Native.Nat.{ℕ, _-_, _<_}
 use lib.Dec.{eqb}
 use lib.ListN.{length, getD}
 use Rattle.ground.specs.Choose.{choose}
-use Rattle.words.specs.Words.{wordAt, wordsOf, endsOf}
+use Rattle.words.specs.Words.{wordAt, wordsIn, endsIn}
 use Rattle.syntax.specs.Kinds.{kindOf}
-use Rattle.statements.specs.Tables.{isInput, isGate, inputsTo, definedAt}
+use Rattle.statements.specs.Tables.{saysInput, saysGate, inputsTo, definedAt}
 use Rattle.shape.specs.Shape.{wordOn}
 use Rattle.bench.specs.Text.{formsIn}
 
 -- the name that line k defines
 abbrev pub nameOn : List ℕ → ℕ → List ℕ
-nameOn t k = wordAt t (definedAt (wordsOf t) (endsOf t) (formsIn t) k)
+nameOn t k = wordAt t (definedAt (wordsIn t) (endsIn t) (formsIn t) k)
 
 -- the kind of the gate on line k, and the name of its source at pin s: the third word, or the last
 abbrev pub kindOn : List ℕ → ℕ → ℕ
@@ -30,5 +30,5 @@ linesIn t = length (formsIn t)
 
 -- over any values, three or two, with the gates' own rule
 pub record Solves {A : Type 0} (gate : ℕ → (ℕ → A) → A) (t : List ℕ) (inputs : ℕ → A) (value : List ℕ → A) : Type 0 where
-  pub given : (k : ℕ) → k < linesIn t → isInput (formsIn t) k ≡ true → value (nameOn t k) ≡ inputs (inputsTo (formsIn t) k)
-  pub equation : (k : ℕ) → k < linesIn t → isGate (formsIn t) k ≡ true → value (nameOn t k) ≡ gate (kindOn t k) (λ s. value (sourceOn t k s))
+  pub given : (k : ℕ) → k < linesIn t → saysInput (formsIn t) k ≡ true → value (nameOn t k) ≡ inputs (inputsTo (formsIn t) k)
+  pub equation : (k : ℕ) → k < linesIn t → saysGate (formsIn t) k ≡ true → value (nameOn t k) ≡ gate (kindOn t k) (λ s. value (sourceOn t k s))

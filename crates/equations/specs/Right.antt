@@ -5,7 +5,7 @@ use mathlib.Core.Path.{_≡_}
 use mathlib.Core.Bool.{Bool, true}
 use mathlib.Core.List.{List}
 use Prim.Native.Nat.{ℕ, _<_}
-use Rattle.statements.specs.Tables.{isOutput, isGate, defines}
+use Rattle.statements.specs.Tables.{saysOutput, saysGate, defines}
 use Rattle.bench.specs.Text.{formsIn}
 use Rattle.shape.specs.Shape.{wordOn}
 use Rattle.equations.specs.Meaning.{linesIn, nameOn, sourceOn}
@@ -28,24 +28,24 @@ Defined t w = (k : ℕ) × Defines t k w
 
 pub record NamesRight (t : List ℕ) : Type 0 where
   pub once : (k l : ℕ) (w : List ℕ) → Defines t k w → Defines t l w → k ≡ l
-  pub outputs : (k : ℕ) → Line isOutput t k → Defined t (wordOn t k 1)
-  pub sources : (k : ℕ) → Line isGate t k → (s : ℕ) → Defined t (sourceOn t k s)
+  pub outputs : (k : ℕ) → Line saysOutput t k → Defined t (wordOn t k 1)
+  pub sources : (k : ℕ) → Line saysGate t k → (s : ℕ) → Defined t (sourceOn t k s)
 
 -- ---- cycles
 
 -- the gate on line h defines the name of a source of the gate on line k
-pub record Reads (t : List ℕ) (k h : ℕ) : Type 0 where
-  pub gate : Line isGate t h
+pub record ReadsFrom (t : List ℕ) (k h : ℕ) : Type 0 where
+  pub gate : Line saysGate t h
   pub pin : ℕ
   pub is : sourceOn t k pin ≡ nameOn t h
 
 -- from a gate to one that it reads, to one that that reads, and so on
-pub data Way (t : List ℕ) : ℕ → ℕ → Type 0 where
-  last : {k h : ℕ} → Reads t k h → Way t k h
-  then : {k h l : ℕ} → Reads t k h → Way t h l → Way t k l
+pub data TextWay (t : List ℕ) : ℕ → ℕ → Type 0 where
+  last : {k h : ℕ} → ReadsFrom t k h → TextWay t k h
+  then : {k h l : ℕ} → ReadsFrom t k h → TextWay t h l → TextWay t k l
 
 -- some gate depends on itself
 pub record TextCycle (t : List ℕ) : Type 0 where
   pub line : ℕ
-  pub gate : Line isGate t line
-  pub way : Way t line line
+  pub gate : Line saysGate t line
+  pub way : TextWay t line line

@@ -19,21 +19,21 @@ use Rattle.ground.proofs.Put.{put-as}
 use Rattle.cnf.proofs.Gate.{gate-sites, no-clauses}
 use Rattle.lists.specs.Faults.{isAt}
 use Rattle.line_clauses.specs.Clauses.{goodVar, faultySite, goodClauses, faultyClauses, differenceClauses}
-use Rattle.line_clauses.specs.Owed.{Line, GateLine}
+use Rattle.line_clauses.specs.Owed.{LineReady, GateReady}
 
 -- ---- what is known of a line
 
-module _ {c : List ℕ} {n k : ℕ} (l : Line c n k) where
+module _ {c : List ℕ} {n k : ℕ} (l : LineReady c n k) where
   pub kind-last : kindAt c k ≤ lastKind
   kind-last = l .circuit .good .well .kinds k (omega (arith, l .circuit .lines, l .inside))
 
   pub inside : 8 * k + 8 ≤ length c
   inside = omega (arith, l .circuit .lines, l .inside, l .circuit .good .well .size)
 
-pub gate-line : {c : List ℕ} {n k : ℕ} → Line c n k → (kindAt c k ≡ 0 → ⊥) → GateLine c n k
+pub gate-line : {c : List ℕ} {n k : ℕ} → LineReady c n k → (kindAt c k ≡ 0 → ⊥) → GateReady c n k
 gate-line l ne = record { line = l; gate = ne }
 
-pub lower : {c : List ℕ} {n k : ℕ} → GateLine c n k → (s : ℕ) → 1 ≤ s → s ≤ 3 → pinAt c k s < k
+pub lower : {c : List ℕ} {n k : ℕ} → GateReady c n k → (s : ℕ) → 1 ≤ s → s ≤ 3 → pinAt c k s < k
 lower {c} {n} {k} g = g .line .circuit .good .well .lower k (omega (arith, g .line .circuit .lines, g .line .inside)) (g .gate)
 
 pub variable : {v : ℕ} → v ≤ 8192 → Variable v

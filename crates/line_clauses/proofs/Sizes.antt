@@ -12,17 +12,17 @@ use Rattle.circuit.specs.Record.{kindAt, isInput}
 use Rattle.lists.specs.declared.Fault.{Fault}
 use Rattle.cnf.specs.declared.Size.{Size}
 use Rattle.cnf.specs.Cnf.{Clauses}
-use Rattle.cnf.specs.Table.{table, gateClauses}
+use Rattle.cnf.specs.Table.{clauseTable, gateClauses}
 use Rattle.cnf.specs.Write.{sizeOf, Takes}
 use Rattle.cnf.proofs.Sizes.{size-append, gate-size, gate-length, few}
 use Rattle.lists.specs.Faults.{isAt}
 use Rattle.line_clauses.specs.Clauses.{faultySite, goodVar, faultyVar, stuckVar, bufferClauses, goodClauses, faultyClauses}
-use Rattle.line_clauses.specs.Owed.{faultyKind, LineTakes}
+use Rattle.line_clauses.specs.Owed.{faultyKind, LineSizeDone}
 
--- clauses that take what a row of the table does
+-- clauses that take what a row of the clauseTable does
 record Row (kind : ℕ) (cs : Clauses) : Type 0 where
-  size : sizeOf cs ≡ sizeOf (table kind)
-  count : length cs ≡ length (table kind)
+  size : sizeOf cs ≡ sizeOf (clauseTable kind)
+  count : length cs ≡ length (clauseTable kind)
 
 row : (kind : ℕ) (number : ℕ → ℕ) → Row kind (gateClauses kind number)
 row kind number = record { size = gate-size kind number; count = gate-length kind number }
@@ -47,12 +47,12 @@ faulty-row c f n k = go (isAt f k 0) (isInput c k)
 
 pub line-takes : {c : List ℕ} {f : Fault} {n k : ℕ} (good faulty : ℕ) {g h : Size}
     → good ≡ kindAt c k
-    → Takes (table good) g
+    → Takes (clauseTable good) g
     → good ≤ lastKind
     → faulty ≡ faultyKind c f k
-    → Takes (table faulty) h
+    → Takes (clauseTable faulty) h
     → faulty ≤ lastKind
-    → LineTakes c f n k (record { words = g .words + h .words; clauses = g .clauses + h .clauses })
+    → LineSizeDone c f n k (record { words = g .words + h .words; clauses = g .clauses + h .clauses })
 line-takes {c} {f} {n} {k} good faulty {g} {h} e p l d q m = record {
   takes = record {
     words = rw (size-append, good-row c k .size, faulty-row c f n k .size, ← e, ← d, p .words, q .words);

@@ -18,19 +18,19 @@ use Rattle.line_clauses.specs.Clauses.{goodClauses, faultyClauses, diffe
 -- ---- the circuit and its lines
 
 -- an accepted circuit of n lines
-pub record Circuit (c : List ℕ) (n : ℕ) : Type 0 where
+pub record CircuitReady (c : List ℕ) (n : ℕ) : Type 0 where
   pub good : Good c
   pub lines : n ≡ linesOf c
   pub few : n ≤ 2048
 
 -- a line of it
-pub record Line (c : List ℕ) (n k : ℕ) : Type 0 where
-  pub circuit : Circuit c n
+pub record LineReady (c : List ℕ) (n k : ℕ) : Type 0 where
+  pub circuit : CircuitReady c n
   pub inside : k < n
 
 -- a line that is a gate
-pub record GateLine (c : List ℕ) (n k : ℕ) : Type 0 where
-  pub line : Line c n k
+pub record GateReady (c : List ℕ) (n k : ℕ) : Type 0 where
+  pub line : LineReady c n k
   pub gate : kindAt c k ≡ 0 → ⊥
 
 -- ---- what is taken
@@ -39,7 +39,7 @@ pub record GateLine (c : List ℕ) (n k : ℕ) : Type 0 where
 unfoldable pub faultyKind : List ℕ → Fault → ℕ → ℕ
 faultyKind c f k = choose (isAt f k 0) 1 (choose (isInput c k) 1 (kindAt c k))
 
-pub record LineTakes (c : List ℕ) (f : Fault) (n k : ℕ) (r : Size) : Type 0 where
+pub record LineSizeDone (c : List ℕ) (f : Fault) (n k : ℕ) (r : Size) : Type 0 where
   pub takes : Takes (goodClauses c k ++ faultyClauses c f n k) r
   pub few-words : r .words ≤ 32
   pub few-clauses : r .clauses ≤ 8
@@ -47,7 +47,7 @@ pub record LineTakes (c : List ℕ) (f : Fault) (n k : ℕ) (r : Size) : Type 0 
 -- ---- room from `at` on
 
 pub record LineRoom (c : List ℕ) (n k : ℕ) (cs : Clauses) (w : List ℤ) (at : ℕ) : Type 0 where
-  pub line : Line c n k
+  pub line : LineReady c n k
   pub room : at + length (wordsOf cs) ≤ length w
 
 -- for the difference at line k, below which j outputs stand

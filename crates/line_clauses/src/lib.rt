@@ -12,7 +12,7 @@ ghost use Rattle.cnf.specs.Cnf.{wordsOf};
 ghost use Rattle.ground.specs.Put.{Put};
 ghost use Rattle.lists.specs.Faults.{isAt};
 ghost use Rattle.line_clauses.specs.Clauses.{faultySite, goodClauses, faultyClauses, differenceClauses};
-ghost use Rattle.line_clauses.specs.Owed.{Line, GateLine, faultyKind, LineTakes, LineRoom, DifferenceRoom};
+ghost use Rattle.line_clauses.specs.Owed.{LineReady, GateReady, faultyKind, LineSizeDone, LineRoom, DifferenceRoom};
 
 // The fault is at site s of line k.
 fn is_at(fault: Fault, k: usize, s: u8) -> bool
@@ -26,7 +26,7 @@ fn is_at(fault: Fault, k: usize, s: u8) -> bool
 
 // The kind of the gate that writes the faulty line k.
 fn faulty_kind(circuit: &[u8], fault: Fault, n: usize, k: usize) -> u8
-    requires { ⌜ Line (now circuit) n k ⌝ }
+    requires { ⌜ LineReady (now circuit) n k ⌝ }
     ensures { λ r. ⌜ (r ≡ faultyKind (now (circuit .entry)) fault k) × (r ≤ lastKind) ⌝ }
 {
     if is_at(fault, k, 0) {
@@ -39,10 +39,10 @@ fn faulty_kind(circuit: &[u8], fault: Fault, n: usize, k: usize) -> u8
     kind
 }
 
-// Line k, good and faulty.
+// LineReady k, good and faulty.
 pub fn line_size(circuit: &[u8], fault: Fault, n: usize, k: usize) -> Size
-    requires { ⌜ Line (now circuit) n k ⌝ }
-    ensures { λ r. ⌜ LineTakes (now (circuit .entry)) fault n k r ⌝ }
+    requires { ⌜ LineReady (now circuit) n k ⌝ }
+    ensures { λ r. ⌜ LineSizeDone (now (circuit .entry)) fault n k r ⌝ }
 {
     let good = size_of(circuit[8 * k]);
     let faulty = size_of(faulty_kind(circuit, fault, n, k));
@@ -68,7 +68,7 @@ pub fn put_good(circuit: &[u8], n: usize, k: usize, words: &mut [i32], at: usize
 
 // The variable that pin s of the faulty line k reads.
 fn pin_variable(circuit: &[u8], fault: Fault, n: usize, k: usize, s: u8) -> usize
-    requires { ⌜ GateLine (now circuit) n k × (1 ≤ s) × (s ≤ 3) ⌝ }
+    requires { ⌜ GateReady (now circuit) n k × (1 ≤ s) × (s ≤ 3) ⌝ }
     ensures { λ r. ⌜ (r ≡ faultySite (now (circuit .entry)) fault n k s) × (r ≤ 8192) ⌝ }
 {
     if is_at(fault, k, s) {

@@ -9,8 +9,8 @@ use native.Mathlib.Omega.{arith}
 use lib.ListN.{length, getD, take, drop, length-take}
 use Rattle.ground.specs.Put.{Put}
 use Rattle.ground.proofs.Put.{put-none, put-long, put-then}
-use Rattle.listing.specs.Text.{lineOf, linesTo}
-use Rattle.listing.specs.Owed.{Room}
+use Rattle.listing.specs.Text.{lineText, linesTo}
+use Rattle.listing.specs.Owed.{ListingRoom}
 use Rattle.listing.proofs.Pieces.{line-short}
 
 pub record SoFar (table marks w₀ : List ℕ) (faults patterns : ℕ) (w : List ℕ) (p at from : ℕ) : Type 0 where
@@ -27,26 +27,26 @@ inside : (p patterns width : ℕ) → p < patterns → p * width + width ≤ wid
 inside p patterns width h = rw (← suc-mul p width, mul-comm width patterns) (mul-le-mul-right width h)
 
 module _ {table marks w₀ : List ℕ} {faults patterns : ℕ} {w : List ℕ} {p at from : ℕ} where
-  pub row-fits : Room table marks w₀ faults patterns → SoFar table marks w₀ faults patterns w p at from → p < patterns → from + faults ≤ length table
+  pub row-fits : ListingRoom table marks w₀ faults patterns → SoFar table marks w₀ faults patterns w p at from → p < patterns → from + faults ≤ length table
   row-fits r s l = omega (arith, inside p patterns faults l, s .row, r .entries)
 
-  pub line-fits : Room table marks w₀ faults patterns → SoFar table marks w₀ faults patterns w p at from → p < patterns → at + 280 ≤ length w
+  pub line-fits : ListingRoom table marks w₀ faults patterns → SoFar table marks w₀ faults patterns w p at from → p < patterns → at + 280 ≤ length w
   line-fits r s l = omega (arith, put-long (s .put), s .short, r .lines)
 
   pub more : {w′ : List ℕ} {next : ℕ}
-      → Room table marks w₀ faults patterns
+      → ListingRoom table marks w₀ faults patterns
       → SoFar table marks w₀ faults patterns w p at from
       → p < patterns
-      → Put w w′ at (lineOf p (getD marks p 0) (take (from + faults - from) (drop from table))) next
+      → Put w w′ at (lineText p (getD marks p 0) (take (from + faults - from) (drop from table))) next
       → SoFar table marks w₀ faults patterns w′ (p + 1) next (from + faults)
   more {w′} {next} r s l q =
       let e : from + faults - from ≡ faults = omega arith in
       let row : List ℕ = take faults (drop from table) in
-      let line : Put w w′ at (lineOf p (getD marks p 0) row) next = subst (λ (k : ℕ). Put w w′ at (lineOf p (getD marks p 0) (take k (drop from table))) next) e q in
+      let line : Put w w′ at (lineText p (getD marks p 0) row) next = subst (λ (k : ℕ). Put w w′ at (lineText p (getD marks p 0) (take k (drop from table))) next) e q in
       let width : length row ≤ faults = simp length-take (omega arith) in
       record {
         at-most = omega arith;
-        put = rw add-one (put-then (s .put) (subst (λ (k : ℕ). Put w w′ at (lineOf p (getD marks p 0) (take faults (drop k table))) next) (s .row) line));
+        put = rw add-one (put-then (s .put) (subst (λ (k : ℕ). Put w w′ at (lineText p (getD marks p 0) (take faults (drop k table))) next) (s .row) line));
         short = omega (arith, line .next-is, line-short p (getD marks p 0) row, s .short, r .few-faults);
         row = rw (add-one, suc-mul) (ap (λ (k : ℕ). k + faults) (s .row));
       }

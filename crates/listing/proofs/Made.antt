@@ -19,21 +19,21 @@ use Rattle.lists.specs.Both.{listRules}
 use Rattle.lists.proofs.Both.{good-lists, lists-few}
 use Rattle.rows.specs.Table.{tableOf}
 use Rattle.rows.proofs.Entries.{made}
-use Rattle.dictionary.specs.Promise.{restRules, dictionaryRules, Dictionary}
+use Rattle.dictionary.specs.Promise.{dictionaryRestRules, dictionaryRules, Dictionary}
 use Rattle.tables.specs.Entries.{entriesOf}
 use Rattle.needs.specs.Needs as needs
 use Rattle.tables.specs.Table.{tableRules, Sized}
 use Rattle.compact.specs.Promise.{marksRules, compactRules, Compacts}
 use Rattle.compact.proofs.Says.{compact-says}
 use Rattle.listing.specs.Promise.{programRules, dictionaryOf}
-use Rattle.listing.specs.Owed.{Full, Counted, Sizes, Tabled}
+use Rattle.listing.specs.Owed.{PutTableReady, PutMadeReady, MakeReady, MakeDone}
 use Rattle.listing.proofs.Small.{table-small}
 
 module _ (c fs ps t w : List ℕ) where
   -- where the lists are fine, so are the buffers
-  rest-same : {n : ℕ} → Sizes c n fs ps (length t)
+  rest-same : {n : ℕ} → MakeReady c n fs ps (length t)
       → length w ≡ 2 * n
-      → refusal (restRules c (linesOf c) (inputsOf c) fs ps (length t) (length w)) ≡ refusal (listRules c (inputsOf c) fs ps)
+      → refusal (dictionaryRestRules c (linesOf c) (inputsOf c) fs ps (length t) (length w)) ≡ refusal (listRules c (inputsOf c) fs ps)
   rest-same {n} s two = go (refusal (listRules c (inputsOf c) fs ps)) refl
     where
       lists : List Rule
@@ -50,11 +50,11 @@ module _ (c fs ps t w : List ℕ) where
           ∙ lent-fine (faultCount fs * patternCount (inputsOf c) ps) (length t) (2 * linesOf c) (length w) (s .entries (few .0) (few .1)) (two ∙ ap (λ (x : ℕ). 2 * x) (s .lines-are))
           ∙ sym e
 
-  same-refusal : {n : ℕ} → Sizes c n fs ps (length t) → length w ≡ 2 * n → refusal (dictionaryRules c fs ps t w) ≡ refusal (programRules c fs ps)
+  same-refusal : {n : ℕ} → MakeReady c n fs ps (length t) → length w ≡ 2 * n → refusal (dictionaryRules c fs ps t w) ≡ refusal (programRules c fs ps)
   same-refusal {n} s two = go (refusal (circuitRules c)) refl
     where
       rest : List Rule
-      rest = restRules c (linesOf c) (inputsOf c) fs ps (length t) (length w)
+      rest = dictionaryRestRules c (linesOf c) (inputsOf c) fs ps (length t) (length w)
 
       lists : List Rule
       lists = listRules c (inputsOf c) fs ps
@@ -63,7 +63,7 @@ module _ (c fs ps t w : List ℕ) where
       go (Refused x y) e = after-refused (circuitRules c) rest e ∙ sym (after-refused (circuitRules c) lists e)
       go Fine e = after-fine (circuitRules c) rest e ∙ rest-same s two ∙ sym (after-fine (circuitRules c) lists e)
 
-  pub tabled : {n : ℕ} {r : Ruling} {t′ w′ : List ℕ} → Sizes c n fs ps (length t) → length w ≡ 2 * n → Dictionary c fs ps t w r t′ w′ → Tabled c fs ps t r t′
+  pub tabled : {n : ℕ} {r : Ruling} {t′ w′ : List ℕ} → MakeReady c n fs ps (length t) → length w ≡ 2 * n → Dictionary c fs ps t w r t′ w′ → MakeDone c fs ps t r t′
   tabled s two d =
       let q = same-refusal s two in
       record {
@@ -85,21 +85,21 @@ fine-sized c fs ps e =
       product = made c (linesOf c) (inputsOf c) fs ps .size;
     }
 
-module _ {c fs ps t t′ : List ℕ} {r : Ruling} (made-so : Tabled c fs ps t r t′) (is-fine : r ≡ Fine) where
+module _ {c fs ps t t′ : List ℕ} {r : Ruling} (made-so : MakeDone c fs ps t r t′) (is-fine : r ≡ Fine) where
   rules-fine : refusal (programRules c fs ps) ≡ Fine
   rules-fine = sym (made-so .answer) ∙ is-fine
 
   pub table-is : t′ ≡ dictionaryOf c fs ps
   table-is = made-so .table ∙ rw rules-fine
 
-  pub full : {f p out : ℕ} → Counted c fs ps f p → 71680 ≤ out → Full t′ out f p
+  pub full : {f p out : ℕ} → PutMadeReady c fs ps f p → 71680 ≤ out → PutTableReady t′ out f p
   full {f} {p} {out} k room =
       let sized = fine-sized c fs ps rules-fine in
       rw (table-is, k .faults, k .patterns)
       (record { sized = sized; small = λ i l. table-small c (linesOf c) (inputsOf c) fs ps i; lines = omega (arith, sized .few-patterns) })
 
 -- the compactor makes the marks of a full table
-pub marks-are : {t m m′ : List ℕ} {out f p : ℕ} {r : Ruling} → Full t out f p → length m ≡ p → Compacts f p t m r m′ → m′ ≡ needs.compacted (entriesOf f t) f p
+pub marks-are : {t m m′ : List ℕ} {out f p : ℕ} {r : Ruling} → PutTableReady t out f p → length m ≡ p → Compacts f p t m r m′ → m′ ≡ needs.compacted (entriesOf f t) f p
 unfolding tableRules marksRules AllHold
 marks-are {t} {m} {m′} {out} {f} {p} k size so =
     so .marks ∙ rw (fine (compactRules f p t m) (compact-says f p t m) (k .sized, (k .small, (size, tt))))

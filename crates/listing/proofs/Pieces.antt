@@ -7,7 +7,7 @@ use native.Mathlib.Omega.{arith}
 use lib.ListN.{length, getD, set, length-append, length-map, List·getD-map}
 use Rattle.ground.specs.Put.{Put}
 use Rattle.ground.proofs.Put.{put-then}
-use Rattle.listing.specs.Text.{letterOf, markOf, lineOf, refusedWord, refusedText}
+use Rattle.listing.specs.Text.{letterOf, markOf, lineText, refusedWord, refusedText}
 use Rattle.decimals.specs.Digits.{decimal}
 use Rattle.decimals.proofs.Digits.{digits-short}
 
@@ -26,10 +26,10 @@ pub line-put : (p mark : ℕ) (row : List ℕ) {w₀ w₁ w₂ w₃ w₄ : List 
     → Put w₁ w₂ n₁ (32 ∷ x ∷ 32 ∷ []) n₂
     → Put w₂ w₃ n₂ (map letterOf row) n₃
     → Put w₃ w₄ n₃ (10 ∷ []) n₄
-    → Put w₀ w₄ at (lineOf p mark row) n₄
+    → Put w₀ w₄ at (lineText p mark row) n₄
 line-put p mark row e a b c d = put-then a (put-then (rw e at b) (put-then c d))
 
-pub line-short : (p mark : ℕ) (row : List ℕ) → length (lineOf p mark row) ≤ length row + 24
+pub line-short : (p mark : ℕ) (row : List ℕ) → length (lineText p mark row) ≤ length row + 24
 line-short p mark row = simp (length-append, length-map) (omega (arith, digits-short 20 p))
 
 pub refused-put : (number place : ℕ) {w₀ w₁ w₂ w₃ w₄ w₅ : List ℕ} {n₁ n₂ n₃ n₄ n₅ : ℕ}

@@ -20,9 +20,9 @@ use Rattle.lists.specs.Patterns.{patternCount}
 use Rattle.lists.specs.Both.{listRules}
 use Rattle.tables.specs.Entries.{entriesOf}
 use Rattle.needs.specs.Needs as needs
-use Rattle.listing.specs.Text.{lineOf, linesTo, refusedText}
+use Rattle.listing.specs.Text.{lineText, linesTo, refusedText}
 use Rattle.listing.specs.Promise.{programRules, tableText, dictionaryOf, outputOf, Listed}
-use Rattle.listing.specs.Owed.{Counted, Sized, Sizes, Tabled, Lists}
+use Rattle.listing.specs.Owed.{PutMadeReady, EntriesDone, MakeReady, MakeDone, PutMadeDone}
 use Rattle.decimals.proofs.Digits.{digits-short}
 use Rattle.listing.proofs.Pieces.{line-short}
 use Rattle.listing.proofs.Made.{table-is, fine-sized, full}
@@ -36,12 +36,12 @@ lines-short faults t marks (suc p) few =
     let row : List ℕ = take faults (drop (p * faults) t) in
     let width : length row ≤ faults = simp length-take (omega arith) in
     let before = lines-short faults t marks p few in
-    omega (arith, length-append (linesTo faults t marks p) (lineOf p (getD marks p 0) row), line-short p (getD marks p 0) row)
+    omega (arith, length-append (linesTo faults t marks p) (lineText p (getD marks p 0) row), line-short p (getD marks p 0) row)
 
 -- ---- from a table of its size
 
 module _ {c fs ps t w w′ : List ℕ} {r : ℕ} (room : 71680 ≤ length w) where
-  pub refused-lists : {x y : ℕ} {t′ : List ℕ} → Tabled c fs ps t (Refused x y) t′ → Put w w′ 0 (refusedText x y) r → Lists c fs ps t w r t′ w′
+  pub refused-lists : {x y : ℕ} {t′ : List ℕ} → MakeDone c fs ps t (Refused x y) t′ → Put w w′ 0 (refusedText x y) r → PutMadeDone c fs ps t w r t′ w′
   unfolding outputOf
   refused-lists {x} {y} so p = record {
     written = rw (← so .answer) p;
@@ -49,7 +49,7 @@ module _ {c fs ps t w w′ : List ℕ} {r : ℕ} (room : 71680 ≤ length w) whe
     table = so .table;
   }
 
-  pub fine-lists : {t′ : List ℕ} {f p : ℕ} → Tabled c fs ps t Fine t′ → Counted c fs ps f p → Put w w′ 0 (tableText f p t′) r → Lists c fs ps t w r t′ w′
+  pub fine-lists : {t′ : List ℕ} {f p : ℕ} → MakeDone c fs ps t Fine t′ → PutMadeReady c fs ps f p → Put w w′ 0 (tableText f p t′) r → PutMadeDone c fs ps t w r t′ w′
   unfolding outputOf
   fine-lists {t′} {f} {p} so k put =
       let sized = full so refl {out = 71680} k (omega arith) .sized in
@@ -70,8 +70,8 @@ module _ {c fs ps t w w′ : List ℕ} {r : ℕ} (room : 71680 ≤ length w) whe
 -- so much of the table was lent as it has entries
 pub listed : {c fs ps : List ℕ} (t : List ℕ) {t′ w w′ : List ℕ} {n m r size : ℕ}
     → Known c n m
-    → Sized (faultCount fs) (patternCount m ps) size
-    → Lists c fs ps (take size t) w r t′ w′
+    → EntriesDone (faultCount fs) (patternCount m ps) size
+    → PutMadeDone c fs ps (take size t) w r t′ w′
     → Listed c fs ps t w r (t′ ++ drop size t) w′
 listed {c} {fs} {ps} t {t′} {size = size} k s l = record { written = l .written; fits = l .fits; table = go (refusal (programRules c fs ps)) refl (l .table) }
   where
@@ -92,14 +92,14 @@ one-result p q = (p .written .next-is ∙ sym (q .written .next-is), p .table �
 -- ---- the sizes
 
 -- patterns are counted by the number of inputs
-pub counted : {c fs ps : List ℕ} {n m : ℕ} → Known c n m → Counted c fs ps (faultCount fs) (patternCount m ps)
+pub counted : {c fs ps : List ℕ} {n m : ℕ} → Known c n m → PutMadeReady c fs ps (faultCount fs) (patternCount m ps)
 counted {c} {fs} {ps} k = record { faults = refl; patterns = ap (λ (x : ℕ). patternCount x ps) (k .inputs) }
 
 -- so much of the table is lent as it has entries
-pub lent-long : (t : List ℕ) {f p size : ℕ} → Sized f p size → 65536 ≤ length t → length (take size t) ≡ size
+pub lent-long : (t : List ℕ) {f p size : ℕ} → EntriesDone f p size → 65536 ≤ length t → length (take size t) ≡ size
 lent-long t {f} {p} {size} s room = length-take-le size t (omega (arith, s .most))
 
-pub sizes : {c fs ps : List ℕ} (t : List ℕ) {n m size : ℕ} → Known c n m → Sized (faultCount fs) (patternCount m ps) size → 65536 ≤ length t → Sizes c n fs ps (length (take size t))
+pub sizes : {c fs ps : List ℕ} (t : List ℕ) {n m size : ℕ} → Known c n m → EntriesDone (faultCount fs) (patternCount m ps) size → 65536 ≤ length t → MakeReady c n fs ps (length (take size t))
 sizes {c} {fs} {ps} t k s room = record {
   lines-are = k .lines;
   most-lines = rw (k .lines) (k .good .most-lines);

@@ -15,7 +15,7 @@ use Rattle.tables.specs.Table as tables
 use Rattle.listing.specs.Promise.{programRules, dictionaryOf, outputOf}
 
 -- a table of so many faults and patterns, a mark for each pattern, and 280 bytes for each line
-pub record Room (table marks out : List ℕ) (faults patterns : ℕ) : Type 0 where
+pub record ListingRoom (table marks out : List ℕ) (faults patterns : ℕ) : Type 0 where
   pub few-faults : faults ≤ 256
   pub few-patterns : patterns ≤ 256
   pub entries : length table ≡ faults * patterns
@@ -23,34 +23,34 @@ pub record Room (table marks out : List ℕ) (faults patterns : ℕ) : Type 0 wh
   pub lines : 280 * patterns ≤ length out
 
 -- a table that the compactor takes, and memory for its lines
-pub record Full (table : List ℕ) (out faults patterns : ℕ) : Type 0 where
+pub record PutTableReady (table : List ℕ) (out faults patterns : ℕ) : Type 0 where
   pub sized : tables.Sized faults patterns (length table)
   pub small : (i : ℕ) → i < length table → Small table i
   pub lines : 280 * patterns ≤ out
 
 -- the entries of a table, as far as they are not too many
-pub record Sized (faults patterns r : ℕ) : Type 0 where
+pub record EntriesDone (faults patterns r : ℕ) : Type 0 where
   pub product : faults ≤ 256 → patterns ≤ 256 → r ≡ faults * patterns
   pub most : r ≤ 65536
 
 -- so many faults and patterns
-pub record Counted (c fs ps : List ℕ) (f p : ℕ) : Type 0 where
+pub record PutMadeReady (c fs ps : List ℕ) (f p : ℕ) : Type 0 where
   pub faults : f ≡ faultCount fs
   pub patterns : p ≡ patternCount (inputsOf c) ps
 
 -- the lines of the circuit, and a table of its size, as far as the lists are not too long
-pub record Sizes (c : List ℕ) (n : ℕ) (fs ps : List ℕ) (table : ℕ) : Type 0 where
+pub record MakeReady (c : List ℕ) (n : ℕ) (fs ps : List ℕ) (table : ℕ) : Type 0 where
   pub lines-are : n ≡ linesOf c
   pub most-lines : n ≤ 2048
   pub entries : faultCount fs ≤ 256 → patternCount (inputsOf c) ps ≤ 256 → table ≡ faultCount fs * patternCount (inputsOf c) ps
 
 -- the dictionary is made, or something is refused
-pub record Tabled (c fs ps t : List ℕ) (r : Ruling) (t′ : List ℕ) : Type 0 where
+pub record MakeDone (c fs ps t : List ℕ) (r : Ruling) (t′ : List ℕ) : Type 0 where
   pub answer : r ≡ refusal (programRules c fs ps)
   pub table : t′ ≡ unless (refusal (programRules c fs ps)) t (dictionaryOf c fs ps)
 
 -- the text, and the dictionary in a table of its size
-pub record Lists (c fs ps t w : List ℕ) (r : ℕ) (t′ w′ : List ℕ) : Type 0 where
+pub record PutMadeDone (c fs ps t w : List ℕ) (r : ℕ) (t′ w′ : List ℕ) : Type 0 where
   pub written : Put w w′ 0 (outputOf c fs ps) r
   pub fits : r ≤ length w′
   pub table : t′ ≡ unless (refusal (programRules c fs ps)) t (dictionaryOf c fs ps)

@@ -17,12 +17,12 @@ unfoldable pub markOf : ℕ → ℕ
 markOf mark = choose (eqb mark 1) 75 68
 
 -- number, space, K or D, space, one letter a fault
-abbrev pub lineOf : ℕ → ℕ → List ℕ → List ℕ
-lineOf p mark row = decimal p ++ ((32 ∷ markOf mark ∷ 32 ∷ []) ++ (map letterOf row ++ (10 ∷ [])))
+abbrev pub lineText : ℕ → ℕ → List ℕ → List ℕ
+lineText p mark row = decimal p ++ ((32 ∷ markOf mark ∷ 32 ∷ []) ++ (map letterOf row ++ (10 ∷ [])))
 
 -- the lines of the first p patterns, of a table with so many faults
 abbrev pub linesTo : ℕ → List ℕ → List ℕ → ℕ → List ℕ
-linesTo faults table marks p = gather (λ k. lineOf k (getD marks k 0) (take faults (drop (k * faults) table))) p
+linesTo faults table marks p = gather (λ k. lineText k (getD marks k 0) (take faults (drop (k * faults) table))) p
 
 -- `refused`, number, place, with single spaces
 abbrev pub refusedWord : List ℕ

@@ -11,10 +11,10 @@ ghost use mathlib.Core.List.{[], _∷_, map};
 ghost use Prim.Native.Nat.{_+_, _*_, _≤_, _<_};
 ghost use lib.ListN.{length};
 ghost use Rattle.ground.specs.Put.{Put};
-ghost use Rattle.listing.specs.Text.{letterOf, markOf, lineOf, linesTo, refusedWord, refusedText};
+ghost use Rattle.listing.specs.Text.{letterOf, markOf, lineText, linesTo, refusedWord, refusedText};
 ghost use Rattle.listing.specs.Promise.{tableText, Listed};
 ghost use Rattle.circuit.specs.Formed.{Known};
-ghost use Rattle.listing.specs.Owed.{Room, Full, Sizes, Tabled, Sized, Counted, Lists};
+ghost use Rattle.listing.specs.Owed.{ListingRoom, PutTableReady, MakeReady, MakeDone, EntriesDone, PutMadeReady, PutMadeDone};
 
 // The letter of an entry.
 fn letter(entry: u8) -> u8
@@ -67,7 +67,7 @@ fn put_three(out: &mut [u8], at: usize, a: u8, b: u8, c: u8) -> usize
 // The line of a pattern.
 fn put_line(out: &mut [u8], at: usize, p: usize, mark: u8, row: &[u8]) -> usize
     requires { ⌜ at + (length (now row) + 24) ≤ length (now out) ⌝ }
-    ensures { λ r. ⌜ Put (now (out .entry)) (now (out .exit)) at (lineOf p mark (now (row .entry))) r ⌝ }
+    ensures { λ r. ⌜ Put (now (out .entry)) (now (out .exit)) at (lineText p mark (now (row .entry))) r ⌝ }
 {
     let kept = mark_letter(mark);
     let number = put_decimal(out, at, p);
@@ -78,7 +78,7 @@ fn put_line(out: &mut [u8], at: usize, p: usize, mark: u8, row: &[u8]) -> usize
 
 // The lines of all patterns.
 fn put_lines(out: &mut [u8], table: &[u8], marks: &[u8], faults: usize, patterns: usize) -> usize
-    requires { ⌜ Room (now table) (now marks) (now out) faults patterns ⌝ }
+    requires { ⌜ ListingRoom (now table) (now marks) (now out) faults patterns ⌝ }
     ensures { λ r. ⌜ Put (now (out .entry)) (now (out .exit)) 0 (linesTo faults (now (table .entry)) (now (marks .entry)) patterns) r ⌝ }
 {
     let mut p = 0;
@@ -128,7 +128,7 @@ fn put_marked(
     faults: usize,
     patterns: usize,
 ) -> usize
-    requires { ⌜ Full (now table) (length (now out)) faults patterns × (length (now marks) ≡ patterns) ⌝ }
+    requires { ⌜ PutTableReady (now table) (length (now out)) faults patterns × (length (now marks) ≡ patterns) ⌝ }
     ensures { λ r. ⌜ Put (now (out .entry)) (now (out .exit)) 0 (tableText faults patterns (now (table .entry))) r ⌝ }
 {
     compact(faults as u64, patterns as u64, table, marks);
@@ -137,7 +137,7 @@ fn put_marked(
 
 // The lines of a full table.
 fn put_table(out: &mut [u8], table: &[u8], faults: usize, patterns: usize) -> usize
-    requires { ⌜ Full (now table) (length (now out)) faults patterns ⌝ }
+    requires { ⌜ PutTableReady (now table) (length (now out)) faults patterns ⌝ }
     ensures { λ r. ⌜ Put (now (out .entry)) (now (out .exit)) 0 (tableText faults patterns (now (table .entry))) r ⌝ }
 {
     let mut marks = [0u8; 256];
@@ -146,7 +146,7 @@ fn put_table(out: &mut [u8], table: &[u8], faults: usize, patterns: usize) -> us
 
 // The entries of a table of so many faults and patterns; none where either is too many, which the dictionary maker refuses.
 fn entries(faults: usize, patterns: usize) -> usize
-    ensures { λ r. ⌜ Sized faults patterns r ⌝ }
+    ensures { λ r. ⌜ EntriesDone faults patterns r ⌝ }
 {
     if 256 < faults {
         return 0;
@@ -159,8 +159,8 @@ fn entries(faults: usize, patterns: usize) -> usize
 
 // The dictionary of a circuit of n lines.
 fn make(circuit: &[u8], n: usize, faults: &[u8], patterns: &[u8], table: &mut [u8]) -> Ruling
-    requires { ⌜ Sizes (now circuit) n (now faults) (now patterns) (length (now table)) ⌝ }
-    ensures { λ r. ⌜ Tabled (now (circuit .entry)) (now (faults .entry)) (now (patterns .entry)) (now (table .entry)) r (now (table .exit)) ⌝ }
+    requires { ⌜ MakeReady (now circuit) n (now faults) (now patterns) (length (now table)) ⌝ }
+    ensures { λ r. ⌜ MakeDone (now (circuit .entry)) (now (faults .entry)) (now (patterns .entry)) (now (table .entry)) r (now (table .exit)) ⌝ }
 {
     let mut work = [0u8; 4096];
     let two = 2 * n;
@@ -178,9 +178,9 @@ fn put_made(
     table: &mut [u8],
     out: &mut [u8],
 ) -> usize
-    requires { ⌜ Sizes (now circuit) n (now faults) (now patterns) (length (now table)) ⌝ }
-    requires { ⌜ Counted (now circuit) (now faults) (now patterns) f p × (71680 ≤ length (now out)) ⌝ }
-    ensures { λ r. ⌜ Lists (now (circuit .entry)) (now (faults .entry)) (now (patterns .entry)) (now (table .entry)) (now (out .entry)) r (now (table .exit)) (now (out .exit)) ⌝ }
+    requires { ⌜ MakeReady (now circuit) n (now faults) (now patterns) (length (now table)) ⌝ }
+    requires { ⌜ PutMadeReady (now circuit) (now faults) (now patterns) f p × (71680 ≤ length (now out)) ⌝ }
+    ensures { λ r. ⌜ PutMadeDone (now (circuit .entry)) (now (faults .entry)) (now (patterns .entry)) (now (table .entry)) (now (out .entry)) r (now (table .exit)) (now (out .exit)) ⌝ }
 {
     let v = make(circuit, n, faults, patterns, table);
     match v {

@@ -1,4 +1,4 @@
--- Every marked example holds: the definitions are computed, and give what the table says.
+-- Every marked example holds: the definitions are computed, and give what the clauseTable says.
 -- Assumes nothing.
 use mathlib.Core.Path.{refl}
 use Rattle.ground.specs.Below.{countBelow, firstNot}
@@ -28,10 +28,10 @@ use Rattle.nodes.specs.Budget.{verdictIn}
 use Rattle.sides.specs.Look.{settled, lookOf}
 use Rattle.search.specs.Promise.{verdictFor, testFor}
 use Rattle.cnf.specs.Cnf.{decodeFrom}
-use Rattle.cnf.specs.Table.{table, gateClauses}
+use Rattle.cnf.specs.Table.{clauseTable, gateClauses}
 use Rattle.line_clauses.specs.Clauses.{goodClauses, faultyClauses, differenceClauses, clausesOf}
 use Rattle.clauses.specs.Promise.{roomRules, wordsFor, writtenOf}
-use Rattle.marked.specs.Example.{AllHold}
+use Rattle.marked.specs.Example.{AllYield}
 use Rattle.marked.specs.Marked.{stuck, inverter, marked}
 use Rattle.marked.proofs.Solve.{onlySolution, solved}
 
@@ -41,14 +41,14 @@ _and_ a b = (a, b)
 
 -- row by row; the one about all assignments by computing it for every set of true variables
 -- what is computed: rules; circuits and lists; the dictionary; the compactor; the listing; the search; clauses
-pub all-hold : AllHold marked
+pub all-hold : AllYield marked
 unfolding countBelow firstNot said refusal recordsOk smallOk lentRules
     wordAt pinsOf notOf andOf orOf gateOf pinOk fieldOk lineOk layoutRules countRules checkOf faultOk faultRules patternRules
     stuckAt gateValue lineValue grow differ agree entryBy entryAt tableOf
     tells lost lostPair lacks turn turns compacted sizesOk tableRules marksRules
     digits letterOf markOf outputOf
     countX firstX fill order upto found testIn verdictIn settled lookOf verdictFor testFor
-    decodeFrom table gateClauses goodClauses faultyClauses differenceClauses clausesOf roomRules writtenOf onlySolution
+    decodeFrom clauseTable gateClauses goodClauses faultyClauses differenceClauses clausesOf roomRules writtenOf onlySolution
 all-hold =
     refl
     and (refl, refl)

@@ -69,18 +69,18 @@ trueTo v σ = gather (λ k. choose (σ (suc k)) (suc k ∷ []) []) v
 
 -- ---- what the definitions must give
 
-abbrev pub Holds : Example → Type 0
-Holds (Example.check c r) = checkOf c ≡ r
-Holds (Example.prints c fs ps text) = outputOf c fs ps ≡ text
-Holds (Example.search c f b v t) =
+abbrev pub Yields : Example → Type 0
+Yields (Example.check c r) = checkOf c ≡ r
+Yields (Example.prints c fs ps text) = outputOf c fs ps ≡ text
+Yields (Example.search c f b v t) =
     (answered searched.Refused (searchRuling c f) (searched.Verdict (verdictFor c (faultAt f 0) b)) ≡ searched.Verdict v)
     × (unless (searchRuling c f) (lent (inputsOf c)) (testFor c (faultAt f 0) b (lent (inputsOf c))) ≡ t)
-Holds (Example.compact F P t m pairs) = (marksOf F P t ≡ m) × (pairsOf F P t ≡ pairs)
-Holds (Example.clauses c f cs) = clausesFor c (faultAt f 0) ≡ cs
-Holds (Example.write c f room r) = writtenOf c f room ≡ r
-Holds (Example.solve c f vs) = (σ : Assignment) → Satisfies σ (wordsFor c (faultAt f 0)) ↔ (trueTo (variablesOf c (linesOf c)) σ ≡ vs)
+Yields (Example.compact F P t m pairs) = (marksOf F P t ≡ m) × (pairsOf F P t ≡ pairs)
+Yields (Example.clauses c f cs) = clausesFor c (faultAt f 0) ≡ cs
+Yields (Example.write c f room r) = writtenOf c f room ≡ r
+Yields (Example.solve c f vs) = (σ : Assignment) → Satisfies σ (wordsFor c (faultAt f 0)) ↔ (trueTo (variablesOf c (linesOf c)) σ ≡ vs)
 
 -- every example of a list
-abbrev pub AllHold : List Example → Type 0
-AllHold [] = Unit
-AllHold (x ∷ l) = Holds x × AllHold l
+abbrev pub AllYield : List Example → Type 0
+AllYield [] = Unit
+AllYield (x ∷ l) = Yields x × AllYield l

@@ -10,11 +10,11 @@ use Rattle.nodes.specs.declared.Verdict.the-variants.{Test, Redundant, GivenUp}
 use Rattle.clauses.specs.declared.Written.the-variants as written
 use Rattle.marked.specs.Example.{Example, lent}
 
--- ---- records: the bytes of lines and faults, laid one after the other
+-- ---- records: the laidOut of lines and faults, laid one after the other
 
-abbrev pub bytes : List (List ℕ) → List ℕ
-bytes [] = []
-bytes (r ∷ l) = r ++ bytes l
+abbrev pub laidOut : List (List ℕ) → List ℕ
+laidOut [] = []
+laidOut (r ∷ l) = r ++ laidOut l
 
 abbrev input : List ℕ
 input = 0 ∷ 0 ∷ 0 ∷ 0 ∷ 0 ∷ 0 ∷ 0 ∷ 0 ∷ []
@@ -26,7 +26,7 @@ stuck line value = line ∷ 0 ∷ 0 ∷ value ∷ 0 ∷ 0 ∷ 0 ∷ 0 ∷ []
 -- lines 0, 1, 2 inputs; 3 = AND(0,1); 4 = OR(3,2), output
 abbrev pub circuitA : List ℕ
 circuitA =
-    bytes (
+    laidOut (
     input
     ∷ input
     ∷ input
@@ -36,7 +36,7 @@ circuitA =
     )
 
 abbrev pub faultsA : List ℕ
-faultsA = bytes (stuck 3 0 ∷ stuck 3 1 ∷ stuck 2 1 ∷ stuck 0 0 ∷ [])
+faultsA = laidOut (stuck 3 0 ∷ stuck 3 1 ∷ stuck 2 1 ∷ stuck 0 0 ∷ [])
 
 -- 110, 010, 0X0, X10
 abbrev pub patternsA : List ℕ
@@ -44,21 +44,21 @@ patternsA = 1 ∷ 1 ∷ 0 ∷ 0 ∷ 1 ∷ 0 ∷ 0 ∷ 2 ∷ 0 ∷ 2 ∷ 1 ∷ 0 
 
 -- line 0 input, 1 = NOT 0, 2 = AND(0,1) output
 abbrev pub notAnd : List ℕ
-notAnd = bytes (input ∷ (2 ∷ 0 ∷ 0 ∷ 0 ∷ 0 ∷ 0 ∷ 0 ∷ 0 ∷ []) ∷ (3 ∷ 1 ∷ 0 ∷ 0 ∷ 1 ∷ 0 ∷ 0 ∷ 0 ∷ []) ∷ [])
+notAnd = laidOut (input ∷ (2 ∷ 0 ∷ 0 ∷ 0 ∷ 0 ∷ 0 ∷ 0 ∷ 0 ∷ []) ∷ (3 ∷ 1 ∷ 0 ∷ 0 ∷ 1 ∷ 0 ∷ 0 ∷ 0 ∷ []) ∷ [])
 
 -- line 0 input, 1 = NOT 0 output
 abbrev pub inverter : List ℕ
-inverter = bytes (input ∷ (2 ∷ 1 ∷ 0 ∷ 0 ∷ 0 ∷ 0 ∷ 0 ∷ 0 ∷ []) ∷ [])
+inverter = laidOut (input ∷ (2 ∷ 1 ∷ 0 ∷ 0 ∷ 0 ∷ 0 ∷ 0 ∷ 0 ∷ []) ∷ [])
 
 -- so many inputs, and a buffer of line 0 as output
 abbrev pub inputs : ℕ → List ℕ
-inputs n = bytes (replicate n input) ++ (1 ∷ 1 ∷ 0 ∷ 0 ∷ 0 ∷ 0 ∷ 0 ∷ 0 ∷ [])
+inputs n = laidOut (replicate n input) ++ (1 ∷ 1 ∷ 0 ∷ 0 ∷ 0 ∷ 0 ∷ 0 ∷ 0 ∷ [])
 
 -- the largest budget
 abbrev pub unlimited : ℕ
 unlimited = 18446744073709551615
 
--- ---- letters of the text, as bytes
+-- ---- letters of the text, as laidOut
 
 abbrev F : ℕ
 F = 70
@@ -96,7 +96,7 @@ abbrev pub marked : List Example
 marked =
     -- Example A: 0 K FPPF, 1 K PFFP, 2 D PFFP, 3 D UUUU
     Example.prints circuitA faultsA patternsA
-    (bytes (
+    (laidOut (
     line 48 K (F ∷ P ∷ P ∷ F ∷ [])
     ∷ line 49 K (P ∷ F ∷ F ∷ P ∷ [])
     ∷ line 50 D (P ∷ F ∷ F ∷ P ∷ [])

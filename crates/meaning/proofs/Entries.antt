@@ -34,7 +34,7 @@ use Rattle.entry.specs.Entry.{agree, entryAt}
 use Rattle.entry.specs.Words.{Agree}
 use Rattle.entry.proofs.Words.{agree-says, fail-some, pass-every}
 use Rattle.entry.proofs.Fill.{entry-fail, entry-pass, entry-decided}
-use Rattle.dictionary.specs.Promise.{restRules, Dictionary}
+use Rattle.dictionary.specs.Promise.{dictionaryRestRules, Dictionary}
 use Rattle.dictionary.proofs.Says.{in-words}
 use Rattle.meaning.specs.Entries.{Means}
 
@@ -89,7 +89,7 @@ pub dictionary-means : (c fs ps t w : List ℕ) {t′ w′ : List ℕ}
     → Means (getD t′ (i * faultCount fs + j) 0) c (faultAt fs j) (linesOf c) (patternAt (inputsOf c) ps i)
 dictionary-means c fs ps t w d i j a b =
     let m = inputsOf c in
-    let fine = both-fine (circuitRules c) (restRules c (linesOf c) m fs ps (length t) (length w)) (sym (d .answer)) in
+    let fine = both-fine (circuitRules c) (dictionaryRestRules c (linesOf c) m fs ps (length t) (length w)) (sym (d .answer)) in
     let lists = good-lists c m fs ps (both-fine (listRules c m fs ps) _ (fine .1) .0) in
     rw (in-words c fs ps t w d .made refl .entry i j a b)
     (entry-means c fs (patternAt m ps i) j (fine .0) (lists .0 .faults j b) (pattern-whole ps (lists .1 .records) a))

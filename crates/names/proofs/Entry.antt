@@ -11,14 +11,14 @@ use lib.ListN.{length, getD, take, set, replicate, length-set, length-replicate,
 use lib.Seq.{length-take-le, getD-set-same, getD-set-other}
 use borrow.Author.Tests.{eq-eqb, ne-eqb}
 use Rattle.names.specs.Names.{lastWith}
-use Rattle.names.specs.Owed.{hashed, Table, Empty}
+use Rattle.names.specs.Owed.{hashed, Table, EnterReady}
 use Rattle.names.proofs.Mixed.{hash-of}
 
 -- room for d definitions, cut from the library's own
 pub room-for : (d : ℕ) → d ≤ 8192 → length {A = ℕ} (take d (replicate 8192 0)) ≡ d
 room-for d l = length-take-le {A = ℕ} d (replicate 8192 0) (omega (arith, length-replicate {A = ℕ} 8192 0))
 
-pub empty : {t defs head next : List ℕ} → Empty t defs head next → Table t defs head next 0
+pub empty : {t defs head next : List ℕ} → EnterReady t defs head next → Table t defs head next 0
 unfolding lastWith
 empty e = record {
   few = e .few;

@@ -9,8 +9,8 @@ use lib.Dec.{eqb}
 use lib.ListN.{length, getD, set}
 use Rattle.ground.specs.Choose.{choose}
 use Rattle.words.specs.Words.{wordAt}
-use Rattle.names.specs.Names.{definition, numberOf}
-use Rattle.names.specs.Owed.{Table, lowest, again, undefined, Empty, Entered, Asked, LookedUp}
+use Rattle.names.specs.Names.{definition, nameNumber}
+use Rattle.names.specs.Owed.{Table, lowest, again, undefined, EnterReady, EnterDone, LookUpReady, LookUpDone}
 use Rattle.names.proofs.Entry.{empty}
 use Rattle.names.proofs.Lowest.{lowest-most, lowest-more, lowest-none}
 use Rattle.names.proofs.Mapped.{Mapped, mapped-none, mapped-more, mapped-all}
@@ -21,7 +21,7 @@ pub record Entering (t defs head next : List ℕ) (low n : ℕ) : Type 0 where
   pub table : Table t defs head next n
   pub place : low ≡ lowest (again t defs) defs n
 
-pub enter-none : {t defs head next : List ℕ} → Empty t defs head next → Entering t defs head next 65535 0
+pub enter-none : {t defs head next : List ℕ} → EnterReady t defs head next → Entering t defs head next 65535 0
 enter-none {t} {defs} e = record { table = empty e; place = sym (lowest-none (again t defs) defs) }
 
 module _ {t defs head next : List ℕ} {low n : ℕ} (s : Entering t defs head next low n) where
@@ -33,7 +33,7 @@ module _ {t defs head next : List ℕ} {low n : ℕ} (s : Entering t defs head n
     place = cc (r, p, q, s .place, lowest-more (again t defs) defs n);
   }
 
-  pub enter-all : length defs ≤ n → Entered t defs head next low
+  pub enter-all : length defs ≤ n → EnterDone t defs head next low
   enter-all l =
       let e : n ≡ length defs = omega (arith, s .table .known) in
       record { table = rw (← e) (s .table); place = s .place ∙ ap (lowest (again t defs) defs) e }
@@ -41,12 +41,12 @@ module _ {t defs head next : List ℕ} {low n : ℕ} (s : Entering t defs head n
 -- ---- names are looked up
 
 pub record Looking (t defs numbers names out : List ℕ) (low r u : ℕ) : Type 0 where
-  pub numbers-are : Mapped (numberOf t defs numbers) names out u
+  pub numbers-are : Mapped (nameNumber t defs numbers) names out u
   pub place : r ≡ min low (lowest (undefined t defs names) names u)
 
-pub look-none : (numbers : List ℕ) {t defs head next names out : List ℕ} {low : ℕ} → Asked t defs head next names out low → Looking t defs numbers names out low low 0
+pub look-none : (numbers : List ℕ) {t defs head next names out : List ℕ} {low : ℕ} → LookUpReady t defs head next names out low → Looking t defs numbers names out low low 0
 look-none numbers {t} {defs} {head} {next} {names} a = record {
-  numbers-are = mapped-none (numberOf t defs numbers) (a .room);
+  numbers-are = mapped-none (nameNumber t defs numbers) (a .room);
   place = omega (arith, lowest-none (undefined t defs names) names, a .so-far);
 }
 
@@ -63,7 +63,7 @@ module _ {t defs numbers names out : List ℕ} {low r u : ℕ} (s : Looking t de
       → x ≡ getD numbers (found - 1) 0
       → r′ ≡ choose (eqb found 0) (min at r) r
       → Looking t defs numbers names (set out u x) low r′ (u + 1)
-  unfolding numberOf
+  unfolding nameNumber
   look-more l at found x r′ p q e f =
       let found-is : found ≡ definition t defs (length defs) (wordAt t (getD names u 0)) = q ∙ ap (λ (i : ℕ). definition t defs (length defs) (wordAt t i)) p in
       record {
@@ -73,7 +73,7 @@ module _ {t defs numbers names out : List ℕ} {low r u : ℕ} (s : Looking t de
             (f, p, found-is, s .place, lowest-more (undefined t defs names) names u, min-choose (eqb found 0) at low (lowest (undefined t defs names) names u));
       }
 
-  pub look-all : length names ≤ u → LookedUp t defs numbers names out low r
+  pub look-all : length names ≤ u → LookUpDone t defs numbers names out low r
   look-all l =
       let e : u ≡ length names = omega (arith, s .numbers-are .at-most) in
       record {
@@ -83,8 +83,8 @@ module _ {t defs numbers names out : List ℕ} {low r u : ℕ} (s : Looking t de
 
 -- ---- nothing is above 65,535
 
-pub entered-most : {t defs head next : List ℕ} {r : ℕ} → Entered t defs head next r → r ≤ 65535
+pub entered-most : {t defs head next : List ℕ} {r : ℕ} → EnterDone t defs head next r → r ≤ 65535
 entered-most {t} {defs} e = omega (arith, e .place, lowest-most (again t defs) defs (length defs))
 
-pub looked-most : {t defs numbers names out : List ℕ} {low r : ℕ} → LookedUp t defs numbers names out low r → r ≤ low
+pub looked-most : {t defs numbers names out : List ℕ} {low r : ℕ} → LookUpDone t defs numbers names out low r → r ≤ low
 looked-most s = omega (arith, s .place)

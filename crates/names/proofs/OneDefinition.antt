@@ -15,7 +15,7 @@ use Rattle.answers.specs.declared.Ruling.the-variants.{Fine}
 use Rattle.answers.proofs.Rules.{all-hold}
 use Rattle.words.specs.Words.{wordAt}
 use Rattle.words.proofs.Same.{same-eq, same-refl}
-use Rattle.names.specs.Names.{named, definition, numberOf, Names, NameOk, nameRules}
+use Rattle.names.specs.Names.{named, definition, nameNumber, Names, NameOk, nameRules}
 use Rattle.names.specs.Owed.{Within}
 use Rattle.names.proofs.Last.{last-only}
 use Rattle.names.proofs.Says.{names-say}
@@ -53,6 +53,6 @@ module _ (t defs uses : List ℕ) (fine : refusal (nameRules t defs uses) ≡ Fi
           last-only (named t defs w) (length defs) d l (rw q (same-refl w))
           (λ e m p. one-definition e d m l (same-eq (wordAt t (getD defs e 0)) w p ∙ sym q))
 
-      pub number-of : (numbers : List ℕ) (i : ℕ) → wordAt t (getD defs d 0) ≡ wordAt t i → numberOf t defs numbers i ≡ getD numbers d 0
-      unfolding numberOf
+      pub number-of : (numbers : List ℕ) (i : ℕ) → wordAt t (getD defs d 0) ≡ wordAt t i → nameNumber t defs numbers i ≡ getD numbers d 0
+      unfolding nameNumber
       number-of numbers i q = let e : definition t defs (length defs) (wordAt t i) - 1 ≡ d = omega (arith, definition-is (wordAt t i) q) in rw e

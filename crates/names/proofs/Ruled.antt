@@ -12,11 +12,11 @@ use Rattle.answers.specs.Rules.{refusal}
 use Rattle.answers.specs.declared.Ruling.the-variants.{Fine, Refused}
 use Rattle.answers.proofs.Rules.{or-fine}
 use Rattle.names.specs.Names.{once, defined, NameOk, nameRules}
-use Rattle.names.specs.Owed.{lowest, again, undefined, Unresolved}
+use Rattle.names.specs.Owed.{lowest, again, undefined, ResolveReady}
 use Rattle.names.proofs.LowestNot.{LowestNot, lowest-same, lowest-and, lowest-ruled}
 use Rattle.names.proofs.Wrong.{lowest-twice, lowest-nowhere, defined-append}
 
-module _ {t defs outs firsts seconds o a b : List ℕ} (u : Unresolved t defs outs firsts seconds o a b) where
+module _ {t defs outs firsts seconds o a b : List ℕ} (u : ResolveReady t defs outs firsts seconds o a b) where
   -- the lowest byte of one of these names that is defined nowhere, or 65,535
   abbrev nowhere : List ℕ → ℕ
   nowhere uses = lowest (undefined t defs uses) uses (length uses)

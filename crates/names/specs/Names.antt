@@ -52,5 +52,5 @@ unfoldable pub definition : List ℕ → List ℕ → ℕ → List ℕ → ℕ
 definition t defs n w = lastWith (named t defs w) n
 
 -- of the name at a byte
-unfoldable pub numberOf : List ℕ → List ℕ → List ℕ → ℕ → ℕ
-numberOf t defs numbers i = getD numbers (definition t defs (length defs) (wordAt t i) - 1) 0
+unfoldable pub nameNumber : List ℕ → List ℕ → List ℕ → ℕ → ℕ
+nameNumber t defs numbers i = getD numbers (definition t defs (length defs) (wordAt t i) - 1) 0

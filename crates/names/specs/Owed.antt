@@ -11,7 +11,7 @@ use Rattle.ground.specs.Choose.{choose}
 use Rattle.answers.specs.Rules.{refusal}
 use Rattle.answers.specs.declared.Ruling.{Ruling}
 use Rattle.words.specs.Words.{wordAt}
-use Rattle.names.specs.Names.{nameRules, lastWith, definition, numberOf}
+use Rattle.names.specs.Names.{nameRules, lastWith, definition, nameNumber}
 
 unfoldable pub hashFrom : ℕ → List ℕ → ℕ
 hashFrom h [] = h
@@ -47,25 +47,25 @@ abbrev pub undefined : List ℕ → List ℕ → List ℕ → ℕ → Bool
 undefined t defs uses u = eqb (definition t defs (length defs) (wordAt t (getD uses u 0))) 0
 
 -- an empty table
-pub record Empty (t defs head next : List ℕ) : Type 0 where
+pub record EnterReady (t defs head next : List ℕ) : Type 0 where
   pub few : length defs < 65536
   pub none : head ≡ replicate 8192 0
   pub room : length next ≡ length defs
 
 -- all definitions are in the table, and r is the lowest byte of a second one
-pub record Entered (t defs head next : List ℕ) (r : ℕ) : Type 0 where
+pub record EnterDone (t defs head next : List ℕ) (r : ℕ) : Type 0 where
   pub table : Table t defs head next (length defs)
   pub place : r ≡ lowest (again t defs) defs (length defs)
 
 -- a name at each of some places, room for its number, and the lowest byte so far of a wrong name, or 65,535
-pub record Asked (t defs head next names out : List ℕ) (low : ℕ) : Type 0 where
+pub record LookUpReady (t defs head next names out : List ℕ) (low : ℕ) : Type 0 where
   pub table : Table t defs head next (length defs)
   pub room : length out ≡ length names
   pub so-far : low ≤ 65535
 
 -- the numbers of the names, and r is `low` or the lowest byte of a name that is defined nowhere
-pub record LookedUp (t defs numbers names out : List ℕ) (low r : ℕ) : Type 0 where
-  pub numbers-are : out ≡ map (numberOf t defs numbers) names
+pub record LookUpDone (t defs numbers names out : List ℕ) (low r : ℕ) : Type 0 where
+  pub numbers-are : out ≡ map (nameNumber t defs numbers) names
   pub place : r ≡ min low (lowest (undefined t defs names) names (length names))
 
 -- each place is one of the text
@@ -73,7 +73,7 @@ abbrev pub Within : List ℕ → List ℕ → Type 0
 Within t places = (k : ℕ) → k < length places → getD places k 0 < length t
 
 -- names to be resolved, and room for their numbers
-pub record Unresolved (t defs outs firsts seconds o a b : List ℕ) : Type 0 where
+pub record ResolveReady (t defs outs firsts seconds o a b : List ℕ) : Type 0 where
   pub short : length t ≤ 32768
   pub few : length defs ≤ 8192
   pub defs-in : Within t defs
@@ -85,8 +85,8 @@ pub record Unresolved (t defs outs firsts seconds o a b : List ℕ) : Type 0 whe
   pub for-seconds : length b ≡ length seconds
 
 -- what the names say about refusal 15, and their numbers
-pub record Resolved (t defs numbers outs firsts seconds o a b : List ℕ) (r : Ruling) : Type 0 where
+pub record ResolveDone (t defs numbers outs firsts seconds o a b : List ℕ) (r : Ruling) : Type 0 where
   pub ruling : r ≡ refusal (nameRules t defs (outs ++ (firsts ++ seconds)))
-  pub outs-are : o ≡ map (numberOf t defs numbers) outs
-  pub firsts-are : a ≡ map (numberOf t defs numbers) firsts
-  pub seconds-are : b ≡ map (numberOf t defs numbers) seconds
+  pub outs-are : o ≡ map (nameNumber t defs numbers) outs
+  pub firsts-are : a ≡ map (nameNumber t defs numbers) firsts
+  pub seconds-are : b ≡ map (nameNumber t defs numbers) seconds

@@ -14,7 +14,7 @@ ghost use Rattle.ground.specs.Choose.{choose};
 ghost use Rattle.answers.specs.declared.Ruling.the-variants.{Fine, Refused};
 ghost use Rattle.words.specs.Words.{wordAt};
 ghost use Rattle.names.specs.Names.{definition};
-ghost use Rattle.names.specs.Owed.{Hash, Table, Empty, Entered, Asked, LookedUp, Unresolved, Resolved};
+ghost use Rattle.names.specs.Owed.{Hash, Table, EnterReady, EnterDone, LookUpReady, LookUpDone, ResolveReady, ResolveDone};
 
 // ---- the table
 
@@ -88,8 +88,8 @@ fn lower(wrong: bool, at: usize, low: usize) -> usize
 
 // All definitions join the table. The lowest byte of a second definition, or 65,535.
 fn enter(text: &[u8], defs: &[u16], head: &mut [u16], next: &mut [u16]) -> usize
-    requires { ⌜ Empty (now text) (now defs) (now head) (now next) ⌝ }
-    ensures { λ r. ⌜ Entered (now (text .entry)) (now (defs .entry)) (now (head .exit)) (now (next .exit)) r ⌝ }
+    requires { ⌜ EnterReady (now text) (now defs) (now head) (now next) ⌝ }
+    ensures { λ r. ⌜ EnterDone (now (text .entry)) (now (defs .entry)) (now (head .exit)) (now (next .exit)) r ⌝ }
 {
     let mut low = 65535;
     let mut n = 0;
@@ -134,8 +134,8 @@ fn look_up(
     out: &mut [u16],
     low: usize,
 ) -> usize
-    requires { ⌜ Asked (now text) (now defs) (now head) (now next) (now names) (now out) low ⌝ }
-    ensures { λ r. ⌜ LookedUp (now (text .entry)) (now (defs .entry)) (now (numbers .entry)) (now (names .entry)) (now (out .exit)) low r ⌝ }
+    requires { ⌜ LookUpReady (now text) (now defs) (now head) (now next) (now names) (now out) low ⌝ }
+    ensures { λ r. ⌜ LookUpDone (now (text .entry)) (now (defs .entry)) (now (numbers .entry)) (now (names .entry)) (now (out .exit)) low r ⌝ }
 {
     let mut lowest = low;
     let mut u = 0;
@@ -174,8 +174,8 @@ fn resolve_by(
     head: &mut [u16],
     next: &mut [u16],
 ) -> Ruling
-    requires { ⌜ Unresolved (now text) (now defs) (now outs) (now firsts) (now seconds) (now o) (now a) (now b) × Empty (now text) (now defs) (now head) (now next) ⌝ }
-    ensures { λ r. ⌜ Resolved (now (text .entry)) (now (defs .entry)) (now (numbers .entry)) (now (outs .entry)) (now (firsts .entry)) (now (seconds .entry))
+    requires { ⌜ ResolveReady (now text) (now defs) (now outs) (now firsts) (now seconds) (now o) (now a) (now b) × EnterReady (now text) (now defs) (now head) (now next) ⌝ }
+    ensures { λ r. ⌜ ResolveDone (now (text .entry)) (now (defs .entry)) (now (numbers .entry)) (now (outs .entry)) (now (firsts .entry)) (now (seconds .entry))
         (now (o .exit)) (now (a .exit)) (now (b .exit)) r ⌝ }
 {
     let twice = enter(text, defs, head, next);
@@ -197,8 +197,8 @@ pub fn resolve(
     a: &mut [u16],
     b: &mut [u16],
 ) -> Ruling
-    requires { ⌜ Unresolved (now text) (now defs) (now outs) (now firsts) (now seconds) (now o) (now a) (now b) ⌝ }
-    ensures { λ r. ⌜ Resolved (now (text .entry)) (now (defs .entry)) (now (numbers .entry)) (now (outs .entry)) (now (firsts .entry)) (now (seconds .entry))
+    requires { ⌜ ResolveReady (now text) (now defs) (now outs) (now firsts) (now seconds) (now o) (now a) (now b) ⌝ }
+    ensures { λ r. ⌜ ResolveDone (now (text .entry)) (now (defs .entry)) (now (numbers .entry)) (now (outs .entry)) (now (firsts .entry)) (now (seconds .entry))
         (now (o .exit)) (now (a .exit)) (now (b .exit)) r ⌝ }
 {
     let mut head = [0u16; 8192];

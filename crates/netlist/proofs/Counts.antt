@@ -14,7 +14,7 @@ use Rattle.ground.proofs.Tests.{one-is}
 use Rattle.ground.proofs.Elem.{elem-at}
 use Rattle.ground.proofs.Counting.{count-same, count-none, count-all, count-below, count-suc}
 use Rattle.circuit.specs.Record.{kindAt, isInput, isOutput, inputsBefore, inputsOf, outputsOf}
-use Rattle.records.specs.Net.{Net, gatesOf, sizeOf, placedOf, lineOf, numberOn, recordsOf}
+use Rattle.records.specs.Net.{Net, gatesOf, netSize, placedOf, netLine, numberOn, recordsOf}
 use Rattle.records.proofs.Stands.{input-kind}
 use Rattle.netlist.specs.Solved.{Right}
 use Rattle.netlist.proofs.Numbers.{order-gate, line-inside, number-line}
@@ -53,10 +53,10 @@ module _ (net : Net) where
 
   -- ---- outputs
 
-  pub net-outputs : outputsOf (recordsOf net) ≡ countBelow (sizeOf net) (λ k. elem (net .outputs) (numberOn net k))
+  pub net-outputs : outputsOf (recordsOf net) ≡ countBelow (netSize net) (λ k. elem (net .outputs) (numberOn net k))
   net-outputs =
       rw (net-lines net)
-      (count-same (sizeOf net) (isOutput (recordsOf net)) (λ k. elem (net .outputs) (numberOn net k)) (λ k l. rw (net-out net k l) (one-is _)))
+      (count-same (netSize net) (isOutput (recordsOf net)) (λ k. elem (net .outputs) (numberOn net k)) (λ k l. rw (net-out net k l) (one-is _)))
 
   elem-none : (l : List ℕ) (x : ℕ) → length l ≡ 0 → elem l x ≡ false
   unfolding elem
@@ -67,9 +67,9 @@ module _ (net : Net) where
   some-output r h =
       let x = getD (net .outputs) 0 0 in
       let inside = r .outputs-in 0 h in
-      let is : elem (net .outputs) (numberOn net (lineOf net x)) ≡ true = rw (number-line net r x inside) (elem-at (net .outputs) 0 h) in
+      let is : elem (net .outputs) (numberOn net (netLine net x)) ≡ true = rw (number-line net r x inside) (elem-at (net .outputs) 0 h) in
       rw net-outputs
-      (omega (arith, count-below (λ k. elem (net .outputs) (numberOn net k)) (lineOf net x) (sizeOf net) (line-inside net r x inside) is))
+      (omega (arith, count-below (λ k. elem (net .outputs) (numberOn net k)) (netLine net x) (netSize net) (line-inside net r x inside) is))
 
   pub no-output : length (net .outputs) ≡ 0 → outputsOf (recordsOf net) ≡ 0
-  no-output e = net-outputs ∙ count-none (sizeOf net) (λ k. elem (net .outputs) (numberOn net k)) (λ k l. elem-none (net .outputs) (numberOn net k) e)
+  no-output e = net-outputs ∙ count-none (netSize net) (λ k. elem (net .outputs) (numberOn net k)) (λ k l. elem-none (net .outputs) (numberOn net k) e)

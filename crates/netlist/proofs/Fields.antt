@@ -11,7 +11,7 @@ use Rattle.ground.proofs.Gather.{gather-at}
 use Rattle.answers.specs.Area.{le}
 use Rattle.circuit.specs.Record.{wordAt, linesOf, kindAt, outAt, pinAt}
 use Rattle.circuit.proofs.Lines.{three}
-use Rattle.records.specs.Net.{Net, sizeOf, numberOn, kindOn, sourceOn, recordOn, recordsTo, recordsOf}
+use Rattle.records.specs.Net.{Net, netSize, numberOn, netKind, netSource, recordOn, recordsTo, recordsOf}
 use Rattle.records.proofs.Size.{record-length, records-length}
 use Rattle.netlist.specs.Solved.{Right}
 use Rattle.netlist.proofs.Sources.{source-inside}
@@ -24,18 +24,18 @@ word w l =
 
 module _ (net : Net) where
   -- byte i of the record on line k
-  byte : (k i : ℕ) → k < sizeOf net → i < 8 → getD (recordsOf net) (8 * k + i) 0 ≡ getD (recordOn net k) i 0
+  byte : (k i : ℕ) → k < netSize net → i < 8 → getD (recordsOf net) (8 * k + i) 0 ≡ getD (recordOn net k) i 0
   unfolding recordsTo
-  byte k i l h = rw (mul-comm 8 k) (gather-at (recordOn net) 8 (record-length net) 0 (sizeOf net) k i l h)
+  byte k i l h = rw (mul-comm 8 k) (gather-at (recordOn net) 8 (record-length net) 0 (netSize net) k i l h)
 
-  pub net-long : length (recordsOf net) ≡ 8 * sizeOf net
-  net-long = records-length net (sizeOf net)
+  pub net-long : length (recordsOf net) ≡ 8 * netSize net
+  net-long = records-length net (netSize net)
 
-  pub net-lines : linesOf (recordsOf net) ≡ sizeOf net
-  net-lines = rw net-long (mul-div-right (sizeOf net) (omega arith))
+  pub net-lines : linesOf (recordsOf net) ≡ netSize net
+  net-lines = rw net-long (mul-div-right (netSize net) (omega arith))
 
-  module _ (k : ℕ) (l : k < sizeOf net) where
-    pub net-kind : kindAt (recordsOf net) k ≡ kindOn net k
+  module _ (k : ℕ) (l : k < netSize net) where
+    pub net-kind : kindAt (recordsOf net) k ≡ netKind net k
     unfolding recordOn
     net-kind = rw add-zero at (byte k 0 l (omega arith))
 
@@ -43,18 +43,18 @@ module _ (net : Net) where
     unfolding recordOn
     net-out = byte k 1 l (omega arith)
 
-    module _ (r : Right net) (few : sizeOf net ≤ 65536) where
+    module _ (r : Right net) (few : netSize net ≤ 65536) where
       -- bytes 2 and 3 have the source at pin 1, the next two that at pin 2, and the last that at pin 3
-      words : (s : ℕ) → 1 ≤ s → s ≤ 3 → getD (recordOn net k) (2 * s) 0 + 256 * getD (recordOn net k) (2 * s + 1) 0 ≡ sourceOn net k s
+      words : (s : ℕ) → 1 ≤ s → s ≤ 3 → getD (recordOn net k) (2 * s) 0 + 256 * getD (recordOn net k) (2 * s + 1) 0 ≡ netSource net k s
       unfolding recordOn le
       words =
-          three (λ s. getD (recordOn net k) (2 * s) 0 + 256 * getD (recordOn net k) (2 * s + 1) 0 ≡ sourceOn net k s)
+          three (λ s. getD (recordOn net k) (2 * s) 0 + 256 * getD (recordOn net k) (2 * s + 1) 0 ≡ netSource net k s)
           (source 1 (omega arith)) (source 2 (omega arith)) (source 3 (omega arith))
         where
-          source : (s : ℕ) → 1 ≤ s → sourceOn net k s % 256 + 256 * (sourceOn net k s / 256 % 256) ≡ sourceOn net k s
-          source s h = word (sourceOn net k s) (omega (arith, source-inside net r k s l h))
+          source : (s : ℕ) → 1 ≤ s → netSource net k s % 256 + 256 * (netSource net k s / 256 % 256) ≡ netSource net k s
+          source s h = word (netSource net k s) (omega (arith, source-inside net r k s l h))
 
-      pub net-pin : (s : ℕ) → 1 ≤ s → s ≤ 3 → pinAt (recordsOf net) k s ≡ sourceOn net k s
+      pub net-pin : (s : ℕ) → 1 ≤ s → s ≤ 3 → pinAt (recordsOf net) k s ≡ netSource net k s
       unfolding wordAt
       net-pin s a b =
           let next : (8 * k + 2 * s) + 1 ≡ 8 * k + (2 * s + 1) = omega arith in

@@ -16,7 +16,7 @@ use Rattle.circuit.specs.Record.{outputsOf}
 use Rattle.circuit.specs.Promise.{circuitRules, checkOf}
 use Rattle.circuit.specs.Sizes.{sizeRules}
 use Rattle.circuit.proofs.Sizes.{sizes-say, sizes-decide, same-sizes}
-use Rattle.records.specs.Net.{Net, sizeOf, recordsOf}
+use Rattle.records.specs.Net.{Net, netSize, recordsOf}
 use Rattle.netlist.specs.Solved.{Right}
 use Rattle.netlist.specs.Sizes.{netSizes}
 use Rattle.netlist.proofs.Fields.{net-long, net-lines}
@@ -32,11 +32,11 @@ module _ (net : Net) (r : Right net) where
 
   pub net-refusal : refusal (circuitRules (recordsOf net)) ≡ refusal (netSizes net)
   net-refusal =
-      sizes-decide (recordsOf net) (sizeOf net) (net-long net) (λ few k l. net-layout net r (omega arith) k l)
-      ∙ rw (net-inputs net r) (same-sizes (sizeOf net) (net .inputs) (outputsOf (recordsOf net)) (length (net .outputs)) outputs-ok)
+      sizes-decide (recordsOf net) (netSize net) (net-long net) (λ few k l. net-layout net r (omega arith) k l)
+      ∙ rw (net-inputs net r) (same-sizes (netSize net) (net .inputs) (outputsOf (recordsOf net)) (length (net .outputs)) outputs-ok)
 
   pub net-says : AllSay (netSizes net)
-  net-says = sizes-say (sizeOf net) (net .inputs) (length (net .outputs))
+  net-says = sizes-say (netSize net) (net .inputs) (length (net .outputs))
 
   -- in words: what is refused is the first that applies, and the first that applies is refused
   pub refused-size : (m k : ℕ) → refusal (circuitRules (recordsOf net)) ≡ Ruling.Refused m k → Applies (netSizes net) m k
@@ -46,11 +46,11 @@ module _ (net : Net) (r : Right net) where
   size-refused m k a = net-refusal ∙ refused (netSizes net) net-says m k a
 
   -- the answer of the check
-  pub net-check : checkOf (recordsOf net) ≡ answered Refused (refusal (netSizes net)) (Accepted (sizeOf net) (net .inputs) (outputsOf (recordsOf net)))
+  pub net-check : checkOf (recordsOf net) ≡ answered Refused (refusal (netSizes net)) (Accepted (netSize net) (net .inputs) (outputsOf (recordsOf net)))
   unfolding checkOf
   net-check = rw (net-refusal, net-inputs net r, net-lines net)
 
-  module _ (some : 1 ≤ sizeOf net) (few : sizeOf net ≤ 2048) (inputs : net .inputs ≤ 64) (outputs : 1 ≤ length (net .outputs)) where
+  module _ (some : 1 ≤ netSize net) (few : netSize net ≤ 2048) (inputs : net .inputs ≤ 64) (outputs : 1 ≤ length (net .outputs)) where
     sizes-fine : refusal (netSizes net) ≡ Ruling.Fine
     unfolding sizeRules AllHold
     sizes-fine = fine (netSizes net) net-says ((some, few), (inputs, (outputs, tt)))
@@ -58,5 +58,5 @@ module _ (net : Net) (r : Right net) where
     pub net-fine : refusal (circuitRules (recordsOf net)) ≡ Ruling.Fine
     net-fine = net-refusal ∙ sizes-fine
 
-    pub net-accepted : checkOf (recordsOf net) ≡ Accepted (sizeOf net) (net .inputs) (outputsOf (recordsOf net))
+    pub net-accepted : checkOf (recordsOf net) ≡ Accepted (netSize net) (net .inputs) (outputsOf (recordsOf net))
     net-accepted = rw sizes-fine at net-check

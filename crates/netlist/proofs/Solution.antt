@@ -9,7 +9,7 @@ use Rattle.ground.specs.Lists.{indexIn}
 use Rattle.ground.proofs.Below.{each-below}
 use Rattle.circuit.specs.Record.{kindAt}
 use Rattle.gates.proofs.Laws.{few-pins}
-use Rattle.records.specs.Net.{Net, gatesOf, sizeOf, pinOf, placedOf, lineOf, numberOn, recordsOf}
+use Rattle.records.specs.Net.{Net, gatesOf, netSize, pinOf, placedOf, netLine, numberOn, recordsOf}
 use Rattle.records.proofs.Stands.{input-number}
 use Rattle.netlist.specs.Solved.{Solved, Right}
 use Rattle.netlist.proofs.Numbers.{number-gate, line-input, line-gate, line-cases, order-gate, place, line-inside, number-line}
@@ -18,14 +18,14 @@ use Rattle.netlist.proofs.Fields.{net-kind, net-pin}
 use Rattle.netlist.proofs.Counts.{input-line, inputs-before, gate-line}
 use Rattle.netlist.proofs.Follows.{Own, Follows}
 
-module _ {A : Type 0} {gate : ℕ → (ℕ → A) → A} (own : Own gate) {net : Net} (r : Right net) (few : sizeOf net ≤ 65536)
-    {inputs value : ℕ → A} (follows : Follows gate (recordsOf net) (sizeOf net) inputs value) where
+module _ {A : Type 0} {gate : ℕ → (ℕ → A) → A} (own : Own gate) {net : Net} (r : Right net) (few : netSize net ≤ 65536)
+    {inputs value : ℕ → A} (follows : Follows gate (recordsOf net) (netSize net) inputs value) where
   on-input : (j : ℕ) → j < net .inputs → value j ≡ inputs j
   on-input j l = follows .at-input j (omega arith) (input-line net j l) ∙ ap inputs (inputs-before net j l)
 
   -- the line of gate i in the order, by the lines of its sources
   on-gate : (i : ℕ) → i < gatesOf net
-      → value (net .inputs + i) ≡ gate (getD (net .kinds) (getD (placedOf net) i 0) 0) (λ s. value (lineOf net (pinOf net (getD (placedOf net) i 0) s)))
+      → value (net .inputs + i) ≡ gate (getD (net .kinds) (getD (placedOf net) i 0) 0) (λ s. value (netLine net (pinOf net (getD (placedOf net) i 0) s)))
   on-gate i l =
       let g = getD (placedOf net) i 0 in
       let inside = order-gate net r i l in
@@ -37,9 +37,9 @@ module _ {A : Type 0} {gate : ℕ → (ℕ → A) → A} (own : Own gate) {net :
       (λ s a b. ap value
       (net-pin net k (omega arith) r few s a (omega (arith, few-pins (getD (net .kinds) g 0)))
       ∙ source-has net k s (rw (kind-gate net i) b)
-      ∙ ap (λ (x : ℕ). lineOf net (pinOf net x s)) (number-gate net i))))
+      ∙ ap (λ (x : ℕ). netLine net (pinOf net x s)) (number-gate net i))))
 
-  pub solution : Solved gate net inputs (λ x. value (lineOf net x))
+  pub solution : Solved gate net inputs (λ x. value (netLine net x))
   solution = record {
     given = λ j l. rw (line-input net j) (on-input j l);
     equation = λ g l. let w = place net r g l in rw (line-gate net g l) (rw (w .is) at (on-gate (indexIn (placedOf net) g) (w .below)));
@@ -47,7 +47,7 @@ module _ {A : Type 0} {gate : ℕ → (ℕ → A) → A} (own : Own gate) {net :
 
   module _ {v : ℕ → A} (solved : Solved gate net inputs v) where
     -- line k has the value of the number that stands there, where the lines below it have theirs
-    next : (k : ℕ) → k < sizeOf net → ((j : ℕ) → j < k → v (numberOn net j) ≡ value j) → v (numberOn net k) ≡ value k
+    next : (k : ℕ) → k < netSize net → ((j : ℕ) → j < k → v (numberOn net j) ≡ value j) → v (numberOn net k) ≡ value k
     next =
         line-cases net (λ k. ((j : ℕ) → j < k → v (numberOn net j) ≡ value j) → v (numberOn net k) ≡ value k)
         (λ k l below. rw (input-number net k l) (solved .given k l ∙ sym (on-input k l)))
@@ -57,10 +57,10 @@ module _ {A : Type 0} {gate : ℕ → (ℕ → A) → A} (own : Own gate) {net :
         rw (number-gate net i)
         (solved .equation g inside
         ∙ own (getD (net .kinds) g 0) _ _ (r .some-kind g inside) (r .last-kind g inside)
-        (λ s a b. sym (ap v (number-line net r (pinOf net g s) (pin-inside net r g s inside))) ∙ below (lineOf net (pinOf net g s)) (pin-before net r i s l))
+        (λ s a b. sym (ap v (number-line net r (pinOf net g s) (pin-inside net r g s inside))) ∙ below (netLine net (pinOf net g s)) (pin-before net r i s l))
         ∙ sym (on-gate i l)))
 
-    pub unique : (x : ℕ) → x < sizeOf net → v x ≡ value (lineOf net x)
+    pub unique : (x : ℕ) → x < netSize net → v x ≡ value (netLine net x)
     unique x l =
         sym (ap v (number-line net r x l))
-        ∙ each-below (λ k. v (numberOn net k) ≡ value k) (sizeOf net) next (lineOf net x) (line-inside net r x l)
+        ∙ each-below (λ k. v (numberOn net k) ≡ value k) (netSize net) next (netLine net x) (line-inside net r x l)

@@ -4,7 +4,7 @@ use mathlib.Core.List.{List}
 use lib.ListN.{length}
 use Rattle.answers.specs.Rules.{Rule}
 use Rattle.circuit.specs.Sizes.{sizeRules}
-use Rattle.records.specs.Net.{Net, sizeOf}
+use Rattle.records.specs.Net.{Net, netSize}
 
 abbrev pub netSizes : Net → List Rule
-netSizes net = sizeRules (sizeOf net) (net .inputs) (length (net .outputs))
+netSizes net = sizeRules (netSize net) (net .inputs) (length (net .outputs))

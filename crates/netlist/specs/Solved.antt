@@ -7,7 +7,7 @@ use Rattle.gates.specs.Gate.{lastKind}
 use Rattle.answers.specs.Rules.{refusal}
 use Rattle.answers.specs.declared.Ruling.the-variants.{Fine}
 use Rattle.order.specs.Order.{cycleRules}
-use Rattle.records.specs.Net.{Net, gatesOf, sizeOf, pinOf}
+use Rattle.records.specs.Net.{Net, gatesOf, netSize, pinOf}
 
 -- each input has the value given to it, each gate that of its kind on its sources
 pub record Solved {A : Type 0} (gate : ℕ → (ℕ → A) → A) (net : Net) (inputs : ℕ → A) (value : ℕ → A) : Type 0 where
@@ -20,7 +20,7 @@ pub record Right (net : Net) : Type 0 where
   pub seconds-long : length (net .seconds) ≡ gatesOf net
   pub some-kind : (g : ℕ) → g < gatesOf net → 1 ≤ getD (net .kinds) g 0
   pub last-kind : (g : ℕ) → g < gatesOf net → getD (net .kinds) g 0 ≤ lastKind
-  pub firsts-in : (g : ℕ) → g < gatesOf net → getD (net .firsts) g 0 < sizeOf net
-  pub seconds-in : (g : ℕ) → g < gatesOf net → getD (net .seconds) g 0 < sizeOf net
-  pub outputs-in : (i : ℕ) → i < length (net .outputs) → getD (net .outputs) i 0 < sizeOf net
+  pub firsts-in : (g : ℕ) → g < gatesOf net → getD (net .firsts) g 0 < netSize net
+  pub seconds-in : (g : ℕ) → g < gatesOf net → getD (net .seconds) g 0 < netSize net
+  pub outputs-in : (i : ℕ) → i < length (net .outputs) → getD (net .outputs) i 0 < netSize net
   pub placed : refusal (cycleRules (net .firsts) (net .seconds)) ≡ Fine

@@ -12,7 +12,7 @@ use Rattle.nodes.specs.declared.Verdict.the-variants.{Test, Redundant, G
 use Rattle.nodes.specs.Node.{Node, FirstX}
 use Rattle.nodes.specs.Order.{Look, nodes, upto, trail, found, testIn, testOf, lastOr}
 use Rattle.nodes.specs.Budget.{nodesOf, memoryIn, memoryOf, testBy}
-use Rattle.nodes.specs.Owed.{Left, Sided}
+use Rattle.nodes.specs.Owed.{NodeLeft, SideDone}
 use Rattle.nodes.proofs.Verdicts.{Counted, Says, says, said, within}
 use Rattle.nodes.proofs.Memory.{leaves, leaves-none, leaves-next, leaves-first, leaves-second}
 use Rattle.nodes.proofs.Trail.{Trail, some-node, fail-trail, left-trail, side, sides-trail, first-trail, second-trail}
@@ -22,18 +22,18 @@ memory-next : (look : Look) (after : Node → List ℕ) (b : ℕ) (w : List ℕ)
 unfolding memoryIn
 memory-next look after b w s {l} some e = ap (leaves after b w) e ∙ leaves-next after b w s l some
 
-test-by : (look : Look) (s s′ : Node) (r : Verdict) (t : List ℕ) → Left look s s′ r → testBy r t s′ ≡ testBy r t (testOf look s)
+test-by : (look : Look) (s s′ : Node) (r : Verdict) (t : List ℕ) → NodeLeft look s s′ r → testBy r t s′ ≡ testBy r t (testOf look s)
 test-by look s s′ (Test k) t e = e
 test-by look s s′ (Redundant k) t e = refl
 test-by look s s′ (GivenUp k) t e = refl
 
-module _ {look : Look} {after : Node → List ℕ} {b : ℕ} {s : Node} {w : List ℕ} {r : Verdict} {s′ : Node} {w′ : List ℕ} (f : Sided look after b s w r s′ w′) where
+module _ {look : Look} {after : Node → List ℕ} {b : ℕ} {s : Node} {w : List ℕ} {r : Verdict} {s′ : Node} {w′ : List ℕ} (f : SideDone look after b s w r s′ w′) where
   told : Says look b (nodes look s) r
   told = says look b (nodes look s) (f .verdict)
 
   -- the same from an equal node
-  pub from-node : {s2 : Node} → s ≡ s2 → Sided look after b s2 w r s′ w′
-  from-node e = subst (λ (n : Node). Sided look after b n w r s′ w′) e f
+  pub from-node : {s2 : Node} → s ≡ s2 → SideDone look after b s2 w r s′ w′
+  from-node e = subst (λ (n : Node). SideDone look after b n w r s′ w′) e f
 
   -- where there is a test, it is what is left of the node
   pub left-test : (t : List ℕ) → testBy r t s′ ≡ testBy r t (testOf look s)
@@ -45,7 +45,7 @@ module _ {look : Look} {after : Node → List ℕ} {b : ℕ} {s : Node} {w : Lis
 
 -- ---- the budget is spent
 
-pub spent : {look : Look} {after : Node → List ℕ} {s : Node} {w : List ℕ} → Sided look after 0 s w (GivenUp 0) s w
+pub spent : {look : Look} {after : Node → List ℕ} {s : Node} {w : List ℕ} → SideDone look after 0 s w (GivenUp 0) s w
 unfolding memoryIn
 spent {look} {after} {s} {w} = record {
   verdict = said look 0 (nodes look s) (GivenUp 0) (record { all = refl; more = some-node look s });
@@ -56,7 +56,7 @@ spent {look} {after} {s} {w} = record {
 -- ---- at a node that fails, or is left
 
 module _ {look : Look} {after : Node → List ℕ} {b : ℕ} {s : Node} {w w′ : List ℕ} (some : 0 < b) (m : w′ ≡ after s) where
-  pub failed : look s ≡ 1 → Sided look after b s w (Test 1) s w′
+  pub failed : look s ≡ 1 → SideDone look after b s w (Test 1) s w′
   unfolding lastOr
   failed e =
       let t = fail-trail look s e in
@@ -66,7 +66,7 @@ module _ {look : Look} {after : Node → List ℕ} {b : ℕ} {s : Node} {w w′ 
         node = sym (t .test-is);
       }
 
-  pub passed : (look s ≡ 1 → ⊥) → (look s ≡ 2 → ⊥) → Sided look after b s w (Redundant 1) s w′
+  pub passed : (look s ≡ 1 → ⊥) → (look s ≡ 2 → ⊥) → SideDone look after b s w (Redundant 1) s w′
   unfolding lastOr
   passed n k =
       let t = left-trail look s n k in
@@ -85,7 +85,7 @@ pub record Open (look : Look) (b : ℕ) (s : Node) (at : ℕ) : Type 0 where
   pub first : FirstX s at
 
 module _ {look : Look} {after : Node → List ℕ} {b : ℕ} {s : Node} {w : List ℕ} {at m : ℕ} {s0 : Node} {w0 : List ℕ} (o : Open look b s at) where
-  pub first-test : Sided look after (b - 1) (set s at 0) (after s) (Test m) s0 w0 → Sided look after b s w (Test (1 + m)) s0 w0
+  pub first-test : SideDone look after (b - 1) (set s at 0) (after s) (Test m) s0 w0 → SideDone look after b s w (Test (1 + m)) s0 w0
   unfolding memoryIn
   first-test f =
       let p = told f in
@@ -98,7 +98,7 @@ module _ {look : Look} {after : Node → List ℕ} {b : ℕ} {s : Node} {w : Lis
         node = f .node ∙ sym (t .test-is);
       }
 
-  pub first-spent : Sided look after (b - 1) (set s at 0) (after s) (GivenUp m) s0 w0 → Sided look after b s w (GivenUp b) s0 w0
+  pub first-spent : SideDone look after (b - 1) (set s at 0) (after s) (GivenUp m) s0 w0 → SideDone look after b s w (GivenUp b) s0 w0
   unfolding memoryIn
   first-spent f =
       let p = told f in
@@ -111,7 +111,7 @@ module _ {look : Look} {after : Node → List ℕ} {b : ℕ} {s : Node} {w : Lis
 
 -- the first side has no test, in m nodes: what follows is the second side
 module _ {look : Look} {after : Node → List ℕ} {b : ℕ} {s : Node} {at m : ℕ} {s0 : Node} {w0 : List ℕ}
-    (o : Open look b s at) (f : Sided look after (b - 1) (set s at 0) (after s) (Redundant m) s0 w0) where
+    (o : Open look b s at) (f : SideDone look after (b - 1) (set s at 0) (after s) (Redundant m) s0 w0) where
   both : let side1 = side look s at 1 in Trail look s (s ∷ (upto look (side look s at 0) ++ upto look side1)) (found look side1) (testIn look side1)
   both = second-trail look s at (o .unknown) (o .first) (told f .fails-is)
 
@@ -135,21 +135,21 @@ module _ {look : Look} {after : Node → List ℕ} {b : ℕ} {s : Node} {at m : 
       ∙ rw (← p .count, ← f .memory)
 
   module _ {w : List ℕ} {k : ℕ} {s1 : Node} {w1 : List ℕ} where
-    pub second-test : Sided look after (b - 1 - m) (set s at 1) w0 (Test k) s1 w1 → Sided look after b s w (Test (1 + m + k)) s1 w1
+    pub second-test : SideDone look after (b - 1 - m) (set s at 1) w0 (Test k) s1 w1 → SideDone look after b s w (Test (1 + m + k)) s1 w1
     second-test g = record {
       verdict = said look b (nodes look s) (Test (1 + m + k)) (both-counted (told g));
       memory = g .memory ∙ sym (both-memory w);
       node = g .node ∙ sym (both .test-is);
     }
 
-    pub second-none : {s′ : Node} → s′ ≡ s → Sided look after (b - 1 - m) (set s at 1) w0 (Redundant k) s1 w1 → Sided look after b s w (Redundant (1 + m + k)) s′ w1
+    pub second-none : {s′ : Node} → s′ ≡ s → SideDone look after (b - 1 - m) (set s at 1) w0 (Redundant k) s1 w1 → SideDone look after b s w (Redundant (1 + m + k)) s′ w1
     second-none same g = record {
       verdict = said look b (nodes look s) (Redundant (1 + m + k)) (both-counted (told g));
       memory = g .memory ∙ sym (both-memory w);
       node = same;
     }
 
-    pub second-spent : Sided look after (b - 1 - m) (set s at 1) w0 (GivenUp k) s1 w1 → Sided look after b s w (GivenUp b) s1 w1
+    pub second-spent : SideDone look after (b - 1 - m) (set s at 1) w0 (GivenUp k) s1 w1 → SideDone look after b s w (GivenUp b) s1 w1
     second-spent g = record {
       verdict = said look b (nodes look s) (GivenUp b) (record { all = refl; more = omega (arith, told g .more, fits f, o .more, both-length) });
       memory = g .memory ∙ sym (both-memory w);

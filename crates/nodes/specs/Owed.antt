@@ -10,13 +10,13 @@ use Rattle.nodes.specs.Order.{Look, testOf}
 use Rattle.nodes.specs.Budget.{verdictOf, memoryOf}
 
 -- what is left of the node: the test, or the node as it was
-abbrev pub Left : Look → Node → Node → Verdict → Type 0
-Left look s s′ (Test k) = s′ ≡ testOf look s
-Left look s s′ (Redundant k) = s′ ≡ s
-Left look s s′ (GivenUp k) = Unit
+abbrev pub NodeLeft : Look → Node → Node → Verdict → Type 0
+NodeLeft look s s′ (Test k) = s′ ≡ testOf look s
+NodeLeft look s s′ (Redundant k) = s′ ≡ s
+NodeLeft look s s′ (GivenUp k) = Unit
 
 -- the search from s on with the budget b, where the work memory was w: the answer r, and node and work memory afterwards
-pub record Sided (look : Look) (after : Node → List ℕ) (b : ℕ) (s : Node) (w : List ℕ) (r : Verdict) (s′ : Node) (w′ : List ℕ) : Type 0 where
+pub record SideDone (look : Look) (after : Node → List ℕ) (b : ℕ) (s : Node) (w : List ℕ) (r : Verdict) (s′ : Node) (w′ : List ℕ) : Type 0 where
   pub verdict : r ≡ verdictOf look b s
   pub memory : w′ ≡ memoryOf look after b w s
-  pub node : Left look s s′ r
+  pub node : NodeLeft look s s′ r

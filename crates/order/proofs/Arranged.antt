@@ -16,11 +16,11 @@ use Rattle.answers.specs.declared.Ruling.{Ruling}
 use Rattle.answers.specs.declared.Ruling.the-variants.{Fine}
 use Rattle.answers.proofs.Rules.{or-fine}
 use Rattle.order.specs.Order.{orderOf, cycleRules}
-use Rattle.order.specs.Owed.{Result, Arranged}
+use Rattle.order.specs.Owed.{PlaceDone, ArrangeDone}
 use Rattle.order.proofs.Unique.{one-order}
 use Rattle.order.proofs.Says.{full-order}
 
-module _ {a b placed order : List ℕ} {n : ℕ} (res : Result a b placed order n) where
+module _ {a b placed order : List ℕ} {n : ℕ} (res : PlaceDone a b placed order n) where
   the-order : take n order ≡ orderOf a b
   the-order = one-order (res .is)
 
@@ -39,7 +39,7 @@ module _ {a b placed order : List ℕ} {n : ℕ} (res : Result a b placed order 
       sym (take-all n order (omega (arith, length-take-le n order (omega (arith, res .size))))) ∙ the-order
 
   pub arranged : length placed ≡ length a → length order ≡ length a → {r : Ruling}
-      → r ≡ said (each 16 (length placed) (λ g. eqb (getD placed g 0) 1) (λ g. Unit)) → Arranged a b order r
+      → r ≡ said (each 16 (length placed) (λ g. eqb (getD placed g 0) 1) (λ g. Unit)) → ArrangeDone a b order r
   arranged e f {r} q =
       let ruling : r ≡ refusal (cycleRules a b) = q ∙ ruling-is e in
       record { ruling = ruling; order-is = λ fine. whole-order f (sym ruling ∙ fine) }

@@ -16,7 +16,7 @@ use Rattle.ground.specs.Choose.{one}
 use Rattle.ground.specs.Lists.{elem}
 use Rattle.ground.proofs.Lists.{elem-other, elem-last}
 use Rattle.order.specs.Order.{ready, Order, nothing, next}
-use Rattle.order.specs.Owed.{readyBy, Back, Result, Ready}
+use Rattle.order.specs.Owed.{readyBy, Back, PlaceDone, PlaceReady}
 use Rattle.order.proofs.Ready.{ready-new, placed-done, ready-other}
 use Rattle.order.proofs.Gates.{order-room}
 use Rattle.order.proofs.Marks.{Marks, ready-same}
@@ -30,7 +30,7 @@ pub record SoFar (a b placed order : List ℕ) (n c : ℕ) : Type 0 where
   pub marks : Marks (length a) placed (take n order)
   pub below : (h : ℕ) → h < c → ready a b (take n order) h ≡ false
 
-pub start : {a b reader placed order : List ℕ} → Ready a b reader placed order → SoFar a b placed order 0 0
+pub start : {a b reader placed order : List ℕ} → PlaceReady a b reader placed order → SoFar a b placed order 0 0
 unfolding elem
 start {a} {b} {reader} {placed} {order} r = record {
   at-most = omega arith;
@@ -109,7 +109,7 @@ module _ {a b placed order : List ℕ} {n c : ℕ} (s : SoFar a b placed order n
         ap (λ (z : ℕ). z * (length a + 1)) d ∙ suc-mul (length a - (n + 1)) (length a + 1) in
         omega (arith, m)
 
-pub finished : {a b placed order : List ℕ} {n c : ℕ} → SoFar a b placed order n c → length a ≤ c → Result a b placed order n
+pub finished : {a b placed order : List ℕ} {n c : ℕ} → SoFar a b placed order n c → length a ≤ c → PlaceDone a b placed order n
 finished {a} {b} {placed} {order} {n} {c} s h = record {
   size = s .count;
   is = record { steps = s .steps; ended = λ g l. s .below g (omega arith) };

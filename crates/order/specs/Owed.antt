@@ -27,7 +27,7 @@ abbrev pub Back : List ℕ → List ℕ → List ℕ → Type 0
 Back a b reader = (h g : ℕ) → h < length a → (getD a h 0 ≡ g) ⊎ (getD b h 0 ≡ g) → g < length a → getD reader g 0 ≤ h
 
 -- nothing is placed yet
-pub record Ready (a b reader placed order : List ℕ) : Type 0 where
+pub record PlaceReady (a b reader placed order : List ℕ) : Type 0 where
   pub few : length a < 65536
   pub second : length b ≡ length a
   pub readers : length reader ≡ length a
@@ -36,24 +36,24 @@ pub record Ready (a b reader placed order : List ℕ) : Type 0 where
   pub room : length order ≡ length a
 
 -- n gates in order, and a mark at each that is placed
-pub record Result (a b placed order : List ℕ) (n : ℕ) : Type 0 where
+pub record PlaceDone (a b placed order : List ℕ) (n : ℕ) : Type 0 where
   pub size : n ≤ length a
   pub is : Placed a b (take n order)
   pub marks : (g : ℕ) → g < length a → getD placed g 0 ≡ one (elem (take n order) g)
 
 -- the sources of at most 8,192 gates, and room for their order
-pub record Gates (a b order : List ℕ) : Type 0 where
+pub record ArrangeRoom (a b order : List ℕ) : Type 0 where
   pub few : length a ≤ 8192
   pub second : length b ≡ length a
   pub room : length order ≡ length a
 
 -- and memory for the first readers and for the marks, with no mark yet
-pub record Memory (a b reader placed order : List ℕ) : Type 0 where
-  pub gates : Gates a b order
+pub record ArrangeInReady (a b reader placed order : List ℕ) : Type 0 where
+  pub gates : ArrangeRoom a b order
   pub readers : length reader ≡ length a
   pub unmarked : placed ≡ replicate (length a) 0
 
 -- what refusal 16 says, and the order where all gates are placed
-pub record Arranged (a b order : List ℕ) (r : Ruling) : Type 0 where
+pub record ArrangeDone (a b order : List ℕ) (r : Ruling) : Type 0 where
   pub ruling : r ≡ refusal (cycleRules a b)
   pub order-is : r ≡ Fine → order ≡ orderOf a b

@@ -8,7 +8,7 @@ ghost use lib.Dec.{eqb};
 ghost use lib.ListN.{length, getD, set};
 ghost use Rattle.ground.specs.Below.{firstNot};
 ghost use Rattle.answers.specs.Rules.{each, said};
-ghost use Rattle.order.specs.Owed.{thereBy, readyBy, Back, Ready, Result, Gates, Memory, Arranged};
+ghost use Rattle.order.specs.Owed.{thereBy, readyBy, Back, PlaceReady, PlaceDone, ArrangeRoom, ArrangeInReady, ArrangeDone};
 
 // A source is an input, or a gate that is placed.
 fn is_there(placed: &[u8], s: usize) -> bool
@@ -47,8 +47,8 @@ fn back(reader: &[u16], g: usize) -> usize
 
 // Writes the gates in order, marks each that is placed, and returns how many there are.
 fn place(a: &[u16], b: &[u16], reader: &[u16], placed: &mut [u8], order: &mut [u16]) -> usize
-    requires { ⌜ Ready (now a) (now b) (now reader) (now placed) (now order) ⌝ }
-    ensures { λ r. ⌜ Result (now (a .entry)) (now (b .entry)) (now (placed .exit)) (now (order .exit)) r ⌝ }
+    requires { ⌜ PlaceReady (now a) (now b) (now reader) (now placed) (now order) ⌝ }
+    ensures { λ r. ⌜ PlaceDone (now (a .entry)) (now (b .entry)) (now (placed .exit)) (now (order .exit)) r ⌝ }
 {
     let mut n = 0;
     let mut c = 0;
@@ -121,8 +121,8 @@ fn arrange_in(
     placed: &mut [u8],
     order: &mut [u16],
 ) -> Ruling
-    requires { ⌜ Memory (now a) (now b) (now reader) (now placed) (now order) ⌝ }
-    ensures { λ r. ⌜ Arranged (now (a .entry)) (now (b .entry)) (now (order .exit)) r ⌝ }
+    requires { ⌜ ArrangeInReady (now a) (now b) (now reader) (now placed) (now order) ⌝ }
+    ensures { λ r. ⌜ ArrangeDone (now (a .entry)) (now (b .entry)) (now (order .exit)) r ⌝ }
 {
     readers(a, b, reader);
     place(a, b, reader, placed, order);
@@ -131,8 +131,8 @@ fn arrange_in(
 
 // The order of all gates, or the first in the text that can't be placed.
 pub fn arrange(a: &[u16], b: &[u16], order: &mut [u16]) -> Ruling
-    requires { ⌜ Gates (now a) (now b) (now order) ⌝ }
-    ensures { λ r. ⌜ Arranged (now (a .entry)) (now (b .entry)) (now (order .exit)) r ⌝ }
+    requires { ⌜ ArrangeRoom (now a) (now b) (now order) ⌝ }
+    ensures { λ r. ⌜ ArrangeDone (now (a .entry)) (now (b .entry)) (now (order .exit)) r ⌝ }
 {
     // a gate that nobody reads is followed by the next one
     let mut reader = [65535u16; 8192];

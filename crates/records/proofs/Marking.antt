@@ -11,15 +11,15 @@ use lib.Seq.{take-suc, take-all, getD-set-same, getD-set-other}
 use Rattle.ground.specs.Choose.{one}
 use Rattle.ground.specs.Lists.{elem}
 use Rattle.ground.proofs.Lists.{elem-other, elem-last}
-use Rattle.records.specs.Owed.{Unset, Flags}
+use Rattle.records.specs.Owed.{MarkOutputsReady, MarkOutputsDone}
 
 -- the first i outputs are marked
 pub record Marked (outs flag₀ flag : List ℕ) (i : ℕ) : Type 0 where
   pub at-most : i ≤ length outs
   pub long : length flag ≡ length flag₀
-  pub flags : Flags (take i outs) flag
+  pub flags : MarkOutputsDone (take i outs) flag
 
-pub marked-none : {outs flag : List ℕ} → Unset outs flag → Marked outs flag flag 0
+pub marked-none : {outs flag : List ℕ} → MarkOutputsReady outs flag → Marked outs flag flag 0
 unfolding elem
 marked-none u = record { at-most = omega arith; long = refl; flags = λ x l. u .unset x }
 
@@ -36,5 +36,5 @@ module _ {outs flag₀ flag : List ℕ} {i : ℕ} (m : Marked outs flag₀ flag 
       go x k (no q) =
           rw (elem-other (take i outs) (getD outs i 0) x q) (getD-set-other flag (getD outs i 0) x 1 0 (λ p. q (sym p)) ∙ m .flags x k)
 
-  pub marked-all : length outs ≤ i → Flags outs flag
+  pub marked-all : length outs ≤ i → MarkOutputsDone outs flag
   marked-all l x k = m .flags x k ∙ ap (λ (o : List ℕ). one (elem o x)) (take-all i outs l)

@@ -12,7 +12,7 @@ use lib.Seq.{drop-cons, getD-set-same, getD-set-other}
 use borrow.Author.Tests.{eq-eqb, ne-eqb}
 use Rattle.ground.specs.Choose.{choose}
 use Rattle.ground.specs.Lists.{elem, indexIn}
-use Rattle.records.specs.Owed.{Numbered}
+use Rattle.records.specs.Owed.{NumberLinesDone}
 
 -- the gates from position i on have their lines
 pub record From (order : List ℕ) (inputs : ℕ) (line₀ line : List ℕ) (i : ℕ) : Type 0 where
@@ -59,7 +59,7 @@ module _ {order : List ℕ} {inputs : ℕ} {line₀ line : List ℕ} {i : ℕ} (
           ∙ f .lines g (simp (ne-eqb y g q) at e)
           ∙ omega arith)
 
-  pub from-all : i ≤ 0 → Numbered order inputs line
+  pub from-all : i ≤ 0 → NumberLinesDone order inputs line
   from-all z g e =
       let k : i ≡ 0 = omega arith in
       f .lines g (ap (λ (j : ℕ). elem (drop j order) g) k ∙ e)

@@ -9,18 +9,18 @@ use Rattle.ground.specs.Choose.{one}
 use Rattle.ground.specs.Lists.{elem}
 use Rattle.gates.specs.Gate.{pinsOf}
 use Rattle.gates.proofs.Laws.{two-pins}
-use Rattle.records.specs.Net.{Net, gatesOf, placedOf, numberOn, kindOn, sourceOn, recordOn}
+use Rattle.records.specs.Net.{Net, gatesOf, placedOf, numberOn, netKind, netSource, recordOn}
 use Rattle.records.specs.Owed.{recordOf}
 
 module _ (net : Net) (k : ℕ) where
   -- a pin that the kind lacks has no source
-  pub source-lacks : (s : ℕ) → pinsOf (kindOn net k) < s → sourceOn net k s ≡ 0
-  unfolding sourceOn
-  source-lacks s l = rw (lt-leb s (pinsOf (kindOn net k)) l)
+  pub source-lacks : (s : ℕ) → pinsOf (netKind net k) < s → netSource net k s ≡ 0
+  unfolding netSource
+  source-lacks s l = rw (lt-leb s (pinsOf (netKind net k)) l)
 
-  pub record-is : recordOn net k ≡ recordOf (kindOn net k) (one (elem (net .outputs) (numberOn net k))) (sourceOn net k 1) (sourceOn net k 2)
+  pub record-is : recordOn net k ≡ recordOf (netKind net k) (one (elem (net .outputs) (numberOn net k))) (netSource net k 1) (netSource net k 2)
   unfolding recordOn recordOf
-  record-is = rw (source-lacks 3 (omega (arith, two-pins (kindOn net k))))
+  record-is = rw (source-lacks 3 (omega (arith, two-pins (netKind net k))))
 
   -- an input
 
@@ -29,11 +29,11 @@ module _ (net : Net) (k : ℕ) where
     unfolding numberOn
     input-number = rw (lt-ltb k (net .inputs) l)
 
-    pub input-kind : kindOn net k ≡ 0
-    unfolding kindOn
+    pub input-kind : netKind net k ≡ 0
+    unfolding netKind
     input-kind = rw (lt-ltb k (net .inputs) l)
 
-    pub input-source : (s : ℕ) → sourceOn net k (suc s) ≡ 0
+    pub input-source : (s : ℕ) → netSource net k (suc s) ≡ 0
     unfolding pinsOf
     input-source s = source-lacks (suc s) (rw input-kind (omega arith))
 
@@ -44,6 +44,6 @@ module _ (net : Net) (k : ℕ) where
     unfolding numberOn
     gate-number = rw (le-ltb k (net .inputs) l)
 
-    pub gate-kind : kindOn net k ≡ getD (net .kinds) (numberOn net k) 0
-    unfolding kindOn
+    pub gate-kind : netKind net k ≡ getD (net .kinds) (numberOn net k) 0
+    unfolding netKind
     gate-kind = rw (le-ltb k (net .inputs) l)

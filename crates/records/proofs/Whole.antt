@@ -6,25 +6,25 @@ use Prim.Native.Nat.{ℕ, _+_, _*_, _<_}
 use native.Mathlib.Omega.{arith}
 use lib.ListN.{length, getD}
 use Rattle.order.proofs.Says.{order-inside}
-use Rattle.records.specs.Net.{Net, gatesOf, sizeOf, recordsOf}
-use Rattle.records.specs.Owed.{Memory, Room, Numbered, Unset, Flags, recordsBy, HasLines}
+use Rattle.records.specs.Net.{Net, gatesOf, netSize, recordsOf}
+use Rattle.records.specs.Owed.{PutRecordsInReady, NumberLinesReady, NumberLinesDone, MarkOutputsReady, MarkOutputsDone, recordsBy, PutLinesReady}
 use Rattle.records.proofs.Written.{Told, lined, same-records}
 
-module _ {net : Net} {order line₀ flag₀ records : List ℕ} (m : Memory net order line₀ flag₀ records) where
+module _ {net : Net} {order line₀ flag₀ records : List ℕ} (m : PutRecordsInReady net order line₀ flag₀ records) where
   gate-inside : (i : ℕ) → i < length order → getD order i 0 < gatesOf net
   gate-inside i l = rw (m .fits .order-is) (order-inside (net .firsts) (net .seconds) i (rw (m .fits .order-is) at l))
 
-  pub number-room : Room order (net .inputs) line₀
+  pub number-room : NumberLinesReady order (net .inputs) line₀
   number-room = record { few = omega (arith, m .fits .few, m .fits .placed); gates = λ i l. rw (m .lines) (gate-inside i l) }
 
-  pub not-set : Unset (net .outputs) flag₀
+  pub not-set : MarkOutputsReady (net .outputs) flag₀
   not-set = record { unset = m .unset; numbers = λ i l. rw (m .flags) (m .fits .output-numbers i l) }
 
   pub room-is : length records ≡ 8 * (net .inputs + length order)
   room-is = rw (m .fits .placed) (m .fits .room)
 
   module _ {line flag : List ℕ} (e : length line ≡ length line₀) (f : length flag ≡ length flag₀) where
-    pub has-lines : HasLines (lined net order line flag)
+    pub has-lines : PutLinesReady (lined net order line flag)
     has-lines = record {
       few = omega (arith, m .fits .few, m .fits .placed);
       gates = λ i l.
@@ -38,7 +38,7 @@ module _ {net : Net} {order line₀ flag₀ records : List ℕ} (m : Memory net 
       flags = omega (arith, m .flags, m .lines);
     }
 
-    pub told : Numbered order (net .inputs) line → Flags (net .outputs) flag → Told net order line flag
+    pub told : NumberLinesDone order (net .inputs) line → MarkOutputsDone (net .outputs) flag → Told net order line flag
     told n o = record {
       order-is = m .fits .order-is;
       placed = m .fits .placed;
@@ -50,4 +50,4 @@ module _ {net : Net} {order line₀ flag₀ records : List ℕ} (m : Memory net 
 
 pub all-written : {net : Net} {order line flag : List ℕ} → Told net order line flag
     → {w : List ℕ} → w ≡ recordsBy (lined net order line flag) (net .inputs + length order) → w ≡ recordsOf net
-all-written {net} t p = p ∙ rw (t .placed) (same-records t (sizeOf net) (omega arith))
+all-written {net} t p = p ∙ rw (t .placed) (same-records t (netSize net) (omega arith))

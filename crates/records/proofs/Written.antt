@@ -14,8 +14,8 @@ use Rattle.ground.specs.Lists.{elem}
 use Rattle.ground.proofs.Gather.{gather-same}
 use Rattle.ground.proofs.Elem.{elem-front}
 use Rattle.order.proofs.Says.{order-inside, sources-before}
-use Rattle.records.specs.Net.{Net, gatesOf, sizeOf, pinOf, placedOf, lineOf, numberOn, kindOn, sourceOn, recordOn, recordsTo}
-use Rattle.records.specs.Owed.{Numbered, Flags, lineBy, sourceBy, gateRecord, Lined, linedOf, recordBy, recordsBy}
+use Rattle.records.specs.Net.{Net, gatesOf, netSize, pinOf, placedOf, netLine, numberOn, netKind, netSource, recordOn, recordsTo}
+use Rattle.records.specs.Owed.{NumberLinesDone, MarkOutputsDone, lineBy, sourceBy, gateRecord, Lined, linedOf, recordBy, recordsBy}
 use Rattle.records.proofs.Stands.{record-is, input-number, input-kind, input-source, gate-number, gate-kind}
 
 -- the lines and the flags are those of the net
@@ -23,9 +23,9 @@ pub record Told (net : Net) (order line flag : List ℕ) : Type 0 where
   pub order-is : order ≡ placedOf net
   pub placed : length order ≡ gatesOf net
   pub lines : length line ≡ gatesOf net
-  pub flags : length flag ≡ sizeOf net
-  pub numbered : Numbered order (net .inputs) line
-  pub marked : Flags (net .outputs) flag
+  pub flags : length flag ≡ netSize net
+  pub numbered : NumberLinesDone order (net .inputs) line
+  pub marked : MarkOutputsDone (net .outputs) flag
 
 abbrev pub lined : Net → List ℕ → List ℕ → List ℕ → Lined
 lined net order line flag = linedOf (net .inputs) (net .kinds) (net .firsts) (net .seconds) order line flag
@@ -36,11 +36,11 @@ module _ {net : Net} {order line flag : List ℕ} (t : Told net order line flag)
   There x = x < gatesOf net → elem (placedOf net) x ≡ true
 
   -- its line
-  same-line : (x : ℕ) → There x → lineBy line x ≡ lineOf net x
-  unfolding lineBy lineOf
+  same-line : (x : ℕ) → There x → lineBy line x ≡ netLine net x
+  unfolding lineBy netLine
   same-line x e = go (decLt x (gatesOf net))
     where
-      go : Dec (x < gatesOf net) → lineBy line x ≡ lineOf net x
+      go : Dec (x < gatesOf net) → lineBy line x ≡ netLine net x
       go (yes l) =
           rw (t .lines, lt-ltb x (gatesOf net) l)
           (t .numbered x (rw (t .order-is) (e l)) ∙ rw (t .order-is))
@@ -48,8 +48,8 @@ module _ {net : Net} {order line flag : List ℕ} (t : Told net order line flag)
 
   module _ (k : ℕ) where
     same-source : (s : ℕ) → There (pinOf net (numberOn net k) s)
-        → sourceBy line (kindOn net k) s (pinOf net (numberOn net k) s) ≡ sourceOn net k s
-    unfolding sourceBy sourceOn
+        → sourceBy line (netKind net k) s (pinOf net (numberOn net k) s) ≡ netSource net k s
+    unfolding sourceBy netSource
     same-source s e = rw (same-line (pinOf net (numberOn net k) s) e)
 
     same-input : k < net .inputs → recordBy (lined net order line flag) k ≡ recordOn net k
@@ -66,7 +66,7 @@ module _ {net : Net} {order line flag : List ℕ} (t : Told net order line flag)
           input-source net k l 1,
         )
 
-    same-gate : net .inputs ≤ k → k < sizeOf net → recordBy (lined net order line flag) k ≡ recordOn net k
+    same-gate : net .inputs ≤ k → k < netSize net → recordBy (lined net order line flag) k ≡ recordOn net k
     unfolding recordBy gateRecord pinOf
     same-gate l m =
         let i : ℕ = k - net .inputs in
@@ -85,9 +85,9 @@ module _ {net : Net} {order line flag : List ℕ} (t : Told net order line flag)
           record-is net k,
         )
 
-    pub same-record : k < sizeOf net → recordBy (lined net order line flag) k ≡ recordOn net k
+    pub same-record : k < netSize net → recordBy (lined net order line flag) k ≡ recordOn net k
     same-record m = ⊎-elim same-input (λ l. same-gate l m) (either k (net .inputs))
 
-  pub same-records : (k : ℕ) → k ≤ sizeOf net → recordsBy (lined net order line flag) k ≡ recordsTo net k
+  pub same-records : (k : ℕ) → k ≤ netSize net → recordsBy (lined net order line flag) k ≡ recordsTo net k
   unfolding recordsTo
   same-records k l = gather-same (recordBy (lined net order line flag)) (recordOn net) k (λ i m. same-record i (omega arith))

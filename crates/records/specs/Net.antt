@@ -24,8 +24,8 @@ pub record Net : Type 0 where
 abbrev pub gatesOf : Net → ℕ
 gatesOf net = length (net .firsts)
 
-abbrev pub sizeOf : Net → ℕ
-sizeOf net = net .inputs + gatesOf net
+abbrev pub netSize : Net → ℕ
+netSize net = net .inputs + gatesOf net
 
 -- the source at pin s of gate g
 unfoldable pub pinOf : Net → ℕ → ℕ → ℕ
@@ -37,8 +37,8 @@ abbrev pub placedOf : Net → List ℕ
 placedOf net = orderOf (net .firsts) (net .seconds)
 
 -- the line of a number
-unfoldable pub lineOf : Net → ℕ → ℕ
-lineOf net x = choose (ltb x (gatesOf net)) (net .inputs + indexIn (placedOf net) x) (x - gatesOf net)
+unfoldable pub netLine : Net → ℕ → ℕ
+netLine net x = choose (ltb x (gatesOf net)) (net .inputs + indexIn (placedOf net) x) (x - gatesOf net)
 
 -- the number that stands on line k
 unfoldable pub numberOn : Net → ℕ → ℕ
@@ -46,19 +46,19 @@ numberOn net k = choose (ltb k (net .inputs)) (gatesOf net + k) (getD (placedOf 
 
 -- ---- the record of line k: kind, whether it is an output, and the lines of the sources that the kind has
 
-unfoldable pub kindOn : Net → ℕ → ℕ
-kindOn net k = choose (ltb k (net .inputs)) 0 (getD (net .kinds) (numberOn net k) 0)
+unfoldable pub netKind : Net → ℕ → ℕ
+netKind net k = choose (ltb k (net .inputs)) 0 (getD (net .kinds) (numberOn net k) 0)
 
-unfoldable pub sourceOn : Net → ℕ → ℕ → ℕ
-sourceOn net k s = choose (leb s (pinsOf (kindOn net k))) (lineOf net (pinOf net (numberOn net k) s)) 0
+unfoldable pub netSource : Net → ℕ → ℕ → ℕ
+netSource net k s = choose (leb s (pinsOf (netKind net k))) (netLine net (pinOf net (numberOn net k) s)) 0
 
 unfoldable pub recordOn : Net → ℕ → List ℕ
 recordOn net k =
-    kindOn net k ∷ one (elem (net .outputs) (numberOn net k)) ∷ (le 2 (sourceOn net k 1) ++ (le 2 (sourceOn net k 2) ++ le 2 (sourceOn net k 3)))
+    netKind net k ∷ one (elem (net .outputs) (numberOn net k)) ∷ (le 2 (netSource net k 1) ++ (le 2 (netSource net k 2) ++ le 2 (netSource net k 3)))
 
 -- of the first n lines
 unfoldable pub recordsTo : Net → ℕ → List ℕ
 recordsTo net n = gather (recordOn net) n
 
 abbrev pub recordsOf : Net → List ℕ
-recordsOf net = recordsTo net (sizeOf net)
+recordsOf net = recordsTo net (netSize net)

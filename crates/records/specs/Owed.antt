@@ -10,7 +10,7 @@ use Rattle.ground.specs.Choose.{choose, one}
 use Rattle.ground.specs.Lists.{elem, indexIn, gather}
 use Rattle.answers.specs.Area.{le}
 use Rattle.gates.specs.Gate.{pinsOf}
-use Rattle.records.specs.Net.{Net, gatesOf, sizeOf, placedOf}
+use Rattle.records.specs.Net.{Net, gatesOf, netSize, placedOf}
 
 -- a net of lists
 abbrev pub netOf : ℕ → List ℕ → List ℕ → List ℕ → List ℕ → Net
@@ -21,41 +21,41 @@ abbrev pub Below : List ℕ → ℕ → Type 0
 Below l n = (i : ℕ) → i < length l → getD l i 0 < n
 
 -- each number is that of a gate or an input
-abbrev pub Numbers : Net → List ℕ → Type 0
-Numbers net l = Below l (sizeOf net)
+abbrev pub NumbersBelow : Net → List ℕ → Type 0
+NumbersBelow net l = Below l (netSize net)
 
 -- all gates are placed, in this order; no more than 2,048 lines, and room for just their records
-pub record Fits (net : Net) (order records : List ℕ) : Type 0 where
-  pub few : sizeOf net ≤ 2048
-  pub room : length records ≡ 8 * sizeOf net
+pub record PutRecordsReady (net : Net) (order records : List ℕ) : Type 0 where
+  pub few : netSize net ≤ 2048
+  pub room : length records ≡ 8 * netSize net
   pub order-is : order ≡ placedOf net
   pub placed : length order ≡ gatesOf net
   pub kinds : length (net .kinds) ≡ gatesOf net
   pub seconds : length (net .seconds) ≡ gatesOf net
-  pub output-numbers : Numbers net (net .outputs)
+  pub output-numbers : NumbersBelow net (net .outputs)
 
 -- and memory for the line of each gate and a flag for each number, with no flag set
-pub record Memory (net : Net) (order line flag records : List ℕ) : Type 0 where
-  pub fits : Fits net order records
+pub record PutRecordsInReady (net : Net) (order line flag records : List ℕ) : Type 0 where
+  pub fits : PutRecordsReady net order records
   pub lines : length line ≡ gatesOf net
-  pub flags : length flag ≡ sizeOf net
+  pub flags : length flag ≡ netSize net
   pub unset : (x : ℕ) → getD flag x 0 ≡ 0
 
 -- ---- the line of each gate, and a flag for each number
 
-pub record Room (order : List ℕ) (inputs : ℕ) (line : List ℕ) : Type 0 where
+pub record NumberLinesReady (order : List ℕ) (inputs : ℕ) (line : List ℕ) : Type 0 where
   pub few : inputs + length order < 65536
   pub gates : Below order (length line)
 
-abbrev pub Numbered : List ℕ → ℕ → List ℕ → Type 0
-Numbered order inputs line = (g : ℕ) → elem order g ≡ true → getD line g 0 ≡ inputs + indexIn order g
+abbrev pub NumberLinesDone : List ℕ → ℕ → List ℕ → Type 0
+NumberLinesDone order inputs line = (g : ℕ) → elem order g ≡ true → getD line g 0 ≡ inputs + indexIn order g
 
-pub record Unset (outs flag : List ℕ) : Type 0 where
+pub record MarkOutputsReady (outs flag : List ℕ) : Type 0 where
   pub unset : (x : ℕ) → getD flag x 0 ≡ 0
   pub numbers : Below outs (length flag)
 
-abbrev pub Flags : List ℕ → List ℕ → Type 0
-Flags outs flag = (x : ℕ) → x < length flag → getD flag x 0 ≡ one (elem outs x)
+abbrev pub MarkOutputsDone : List ℕ → List ℕ → Type 0
+MarkOutputsDone outs flag = (x : ℕ) → x < length flag → getD flag x 0 ≡ one (elem outs x)
 
 -- ---- the records by these
 
@@ -91,8 +91,8 @@ abbrev pub linedOf : ℕ → List ℕ → List ℕ → List ℕ → List ℕ →
 linedOf inputs kinds firsts seconds order line flag =
     record { inputs = inputs; kinds = kinds; firsts = firsts; seconds = seconds; order = order; line = line; flag = flag }
 
-abbrev pub linesIn : Lined → ℕ
-linesIn l = l .inputs + length (l .order)
+abbrev pub lineCount : Lined → ℕ
+lineCount l = l .inputs + length (l .order)
 
 -- of line k
 unfoldable pub recordBy : Lined → ℕ → List ℕ
@@ -105,20 +105,20 @@ abbrev pub recordsBy : Lined → ℕ → List ℕ
 recordsBy l n = gather (recordBy l) n
 
 -- gate g has what is read of it
-pub record HasGate (kinds firsts seconds flag : List ℕ) (g : ℕ) : Type 0 where
+pub record PutGateReady (kinds firsts seconds flag : List ℕ) (g : ℕ) : Type 0 where
   pub kind : g < length kinds
   pub first : g < length firsts
   pub second : g < length seconds
   pub marked : g < length flag
 
 -- so has each gate of the order, and each input its flag
-pub record HasLines (l : Lined) : Type 0 where
-  pub few : linesIn l ≤ 2048
-  pub gates : (i : ℕ) → i < length (l .order) → HasGate (l .kinds) (l .firsts) (l .seconds) (l .flag) (getD (l .order) i 0)
+pub record PutLinesReady (l : Lined) : Type 0 where
+  pub few : lineCount l ≤ 2048
+  pub gates : (i : ℕ) → i < length (l .order) → PutGateReady (l .kinds) (l .firsts) (l .seconds) (l .flag) (getD (l .order) i 0)
   pub flags : l .inputs + length (l .line) ≤ length (l .flag)
 
 -- line k is one of the lines, and there is room for its record
-pub record LineRoom (l : Lined) (k : ℕ) (records : List ℕ) (at : ℕ) : Type 0 where
-  pub has : HasLines l
-  pub inside : k < linesIn l
+pub record PutLineReady (l : Lined) (k : ℕ) (records : List ℕ) (at : ℕ) : Type 0 where
+  pub has : PutLinesReady l
+  pub inside : k < lineCount l
   pub room : at + 8 ≤ length records

@@ -9,14 +9,14 @@ ghost use lib.ListN.{length};
 ghost use Rattle.ground.specs.Put.{Put};
 ghost use Rattle.answers.specs.Area.{le};
 ghost use Rattle.records.specs.Net.{recordsOf};
-ghost use Rattle.records.specs.Owed.{netOf, Fits, Memory, Room, Numbered, Unset, Flags, lineBy, sourceBy, recordOf, gateRecord, linedOf, recordBy, recordsBy, HasGate, HasLines, LineRoom};
+ghost use Rattle.records.specs.Owed.{netOf, PutRecordsReady, PutRecordsInReady, NumberLinesReady, NumberLinesDone, MarkOutputsReady, MarkOutputsDone, lineBy, sourceBy, recordOf, gateRecord, linedOf, recordBy, recordsBy, PutGateReady, PutLinesReady, PutLineReady};
 
 // ---- the line of each gate, and a flag for each number
 
 // From the last gate down, so that a gate's first place counts.
 fn number_lines(order: &[u16], inputs: usize, line: &mut [u16])
-    requires { ⌜ Room (now order) inputs (now line) ⌝ }
-    ensures { λ _. ⌜ Numbered (now (order .entry)) inputs (now (line .exit)) ⌝ }
+    requires { ⌜ NumberLinesReady (now order) inputs (now line) ⌝ }
+    ensures { λ _. ⌜ NumberLinesDone (now (order .entry)) inputs (now (line .exit)) ⌝ }
 {
     let mut i = order.len();
     while 0 < i {
@@ -28,8 +28,8 @@ fn number_lines(order: &[u16], inputs: usize, line: &mut [u16])
 
 // An output that is written twice is marked once.
 fn mark_outputs(outs: &[u16], flag: &mut [u8])
-    requires { ⌜ Unset (now outs) (now flag) ⌝ }
-    ensures { λ _. ⌜ Flags (now (outs .entry)) (now (flag .exit)) ⌝ }
+    requires { ⌜ MarkOutputsReady (now outs) (now flag) ⌝ }
+    ensures { λ _. ⌜ MarkOutputsDone (now (outs .entry)) (now (flag .exit)) ⌝ }
 {
     let mut i = 0;
     while i < outs.len() {
@@ -102,7 +102,7 @@ fn put_gate(
     records: &mut [u8],
     at: usize,
 ) -> usize
-    requires { ⌜ HasGate (now kinds) (now firsts) (now seconds) (now flag) g ⌝ }
+    requires { ⌜ PutGateReady (now kinds) (now firsts) (now seconds) (now flag) g ⌝ }
     requires { ⌜ at + 8 ≤ length (now records) ⌝ }
     ensures { λ r. ⌜ Put (now (records .entry)) (now (records .exit)) at (gateRecord (now (kinds .entry)) (now (firsts .entry)) (now (seconds .entry)) (now (line .entry)) (now (flag .entry)) g) r ⌝ }
 {
@@ -125,7 +125,7 @@ fn put_line(
     records: &mut [u8],
     at: usize,
 ) -> usize
-    requires { ⌜ LineRoom (linedOf inputs (now kinds) (now firsts) (now seconds) (now order) (now line) (now flag)) k (now records) at ⌝ }
+    requires { ⌜ PutLineReady (linedOf inputs (now kinds) (now firsts) (now seconds) (now order) (now line) (now flag)) k (now records) at ⌝ }
     ensures { λ r. ⌜ Put (now (records .entry)) (now (records .exit)) at
         (recordBy (linedOf inputs (now (kinds .entry)) (now (firsts .entry)) (now (seconds .entry)) (now (order .entry)) (now (line .entry)) (now (flag .entry))) k) r ⌝ }
 {
@@ -149,7 +149,7 @@ fn put_lines(
     flag: &[u8],
     records: &mut [u8],
 )
-    requires { ⌜ HasLines (linedOf inputs (now kinds) (now firsts) (now seconds) (now order) (now line) (now flag)) ⌝ }
+    requires { ⌜ PutLinesReady (linedOf inputs (now kinds) (now firsts) (now seconds) (now order) (now line) (now flag)) ⌝ }
     requires { ⌜ length (now records) ≡ 8 * (inputs + length (now order)) ⌝ }
     ensures { λ _. ⌜ now (records .exit) ≡
         recordsBy (linedOf inputs (now (kinds .entry)) (now (firsts .entry)) (now (seconds .entry)) (now (order .entry)) (now (line .entry)) (now (flag .entry)))
@@ -189,7 +189,7 @@ fn put_records_in(
     flag: &mut [u8],
     records: &mut [u8],
 )
-    requires { ⌜ Memory (netOf inputs (now kinds) (now firsts) (now seconds) (now outs)) (now order) (now line) (now flag) (now records) ⌝ }
+    requires { ⌜ PutRecordsInReady (netOf inputs (now kinds) (now firsts) (now seconds) (now outs)) (now order) (now line) (now flag) (now records) ⌝ }
     ensures { λ _. ⌜ now (records .exit) ≡ recordsOf (netOf inputs (now (kinds .entry)) (now (firsts .entry)) (now (seconds .entry)) (now (outs .entry))) ⌝ }
 {
     number_lines(order, inputs, line);
@@ -207,7 +207,7 @@ pub fn put_records(
     order: &[u16],
     records: &mut [u8],
 )
-    requires { ⌜ Fits (netOf inputs (now kinds) (now firsts) (now seconds) (now outs)) (now order) (now records) ⌝ }
+    requires { ⌜ PutRecordsReady (netOf inputs (now kinds) (now firsts) (now seconds) (now outs)) (now order) (now records) ⌝ }
     ensures { λ _. ⌜ now (records .exit) ≡ recordsOf (netOf inputs (now (kinds .entry)) (now (firsts .entry)) (now (seconds .entry)) (now (outs .entry))) ⌝ }
 {
     let mut line = [0u16; 2048];

@@ -12,7 +12,7 @@ use Rattle.ground.proofs.Gather.{gather-length, gather-at}
 use Rattle.lists.specs.Faults.{faultCount, faultAt}
 use Rattle.lists.specs.Patterns.{patternCount, patternAt}
 use Rattle.entry.specs.Entry.{entryAt}
-use Rattle.rows.specs.Table.{rowOf, tableOf, workOf}
+use Rattle.rows.specs.Table.{rowOf, tableOf, tableWork}
 use Rattle.rows.specs.Words.{Made}
 
 module _ (c : List ℕ) (n m : ℕ) (fs ps : List ℕ) where
@@ -20,8 +20,8 @@ module _ (c : List ℕ) (n m : ℕ) (fs ps : List ℕ) where
   row-long i = table-length (λ j. entryAt (faultAt fs j) c (patternAt m ps i) n) (faultCount fs)
 
   -- the definition meets the words
-  pub made : Made c n m fs ps (tableOf c n m fs ps) (workOf c n m fs ps)
-  unfolding tableOf workOf
+  pub made : Made c n m fs ps (tableOf c n m fs ps) (tableWork c n m fs ps)
+  unfolding tableOf tableWork
   made = record {
     size = gather-length (λ i. rowOf c n fs (patternAt m ps i)) (faultCount fs) row-long (patternCount m ps) ∙ mul-comm (patternCount m ps) (faultCount fs);
     entry = λ i j h g.
@@ -50,8 +50,8 @@ module _ (c : List ℕ) (n m : ℕ) (fs ps : List ℕ) where
           (same (x / f) (x % f) (div-lt-iff-lt-mul pos .1 (omega (arith, p, mul-comm f (patternCount m ps)))) (mod-lt x pos))
 
   -- and what meets the words is the definition
-  pub one-made : {t w : List ℕ} → Made c n m fs ps t w → (t ≡ tableOf c n m fs ps) × (w ≡ workOf c n m fs ps)
-  unfolding tableOf workOf
+  pub one-made : {t w : List ℕ} → Made c n m fs ps t w → (t ≡ tableOf c n m fs ps) × (w ≡ tableWork c n m fs ps)
+  unfolding tableOf tableWork
   one-made {t} {w} d = (
     by-place t (tableOf c n m fs ps) (d .size) (made .size) (λ i j a b. d .entry i j a b ∙ sym (made .entry i j a b)),
     d .work,

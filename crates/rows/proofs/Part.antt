@@ -11,7 +11,7 @@ use Rattle.lists.specs.Patterns.{patternCount, patternAt}
 use Rattle.lists.proofs.Patterns.{part-fits, pattern-fits}
 use Rattle.simulate.specs.Work.{bothOf}
 use Rattle.rows.specs.Table.{lastFault}
-use Rattle.rows.specs.Owed.{RowReady, RowFilled, Ready, Put}
+use Rattle.rows.specs.Owed.{RowReady, RowDone, TableReady, PutRowDone}
 
 -- what is lent of a list: w bytes from a on; and what the whole holds when v has come back
 abbrev lent : ℕ → ℕ → List ℕ → List ℕ
@@ -26,11 +26,11 @@ width-is a w = omega arith
 lent-long : (a w : ℕ) (l : List ℕ) → a + w ≤ length l → length (lent a w l) ≡ w
 lent-long a w l h = simp (length-take, length-drop) (omega arith)
 
-pub row-fits : {c : List ℕ} {n m : ℕ} {fs ps : List ℕ} {x y i : ℕ} → Ready c n m fs ps x y → i < patternCount m ps → i * faultCount fs + faultCount fs ≤ x
+pub row-fits : {c : List ℕ} {n m : ℕ} {fs ps : List ℕ} {x y i : ℕ} → TableReady c n m fs ps x y → i < patternCount m ps → i * faultCount fs + faultCount fs ≤ x
 row-fits {c} {n} {m} {fs} {ps} {x} {y} {i} r h = omega (arith, part-fits i (patternCount m ps) (faultCount fs) h, r .entries)
 
 module _ (c : List ℕ) (n m : ℕ) (fs ps t : List ℕ) (i : ℕ) where
-  pub row-ready : {y : ℕ} → Ready c n m fs ps (length t) y
+  pub row-ready : {y : ℕ} → TableReady c n m fs ps (length t) y
       → i < patternCount m ps
       → RowReady c n (lent (i * m) m ps) fs (length (lent (i * faultCount fs) (faultCount fs) t)) y
   row-ready r h =
@@ -43,7 +43,7 @@ module _ (c : List ℕ) (n m : ℕ) (fs ps t : List ℕ) (i : ℕ) where
         two = r .two;
       })
 
-  pub put : (row w′ : List ℕ) → RowFilled c n (lent (i * m) m ps) fs row w′ → Put c n m fs ps i t (back (i * faultCount fs) (faultCount fs) t row) w′
+  pub put : (row w′ : List ℕ) → RowDone c n (lent (i * m) m ps) fs row w′ → PutRowDone c n m fs ps i t (back (i * faultCount fs) (faultCount fs) t row) w′
   put row w′ f =
       let p : lent (i * m) m ps ≡ patternAt m ps i = ap (λ (z : ℕ). take z (drop (i * m) ps)) (width-is (i * m) m) in
       record {

@@ -14,9 +14,9 @@ use Rattle.lists.specs.declared.Fault.{Fault}
 use Rattle.lists.specs.Faults.{faultCount, faultAt}
 use Rattle.simulate.specs.Simulate.{unforced, stuckAt, lineValue}
 use Rattle.simulate.specs.Work.{goodOf, faultyOf, bothOf}
-use Rattle.entry.specs.Owed.{Looked, LooksFrom}
+use Rattle.entry.specs.Owed.{LookDone, FaultEntryDone}
 use Rattle.rows.specs.Table.{rowTo}
-use Rattle.rows.specs.Owed.{RowFilled}
+use Rattle.rows.specs.Owed.{RowDone}
 
 good-long : (c p x : List ℕ) (n : ℕ) → length (goodOf c p n ++ x) ≡ n + length x
 good-long c p x n = simp (length-append, grow-length (lineValue unforced c p) n)
@@ -51,11 +51,11 @@ module _ {c : List ℕ} {n : ℕ} {p fs : List ℕ} {width : ℕ} {row work : Li
   pub more : {fault : Fault} {work′ : List ℕ} {e : ℕ}
       → j < width
       → fault ≡ faultAt fs j
-      → LooksFrom fault c n work work′ e
+      → FaultEntryDone fault c n work work′ e
       → SoFar c n p fs width (set row j e) work′ (j + 1)
   unfolding grow
   more {fault} {work′} {e} l is looks =
-      let k : Looked (faultAt fs j) c p n work′ e = rw is at (looks p (so .good)) in
+      let k : LookDone (faultAt fs j) c p n work′ e = rw is at (looks p (so .good)) in
       let back : j + 1 - 1 ≡ j = omega arith in
       record {
         at-most = omega arith;
@@ -66,7 +66,7 @@ module _ {c : List ℕ} {n : ℕ} {p fs : List ℕ} {width : ℕ} {row work : Li
         last = λ _. k .work-is ∙ ap (λ (x : ℕ). bothOf (faultAt fs x) c p n) (sym back);
       }
 
-  pub finished : width ≤ j → 1 ≤ width → length fs ≡ 8 * width → RowFilled c n p fs row work
+  pub finished : width ≤ j → 1 ≤ width → length fs ≡ 8 * width → RowDone c n p fs row work
   finished l some size =
       let e : j ≡ width = omega (arith, so .at-most) in
       let f : faultCount fs ≡ width = ap (λ (x : ℕ). x / 8) size ∙ mul-div-right width (omega arith) in

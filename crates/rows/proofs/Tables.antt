@@ -12,8 +12,8 @@ use Rattle.ground.proofs.Grow.{grow-length}
 use Rattle.lists.specs.Faults.{faultCount}
 use Rattle.lists.specs.Patterns.{patternCount, patternAt}
 use Rattle.simulate.specs.Work.{bothOf}
-use Rattle.rows.specs.Table.{rowOf, tableTo, tableOf, lastFault, workOf}
-use Rattle.rows.specs.Owed.{Ready, Put, Filled}
+use Rattle.rows.specs.Table.{rowOf, tableTo, tableOf, lastFault, tableWork}
+use Rattle.rows.specs.Owed.{TableReady, PutRowDone, TableDone}
 use Rattle.rows.proofs.Rows.{both-length}
 use Rattle.rows.proofs.Part.{row-fits}
 
@@ -25,7 +25,7 @@ pub record SoFar (c : List ℕ) (n m : ℕ) (fs ps t w : List ℕ) (i : ℕ) : T
   pub done : take (i * faultCount fs) t ≡ tableTo c n m fs ps i
   pub last : 1 ≤ i → w ≡ bothOf (lastFault fs) c (patternAt m ps (i - 1)) n
 
-pub start : {c : List ℕ} {n m : ℕ} {fs ps : List ℕ} (t w : List ℕ) → Ready c n m fs ps (length t) (length w) → SoFar c n m fs ps t w 0
+pub start : {c : List ℕ} {n m : ℕ} {fs ps : List ℕ} (t w : List ℕ) → TableReady c n m fs ps (length t) (length w) → SoFar c n m fs ps t w 0
 start {c} {n} {m} {fs} {ps} t w r = record {
   at-most = omega arith;
   long = r .entries;
@@ -35,7 +35,7 @@ start {c} {n} {m} {fs} {ps} t w r = record {
 }
 
 module _ {c : List ℕ} {n m : ℕ} {fs ps t w : List ℕ} {i : ℕ} (so : SoFar c n m fs ps t w i) where
-  pub still : {x y : ℕ} → Ready c n m fs ps x y → Ready c n m fs ps (length t) (length w)
+  pub still : {x y : ℕ} → TableReady c n m fs ps x y → TableReady c n m fs ps (length t) (length w)
   still r = record {
     well = r .well;
     some-inputs = r .some-inputs;
@@ -47,7 +47,7 @@ module _ {c : List ℕ} {n m : ℕ} {fs ps t w : List ℕ} {i : ℕ} (so : SoFar
     two = so .room;
   }
 
-  pub more : {t′ w′ : List ℕ} → Ready c n m fs ps (length t) (length w) → i < patternCount m ps → Put c n m fs ps i t t′ w′ → SoFar c n m fs ps t′ w′ (i + 1)
+  pub more : {t′ w′ : List ℕ} → TableReady c n m fs ps (length t) (length w) → i < patternCount m ps → PutRowDone c n m fs ps i t t′ w′ → SoFar c n m fs ps t′ w′ (i + 1)
   more {t′} {w′} r l p =
       let k = faultCount fs in
       let row = rowOf c n fs (patternAt m ps i) in
@@ -65,8 +65,8 @@ module _ {c : List ℕ} {n m : ℕ} {fs ps t w : List ℕ} {i : ℕ} (so : SoFar
         last = λ _. p .work-is ∙ ap (λ (x : ℕ). bothOf (lastFault fs) c (patternAt m ps x) n) (sym back);
       }
 
-  pub finished : patternCount m ps ≤ i → 1 ≤ patternCount m ps → Filled c n m fs ps t w
-  unfolding tableOf workOf
+  pub finished : patternCount m ps ≤ i → 1 ≤ patternCount m ps → TableDone c n m fs ps t w
+  unfolding tableOf tableWork
   finished l some =
       let e : i ≡ patternCount m ps = omega (arith, so .at-most) in
       record {

@@ -9,7 +9,7 @@ use Rattle.circuit.specs.Formed.{WellFormed}
 use Rattle.lists.specs.Faults.{faultCount, faultLine}
 use Rattle.lists.specs.Patterns.{patternCount, patternAt}
 use Rattle.simulate.specs.Work.{bothOf}
-use Rattle.rows.specs.Table.{rowOf, tableOf, lastFault, workOf}
+use Rattle.rows.specs.Table.{rowOf, tableOf, lastFault, tableWork}
 
 -- ---- the row of one pattern
 
@@ -20,13 +20,13 @@ pub record RowReady (c : List ℕ) (n : ℕ) (p fs : List ℕ) (row work : ℕ) 
   pub some : 1 ≤ row
   pub two : work ≡ n + n
 
-pub record RowFilled (c : List ℕ) (n : ℕ) (p fs row work : List ℕ) : Type 0 where
+pub record RowDone (c : List ℕ) (n : ℕ) (p fs row work : List ℕ) : Type 0 where
   pub row-is : row ≡ rowOf c n fs p
   pub work-is : work ≡ bothOf (lastFault fs) c p n
 
 -- ---- the table
 
-pub record Ready (c : List ℕ) (n m : ℕ) (fs ps : List ℕ) (table work : ℕ) : Type 0 where
+pub record TableReady (c : List ℕ) (n m : ℕ) (fs ps : List ℕ) (table work : ℕ) : Type 0 where
   pub well : WellFormed c m n
   pub some-inputs : 1 ≤ m
   pub most-inputs : m ≤ 64
@@ -37,10 +37,10 @@ pub record Ready (c : List ℕ) (n m : ℕ) (fs ps : List ℕ) (table work : ℕ
   pub two : work ≡ n + n
 
 -- row i is put into the table
-pub record Put (c : List ℕ) (n m : ℕ) (fs ps : List ℕ) (i : ℕ) (t t′ w′ : List ℕ) : Type 0 where
+pub record PutRowDone (c : List ℕ) (n m : ℕ) (fs ps : List ℕ) (i : ℕ) (t t′ w′ : List ℕ) : Type 0 where
   pub table-is : t′ ≡ take (i * faultCount fs) t ++ (rowOf c n fs (patternAt m ps i) ++ drop (i * faultCount fs + faultCount fs) t)
   pub work-is : w′ ≡ bothOf (lastFault fs) c (patternAt m ps i) n
 
-pub record Filled (c : List ℕ) (n m : ℕ) (fs ps t w : List ℕ) : Type 0 where
+pub record TableDone (c : List ℕ) (n m : ℕ) (fs ps t w : List ℕ) : Type 0 where
   pub table-is : t ≡ tableOf c n m fs ps
-  pub work-is : w ≡ workOf c n m fs ps
+  pub work-is : w ≡ tableWork c n m fs ps

@@ -32,5 +32,5 @@ abbrev pub lastPattern : ℕ → List ℕ → List ℕ
 lastPattern m ps = patternAt m ps (patternCount m ps - 1)
 
 -- good, then faulty values of the last pattern with the last fault
-unfoldable pub workOf : List ℕ → ℕ → ℕ → List ℕ → List ℕ → List ℕ
-workOf c n m fs ps = bothOf (lastFault fs) c (lastPattern m ps) n
+unfoldable pub tableWork : List ℕ → ℕ → ℕ → List ℕ → List ℕ → List ℕ
+tableWork c n m fs ps = bothOf (lastFault fs) c (lastPattern m ps) n

@@ -5,7 +5,7 @@ use simulate::good_values;
 ghost use Prim.Native.Nat.{_<_};
 ghost use lib.ListN.{length};
 ghost use Rattle.lists.specs.Patterns.{patternCount};
-ghost use Rattle.rows.specs.Owed.{RowReady, RowFilled, Ready, Put, Filled};
+ghost use Rattle.rows.specs.Owed.{RowReady, RowDone, TableReady, PutRowDone, TableDone};
 
 // Fills the row of a pattern: the good circuit once, the faulty one for each fault.
 fn fill_row(
@@ -17,7 +17,7 @@ fn fill_row(
     work: &mut [u8],
 )
     requires { ⌜ RowReady (now circuit) n (now pattern) (now faults) (length (now row)) (length (now work)) ⌝ }
-    ensures { λ _. ⌜ RowFilled (now (circuit .entry)) n (now (pattern .entry)) (now (faults .entry)) (now (row .exit)) (now (work .exit)) ⌝ }
+    ensures { λ _. ⌜ RowDone (now (circuit .entry)) n (now (pattern .entry)) (now (faults .entry)) (now (row .exit)) (now (work .exit)) ⌝ }
 {
     good_values(circuit, pattern, work, n);
     let mut j = 0;
@@ -40,8 +40,8 @@ fn put_row(
     table: &mut [u8],
     work: &mut [u8],
 )
-    requires { ⌜ Ready (now circuit) n inputs (now faults) (now patterns) (length (now table)) (length (now work)) × (i < patternCount inputs (now patterns)) ⌝ }
-    ensures { λ _. ⌜ Put (now (circuit .entry)) n inputs (now (faults .entry)) (now (patterns .entry)) i (now (table .entry)) (now (table .exit)) (now (work .exit)) ⌝ }
+    requires { ⌜ TableReady (now circuit) n inputs (now faults) (now patterns) (length (now table)) (length (now work)) × (i < patternCount inputs (now patterns)) ⌝ }
+    ensures { λ _. ⌜ PutRowDone (now (circuit .entry)) n inputs (now (faults .entry)) (now (patterns .entry)) i (now (table .entry)) (now (table .exit)) (now (work .exit)) ⌝ }
 {
     let from = i * inputs;
     let next = from + inputs;
@@ -62,8 +62,8 @@ pub fn fill_table(
     table: &mut [u8],
     work: &mut [u8],
 )
-    requires { ⌜ Ready (now circuit) n inputs (now faults) (now patterns) (length (now table)) (length (now work)) ⌝ }
-    ensures { λ _. ⌜ Filled (now (circuit .entry)) n inputs (now (faults .entry)) (now (patterns .entry)) (now (table .exit)) (now (work .exit)) ⌝ }
+    requires { ⌜ TableReady (now circuit) n inputs (now faults) (now patterns) (length (now table)) (length (now work)) ⌝ }
+    ensures { λ _. ⌜ TableDone (now (circuit .entry)) n inputs (now (faults .entry)) (now (patterns .entry)) (now (table .exit)) (now (work .exit)) ⌝ }
 {
     let count = patterns.len() / inputs;
     let mut i = 0;

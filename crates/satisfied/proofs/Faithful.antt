@@ -14,7 +14,7 @@ use Rattle.lists.specs.declared.Fault.{Fault}
 use Rattle.simulate.specs.Boolean.{Vector, good, faulty, truthAt, Detects}
 use Rattle.cnf.specs.Cnf.{Assignment, Satisfies, wordsOf}
 use Rattle.line_clauses.specs.Clauses.{goodVar, faultyVar, differenceVar, variablesOf, clausesOf}
-use Rattle.satisfied.specs.Satisfied.{Extension, SameTo, Faithful}
+use Rattle.satisfied.specs.Satisfied.{Extension, SameTo, FaithfulWords}
 use Rattle.satisfied.proofs.Places.{placeOf, place-is, at-places}
 use Rattle.satisfied.proofs.Columns.{one-column, same-column, truths-column}
 use Rattle.satisfied.proofs.Parts.{list-variables, list-decodes}
@@ -136,7 +136,7 @@ module _ (c : List ℕ) (f : Fault) {m n : ℕ} (w : WellFormed c m n) where
     (λ h σ s. h (vectorOf c n σ) (detected (vectorOf c n σ) σ (own-inputs σ s))),
   )
 
-pub faithful : (c : List ℕ) (f : Fault) → Good c → Faithful c f (wordsOf (clausesOf c f (linesOf c))) (length (clausesOf c f (linesOf c))) (variablesOf c (linesOf c))
+pub faithful : (c : List ℕ) (f : Fault) → Good c → FaithfulWords c f (wordsOf (clausesOf c f (linesOf c))) (length (clausesOf c f (linesOf c))) (variablesOf c (linesOf c))
 faithful c f g = record {
   extended = extended c f (g .well);
   detected = detected c f (g .well);

@@ -20,7 +20,7 @@ use Rattle.clauses.specs.declared.Written.the-variants.{Success}
 use Rattle.line_clauses.specs.Clauses.{variablesOf}
 use Rattle.clauses.specs.Promise.{clausesFor, wordsFor, clauseRules, writtenOf, laidOn, Writes}
 use Rattle.clauses.proofs.Answer.{ruled}
-use Rattle.satisfied.specs.Satisfied.{Faithful}
+use Rattle.satisfied.specs.Satisfied.{FaithfulWords}
 use Rattle.satisfied.proofs.Faithful.{faithful}
 
 module _ {c fs : List ℕ} {w w′ : List ℤ} {a b v : ℕ} (p : Writes c fs w w′ (Success a b v)) where
@@ -40,11 +40,11 @@ module _ {c fs : List ℕ} {w w′ : List ℤ} {a b v : ℕ} (p : Writes c fs w 
       let n : a ≡ length (wordsFor c (faultAt fs 0)) = cc in
       record { fine = q; words = rw l (take-at (wordsFor c (faultAt fs 0)) (drop (length (wordsFor c (faultAt fs 0))) w) a (sym n)); clauses = cc; variables = cc }
 
-  pub written-faithful : Faithful c (faultAt fs 0) (take a w′) b v
+  pub written-faithful : FaithfulWords c (faultAt fs 0) (take a w′) b v
   written-faithful =
       let s = succeeded in
       rw (s .words, s .clauses, s .variables) (faithful c (faultAt fs 0) (Accepted.good c (both-fine (circuitRules c) _ (s .fine) .0)))
 
 -- words that serve two faults say that the same vectors detect both: so a list that never varies is faithful to no two faults that differ
-pub same-words : {c : List ℕ} {f g : Fault} {words : List ℤ} {l m u v : ℕ} → Faithful c f words l u → Faithful c g words m v → (x : Vector) → Detects c f (linesOf c) x → Detects c g (linesOf c) x
+pub same-words : {c : List ℕ} {f g : Fault} {words : List ℤ} {l m u v : ℕ} → FaithfulWords c f words l u → FaithfulWords c g words m v → (x : Vector) → Detects c f (linesOf c) x → Detects c g (linesOf c) x
 same-words p q x d = let e = p .extended x d in q .detected x (e .0) (e .1)

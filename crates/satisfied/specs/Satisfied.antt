@@ -31,7 +31,7 @@ abbrev pub Undetectable : List ℕ → Fault → Type 0
 Undetectable c f = (x : Vector) → Detects c f (linesOf c) x → ⊥
 
 -- the words, in so many clauses over so many variables, are faithful to a circuit and a fault
-pub record Faithful (c : List ℕ) (f : Fault) (words : List ℤ) (clauses variables : ℕ) : Type 0 where
+pub record FaithfulWords (c : List ℕ) (f : Fault) (words : List ℤ) (clauses variables : ℕ) : Type 0 where
   -- a vector that detects the fault extends to an assignment that satisfies every clause,
   pub extended : (x : Vector) → Detects c f (linesOf c) x → (σ : Assignment) × Extension c (linesOf c) x words σ
   -- no other vector does,

@@ -26,14 +26,14 @@ use Rattle.nodes.specs.Budget.{testBy}
 use Rattle.nodes.proofs.Node.{start-is}
 use Rattle.search.specs.declared.Searched.{Searched}
 use Rattle.search.specs.declared.Searched.the-variants as searched
-use Rattle.sides.specs.Look.{lookOf, workOf}
+use Rattle.sides.specs.Look.{lookOf, lookWork}
 use Rattle.sides.proofs.Look.{prepared}
-use Rattle.search.specs.Promise.{restRules, searchRules, verdictFor, testFor, workFor, numbersOf, Searches}
-use Rattle.search.specs.Owed.{Runs, Ran, Answers}
+use Rattle.search.specs.Promise.{searchRestRules, searchRules, verdictFor, testFor, workFor, searchedNumbers, Searches}
+use Rattle.search.specs.Owed.{RunReady, RunDone, SearchDone}
 
 -- ---- the rules in words
 
-rest-says : (c f : List ℕ) (inputs lines test work : ℕ) → AllSay (restRules c f inputs lines test work)
+rest-says : (c f : List ℕ) (inputs lines test work : ℕ) → AllSay (searchRestRules c f inputs lines test work)
 rest-says c f inputs lines test work = both-say (faultRules 1 c f) _ (faults-say 1 c f) (lent-says inputs test (2 * lines) work)
 
 pub search-says : (c f : List ℕ) (test work : ℕ) → AllSay (searchRules c f test work)
@@ -41,13 +41,13 @@ search-says c f test work = both-say (circuitRules c) _ (circuit-says c) (rest-s
 
 -- ---- what is not refused can be searched
 
-module _ (c f : List ℕ) (n inputs test work : ℕ) (fine : refusal (restRules c f inputs n test work) ≡ Ruling.Fine) where
+module _ (c f : List ℕ) (n inputs test work : ℕ) (fine : refusal (searchRestRules c f inputs n test work) ≡ Ruling.Fine) where
   pub fault-inside : Inside f 0
   fault-inside =
       let g = good-faults 1 c f (both-fine (faultRules 1 c f) _ fine .0) in
       record { inside = omega (arith, g .records .some, g .records .multiple) }
 
-  pub runs : {at : Fault} → at ≡ faultAt f 0 → Known c n inputs → (inputs ≤ 64) × Runs c at n (start inputs) test work
+  pub runs : {at : Fault} → at ≡ faultAt f 0 → Known c n inputs → (inputs ≤ 64) × RunReady c at n (start inputs) test work
   runs at-is known =
       let lines = known .lines in
       let inputs-is = known .inputs in
@@ -67,15 +67,15 @@ module _ (c f : List ℕ) (n inputs test work : ℕ) (fine : refusal (restRules 
 -- ---- the answer for an accepted circuit
 
 module _ {c f : List ℕ} {inputs n b : ℕ} {t w : List ℕ} where
-  pub rest-refused : {x y : ℕ} → refusal (restRules c f inputs n (length t) (length w)) ≡ Ruling.Refused x y → Answers c f inputs n b t w (searched.Refused x y) t w
+  pub rest-refused : {x y : ℕ} → refusal (searchRestRules c f inputs n (length t) (length w)) ≡ Ruling.Refused x y → SearchDone c f inputs n b t w (searched.Refused x y) t w
   rest-refused e = record { answer = rw e; test = rw e; work = rw e }
 
   pub rest-fine : {at : Fault} {r : Verdict} {t′ w′ : List ℕ}
-      → refusal (restRules c f inputs n (length t) (length w)) ≡ Ruling.Fine
+      → refusal (searchRestRules c f inputs n (length t) (length w)) ≡ Ruling.Fine
       → at ≡ faultAt f 0
       → Known c n inputs
-      → Ran (lookOf at c n) (workOf at c n) (start inputs) b t w r t′ w′
-      → Answers c f inputs n b t w (searched.Verdict r) t′ w′
+      → RunDone (lookOf at c n) (lookWork at c n) (start inputs) b t w r t′ w′
+      → SearchDone c f inputs n b t w (searched.Verdict r) t′ w′
   unfolding verdictFor testFor workFor
   rest-fine {at} e at-is known p = record {
     answer = rw (e, ← known .inputs, ← known .lines, ← at-is) (ap searched.Verdict (p .verdict));
@@ -87,20 +87,20 @@ module _ {c f : List ℕ} {inputs n b : ℕ} {t w : List ℕ} where
 
 module _ {c f : List ℕ} {b : ℕ} {t w : List ℕ} where
   pub circuit-refused : {x y : ℕ} → refusal (circuitRules c) ≡ Ruling.Refused x y → Searches c f b t w (searched.Refused x y) t w
-  unfolding numbersOf
+  unfolding searchedNumbers
   circuit-refused e =
-      let a = after-refused (circuitRules c) (restRules c f (inputsOf c) (linesOf c) (length t) (length w)) e in
+      let a = after-refused (circuitRules c) (searchRestRules c f (inputsOf c) (linesOf c) (length t) (length w)) e in
       record { answer = rw a; numbers = rw a; test = rw a; work = rw a }
 
-  pub circuit-fine : {n m o : ℕ} {r : Searched} {t′ w′ : List ℕ} → Accepts c n m o → Answers c f m n b t w r t′ w′ → Searches c f b t w r t′ w′
-  unfolding numbersOf
+  pub circuit-fine : {n m o : ℕ} {r : Searched} {t′ w′ : List ℕ} → Accepts c n m o → SearchDone c f m n b t w r t′ w′ → Searches c f b t w r t′ w′
+  unfolding searchedNumbers
   circuit-fine {n} {m} {o} {r} {t′} {w′} k p =
-      let q : Answers c f (inputsOf c) (linesOf c) b t w r t′ w′ = rw (k .inputs, k .lines) at p in
-      let a = after-fine (circuitRules c) (restRules c f (inputsOf c) (linesOf c) (length t) (length w)) (k .fine) in
+      let q : SearchDone c f (inputsOf c) (linesOf c) b t w r t′ w′ = rw (k .inputs, k .lines) at p in
+      let a = after-fine (circuitRules c) (searchRestRules c f (inputsOf c) (linesOf c) (length t) (length w)) (k .fine) in
       let answer : r ≡ answered searched.Refused (refusal (searchRules c f (length t) (length w))) (searched.Verdict (verdictFor c (faultAt f 0) b)) = rw a (q .answer) in
       record {
         answer = answer;
-        numbers = ap numbersOf answer ∙ numbers-told numbersOf (λ x y. refl) (refusal (searchRules c f (length t) (length w))) (searched.Verdict (verdictFor c (faultAt f 0) b));
+        numbers = ap searchedNumbers answer ∙ numbers-told searchedNumbers (λ x y. refl) (refusal (searchRules c f (length t) (length w))) (searched.Verdict (verdictFor c (faultAt f 0) b));
         test = rw a (q .test);
         work = rw a (q .work);
       }

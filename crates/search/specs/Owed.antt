@@ -15,22 +15,22 @@ use Rattle.nodes.specs.Order.{Look, testOf}
 use Rattle.nodes.specs.Budget.{verdictOf, testBy, memoryOf}
 use Rattle.search.specs.declared.Searched.{Searched}
 use Rattle.search.specs.declared.Searched.the-variants as searched
-use Rattle.sides.specs.Owed.{Prepared}
-use Rattle.search.specs.Promise.{restRules, verdictFor, testFor, workFor}
+use Rattle.sides.specs.Owed.{SideReady}
+use Rattle.search.specs.Promise.{searchRestRules, verdictFor, testFor, workFor}
 
 -- what a search from s on needs, and leaves
-pub record Runs (c : List ℕ) (fault : Fault) (n : ℕ) (s : Node) (test room : ℕ) : Type 0 where
-  pub ready : Prepared c fault n room
+pub record RunReady (c : List ℕ) (fault : Fault) (n : ℕ) (s : Node) (test room : ℕ) : Type 0 where
+  pub ready : SideReady c fault n room
   pub node : IsNode (inputsBefore c n) s
   pub test-size : test ≡ length s
 
-pub record Ran (look : Look) (after : Node → List ℕ) (s : Node) (b : ℕ) (t w : List ℕ) (r : Verdict) (t′ w′ : List ℕ) : Type 0 where
+pub record RunDone (look : Look) (after : Node → List ℕ) (s : Node) (b : ℕ) (t w : List ℕ) (r : Verdict) (t′ w′ : List ℕ) : Type 0 where
   pub verdict : r ≡ verdictOf look b s
   pub test : t′ ≡ testBy r t (testOf look s)
   pub work : w′ ≡ memoryOf look after b w s
 
 -- the answer for an accepted circuit
-pub record Answers (c f : List ℕ) (inputs n b : ℕ) (t w : List ℕ) (r : Searched) (t′ w′ : List ℕ) : Type 0 where
-  pub answer : r ≡ answered searched.Refused (refusal (restRules c f inputs n (length t) (length w))) (searched.Verdict (verdictFor c (faultAt f 0) b))
-  pub test : t′ ≡ unless (refusal (restRules c f inputs n (length t) (length w))) t (testFor c (faultAt f 0) b t)
-  pub work : w′ ≡ unless (refusal (restRules c f inputs n (length t) (length w))) w (workFor c (faultAt f 0) b w)
+pub record SearchDone (c f : List ℕ) (inputs n b : ℕ) (t w : List ℕ) (r : Searched) (t′ w′ : List ℕ) : Type 0 where
+  pub answer : r ≡ answered searched.Refused (refusal (searchRestRules c f inputs n (length t) (length w))) (searched.Verdict (verdictFor c (faultAt f 0) b))
+  pub test : t′ ≡ unless (refusal (searchRestRules c f inputs n (length t) (length w))) t (testFor c (faultAt f 0) b t)
+  pub work : w′ ≡ unless (refusal (searchRestRules c f inputs n (length t) (length w))) w (workFor c (faultAt f 0) b w)

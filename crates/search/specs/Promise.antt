@@ -19,16 +19,16 @@ use Rattle.nodes.specs.Order.{Look, testOf}
 use Rattle.nodes.specs.Budget.{verdictOf, testBy, memoryOf}
 use Rattle.search.specs.declared.Searched.{Searched}
 use Rattle.search.specs.declared.Searched.the-variants as searched
-use Rattle.sides.specs.Look.{lookOf, workOf}
+use Rattle.sides.specs.Look.{lookOf, lookWork}
 
 -- ---- the refusals
 
 -- exactly one fault record; the test buffer has a byte an input, the work memory two a line
-abbrev pub restRules : List ℕ → List ℕ → ℕ → ℕ → ℕ → ℕ → List Rule
-restRules c f inputs lines test work = faultRules 1 c f ++ lentRules inputs test (2 * lines) work
+abbrev pub searchRestRules : List ℕ → List ℕ → ℕ → ℕ → ℕ → ℕ → List Rule
+searchRestRules c f inputs lines test work = faultRules 1 c f ++ lentRules inputs test (2 * lines) work
 
 abbrev pub searchRules : List ℕ → List ℕ → ℕ → ℕ → List Rule
-searchRules c f test work = circuitRules c ++ restRules c f (inputsOf c) (linesOf c) test work
+searchRules c f test work = circuitRules c ++ searchRestRules c f (inputsOf c) (linesOf c) test work
 
 -- ---- the search of an accepted circuit for a fault, from all X on
 
@@ -44,7 +44,7 @@ testFor c fault b t = testBy (verdictFor c fault b) t (testOf (look c fault) (st
 
 -- the work memory, where w was there
 unfoldable pub workFor : List ℕ → Fault → ℕ → List ℕ → List ℕ
-workFor c fault b w = memoryOf (look c fault) (workOf fault c (linesOf c)) b w (start (inputsOf c))
+workFor c fault b w = memoryOf (look c fault) (lookWork fault c (linesOf c)) b w (start (inputsOf c))
 
 -- ---- the answer
 
@@ -54,13 +54,13 @@ verdictNumbers (verdict.Test k) = success 0 k 0
 verdictNumbers (verdict.Redundant k) = success 1 k 0
 verdictNumbers (verdict.GivenUp k) = success 2 k 0
 
-unfoldable pub numbersOf : Searched → Numbers
-numbersOf (searched.Verdict v) = verdictNumbers v
-numbersOf (searched.Refused number place) = refusedAt number place
+unfoldable pub searchedNumbers : Searched → Numbers
+searchedNumbers (searched.Verdict v) = verdictNumbers v
+searchedNumbers (searched.Refused number place) = refusedAt number place
 
 -- the promise, whatever the bytes, where t and w were lent, and t′ and w′ come back
 pub record Searches (c f : List ℕ) (b : ℕ) (t w : List ℕ) (r : Searched) (t′ w′ : List ℕ) : Type 0 where
   pub answer : r ≡ answered searched.Refused (refusal (searchRules c f (length t) (length w))) (searched.Verdict (verdictFor c (faultAt f 0) b))
-  pub numbers : numbersOf r ≡ told (refusal (searchRules c f (length t) (length w))) (verdictNumbers (verdictFor c (faultAt f 0) b))
+  pub numbers : searchedNumbers r ≡ told (refusal (searchRules c f (length t) (length w))) (verdictNumbers (verdictFor c (faultAt f 0) b))
   pub test : t′ ≡ unless (refusal (searchRules c f (length t) (length w))) t (testFor c (faultAt f 0) b t)
   pub work : w′ ≡ unless (refusal (searchRules c f (length t) (length w))) w (workFor c (faultAt f 0) b w)

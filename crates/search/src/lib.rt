@@ -16,9 +16,9 @@ ghost use Rattle.answers.specs.Rules.{refusal};
 ghost use Rattle.circuit.specs.Formed.{Known};
 ghost use Rattle.nodes.specs.Node.{start};
 ghost use Rattle.nodes.specs.Budget.{testBy};
-ghost use Rattle.sides.specs.Look.{lookOf, workOf};
-ghost use Rattle.search.specs.Promise.{restRules, Searches};
-ghost use Rattle.search.specs.Owed.{Runs, Ran, Answers};
+ghost use Rattle.sides.specs.Look.{lookOf, lookWork};
+ghost use Rattle.search.specs.Promise.{searchRestRules, Searches};
+ghost use Rattle.search.specs.Owed.{RunReady, RunDone, SearchDone};
 
 // What the search answers: a verdict, or the number of a refusal and its place.
 pub enum Searched {
@@ -50,8 +50,8 @@ fn run(
     test: &mut [u8],
     work: &mut [u8],
 ) -> Verdict
-    requires { ⌜ Runs (now circuit) fault n (now node) (length (now test)) (length (now work)) ⌝ }
-    ensures { λ r. ⌜ Ran (lookOf fault (now (circuit .entry)) n) (workOf fault (now (circuit .entry)) n) (now (node .entry)) budget
+    requires { ⌜ RunReady (now circuit) fault n (now node) (length (now test)) (length (now work)) ⌝ }
+    ensures { λ r. ⌜ RunDone (lookOf fault (now (circuit .entry)) n) (lookWork fault (now (circuit .entry)) n) (now (node .entry)) budget
         (now (test .entry)) (now (work .entry)) r (now (test .exit)) (now (work .exit)) ⌝ }
 {
     let found = side(circuit, fault, n, node, work, budget);
@@ -69,8 +69,8 @@ pub fn run_all_x(
     test: &mut [u8],
     work: &mut [u8],
 ) -> Verdict
-    requires { ⌜ (inputs ≤ 64) × Runs (now circuit) fault n (start inputs) (length (now test)) (length (now work)) ⌝ }
-    ensures { λ r. ⌜ Ran (lookOf fault (now (circuit .entry)) n) (workOf fault (now (circuit .entry)) n) (start inputs) budget
+    requires { ⌜ (inputs ≤ 64) × RunReady (now circuit) fault n (start inputs) (length (now test)) (length (now work)) ⌝ }
+    ensures { λ r. ⌜ RunDone (lookOf fault (now (circuit .entry)) n) (lookWork fault (now (circuit .entry)) n) (start inputs) budget
         (now (test .entry)) (now (work .entry)) r (now (test .exit)) (now (work .exit)) ⌝ }
 {
     let mut node = [2u8; 64];
@@ -87,7 +87,7 @@ pub fn check_rest(
     work: usize,
 ) -> Ruling
     requires { ⌜ n ≤ 2048 ⌝ }
-    ensures { λ r. ⌜ r ≡ refusal (restRules (now (circuit .entry)) (now (fault .entry)) inputs n test work) ⌝ }
+    ensures { λ r. ⌜ r ≡ refusal (searchRestRules (now (circuit .entry)) (now (fault .entry)) inputs n test work) ⌝ }
 {
     let v = check_faults(circuit, fault, 1);
     match v {
@@ -107,7 +107,7 @@ fn accepted(
     work: &mut [u8],
 ) -> Searched
     requires { ⌜ Known (now circuit) n inputs ⌝ }
-    ensures { λ r. ⌜ Answers (now (circuit .entry)) (now (fault .entry)) inputs n budget (now (test .entry)) (now (work .entry)) r (now (test .exit)) (now (work .exit)) ⌝ }
+    ensures { λ r. ⌜ SearchDone (now (circuit .entry)) (now (fault .entry)) inputs n budget (now (test .entry)) (now (work .entry)) r (now (test .exit)) (now (work .exit)) ⌝ }
 {
     let v = check_rest(circuit, fault, inputs, n, test.len(), work.len());
     match v {

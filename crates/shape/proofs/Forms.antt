@@ -12,23 +12,23 @@ use borrow.Author.Tests.{ne-eqb, eqb-true, leb-true}
 use Rattle.ground.specs.Choose.{choose}
 use Rattle.ground.proofs.Tests.{either}
 use Rattle.gates.specs.Gate.{pinsOf}
-use Rattle.words.specs.Words.{same, wordsOf, endsOf}
+use Rattle.words.specs.Words.{same, wordsIn, endsIn}
 use Rattle.words.proofs.Same.{same-refl}
 use Rattle.syntax.specs.Kinds.{inputWord, outputWord, portWords, kindOf, Among}
 use Rattle.syntax.proofs.KindTable.{Named, kind-named}
 use Rattle.syntax.specs.Syntax.{Formed}
 use Rattle.statements.specs.Lines.{sizeAt, formOf, formsOf}
 use Rattle.statements.proofs.Forms.{forms-length, forms-get}
-use Rattle.statements.specs.Tables.{isOutput, isGate}
+use Rattle.statements.specs.Tables.{saysOutput, saysGate}
 use Rattle.shape.specs.Shape.{wordOn, GateLine}
 use Rattle.shape.proofs.Statements.{line-told}
 
 -- what line k is, by its form
 pub data Says (t : List ℕ) (k : ℕ) : ℕ → Type 0 where
-  nothing : sizeAt (endsOf t) k ≡ 0 → Says t k 0
-  input : sizeAt (endsOf t) k ≡ 2 → wordOn t k 0 ≡ inputWord → Says t k 1
-  output : sizeAt (endsOf t) k ≡ 2 → wordOn t k 0 ≡ outputWord → Says t k 2
-  gate : (n : ℕ) → sizeAt (endsOf t) k ≡ 2 + n → Named n (wordOn t k 1) → Says t k (2 + n)
+  nothing : sizeAt (endsIn t) k ≡ 0 → Says t k 0
+  input : sizeAt (endsIn t) k ≡ 2 → wordOn t k 0 ≡ inputWord → Says t k 1
+  output : sizeAt (endsIn t) k ≡ 2 → wordOn t k 0 ≡ outputWord → Says t k 2
+  gate : (n : ℕ) → sizeAt (endsIn t) k ≡ 2 + n → Named n (wordOn t k 1) → Says t k (2 + n)
 
 is-input : (w : List ℕ) → w ≡ inputWord → same w inputWord ≡ true
 is-input w e = ap (λ (v : List ℕ). same v inputWord) e ∙ same-refl inputWord
@@ -45,15 +45,15 @@ one-or-two kind l = rw (ne-eqb kind 0 (λ e. omega arith)) (go (leb kind 2))
     go true = inl refl
     go false = inr refl
 
-module _ (t : List ℕ) (f : Formed t) (k : ℕ) (h : k < length (endsOf t)) where
-  port-says : sizeAt (endsOf t) k ≡ 2 → Among portWords (wordOn t k 0) → Says t k (choose (same (wordOn t k 0) inputWord) 1 2)
+module _ (t : List ℕ) (f : Formed t) (k : ℕ) (h : k < length (endsIn t)) where
+  port-says : sizeAt (endsIn t) k ≡ 2 → Among portWords (wordOn t k 0) → Says t k (choose (same (wordOn t k 0) inputWord) 1 2)
   port-says e a =
       ⊎-elim (λ i. rw (is-input (wordOn t k 0) i) (input e i))
       (λ m. ⊎-elim (λ o. rw (no-input (wordOn t k 0) o) (output e o)) (λ z. absurd z) m)
       a
 
   -- its form where it has as many words as a kind with n sources
-  gate-says : (n : ℕ) → sizeAt (endsOf t) k ≡ 2 + n → Named n (wordOn t k 1) → Says t k (formOf t (wordsOf t) (endsOf t) k)
+  gate-says : (n : ℕ) → sizeAt (endsIn t) k ≡ 2 + n → Named n (wordOn t k 1) → Says t k (formOf t (wordsIn t) (endsIn t) k)
   unfolding formOf
   gate-says n e m =
       ⊎-elim
@@ -61,7 +61,7 @@ module _ (t : List ℕ) (f : Formed t) (k : ℕ) (h : k < length (endsOf t)) whe
       (λ p. let two : n ≡ 2 = sym (m .pins) ∙ p in rw (e, two) (gate 2 (e ∙ ap (λ (i : ℕ). 2 + i) two) (rw two at m)))
       (one-or-two (kindOf (wordOn t k 1)) (m .some))
 
-  pub line-says : Says t k (formOf t (wordsOf t) (endsOf t) k)
+  pub line-says : Says t k (formOf t (wordsIn t) (endsIn t) k)
   unfolding formOf
   line-says =
       ⊎-elim (λ e. rw e (nothing e))
@@ -71,20 +71,20 @@ module _ (t : List ℕ) (f : Formed t) (k : ℕ) (h : k < length (endsOf t)) whe
 -- ---- the forms' table
 
 -- a line with some form is there
-pub form-inside : (t : List ℕ) (k : ℕ) → 1 ≤ getD (formsOf t (wordsOf t) (endsOf t)) k 0 → k < length (endsOf t)
+pub form-inside : (t : List ℕ) (k : ℕ) → 1 ≤ getD (formsOf t (wordsIn t) (endsIn t)) k 0 → k < length (endsIn t)
 form-inside t k e =
     ⊎-elim (λ l. l)
     (λ n.
-    let past = List·getD-eq-default (formsOf t (wordsOf t) (endsOf t)) 0 {n = k} (omega (arith, forms-length t (wordsOf t) (endsOf t))) in
+    let past = List·getD-eq-default (formsOf t (wordsIn t) (endsIn t)) 0 {n = k} (omega (arith, forms-length t (wordsIn t) (endsIn t))) in
     absurd (omega arith))
-    (either k (length (endsOf t)))
+    (either k (length (endsIn t)))
 
-pub form-says : (t : List ℕ) → Formed t → (k : ℕ) → 1 ≤ getD (formsOf t (wordsOf t) (endsOf t)) k 0 → Says t k (getD (formsOf t (wordsOf t) (endsOf t)) k 0)
-form-says t f k e = let h = form-inside t k e in subst (Says t k) (sym (forms-get t (wordsOf t) (endsOf t) k h)) (line-says t f k h)
+pub form-says : (t : List ℕ) → Formed t → (k : ℕ) → 1 ≤ getD (formsOf t (wordsIn t) (endsIn t)) k 0 → Says t k (getD (formsOf t (wordsIn t) (endsIn t)) k 0)
+form-says t f k e = let h = form-inside t k e in subst (Says t k) (sym (forms-get t (wordsIn t) (endsIn t) k h)) (line-says t f k h)
 
 -- ---- the end results
 
-gate-from : {t : List ℕ} {k n : ℕ} → Says t k n → 3 ≤ n → GateLine t k × (n ≡ sizeAt (endsOf t) k)
+gate-from : {t : List ℕ} {k n : ℕ} → Says t k n → 3 ≤ n → GateLine t k × (n ≡ sizeAt (endsIn t) k)
 gate-from (nothing e) l = absurd (omega arith)
 gate-from (input e w) l = absurd (omega arith)
 gate-from (output e w) l = absurd (omega arith)
@@ -101,10 +101,10 @@ output-from (gate n e m) l = let p = one-or-two _ (m .some) in absurd (⊎-elim 
 
 module _ (t : List ℕ) (f : Formed t) (k : ℕ) where
   -- a gate's line has as many sources as its kind has pins, and its form is the number of its words
-  pub gate-sources : isGate (formsOf t (wordsOf t) (endsOf t)) k ≡ true
-      → GateLine t k × (getD (formsOf t (wordsOf t) (endsOf t)) k 0 ≡ sizeAt (endsOf t) k)
-  gate-sources e = let l = leb-true 3 (getD (formsOf t (wordsOf t) (endsOf t)) k 0) e in gate-from (form-says t f k (omega arith)) l
+  pub gate-sources : saysGate (formsOf t (wordsIn t) (endsIn t)) k ≡ true
+      → GateLine t k × (getD (formsOf t (wordsIn t) (endsIn t)) k 0 ≡ sizeAt (endsIn t) k)
+  gate-sources e = let l = leb-true 3 (getD (formsOf t (wordsIn t) (endsIn t)) k 0) e in gate-from (form-says t f k (omega arith)) l
 
   -- an output's first word is OUTPUT
-  pub output-word : isOutput (formsOf t (wordsOf t) (endsOf t)) k ≡ true → wordOn t k 0 ≡ outputWord
-  output-word e = let l = eqb-true (getD (formsOf t (wordsOf t) (endsOf t)) k 0) 2 e in output-from (form-says t f k (omega arith)) l
+  pub output-word : saysOutput (formsOf t (wordsIn t) (endsIn t)) k ≡ true → wordOn t k 0 ≡ outputWord
+  output-word e = let l = eqb-true (getD (formsOf t (wordsIn t) (endsIn t)) k 0) 2 e in output-from (form-says t f k (omega arith)) l

@@ -9,7 +9,7 @@ use lib.ListN.{length, getD, length-map, List·getD-map}
 use lib.Seq.{ext-getD}
 use Rattle.ground.specs.Lists.{table}
 use Rattle.ground.proofs.Grow.{table-length, table-at}
-use Rattle.words.specs.Words.{wordAt, wordsOf, endsOf}
+use Rattle.words.specs.Words.{wordAt, wordsIn, endsIn}
 use Rattle.syntax.specs.Kinds.{portWords, kindWords, Among}
 use Rattle.syntax.specs.Syntax.{Formed}
 use Rattle.statements.specs.Lines.{wordIn, sizeAt}
@@ -27,24 +27,24 @@ row-table {t} {ws} {es} {k} r =
     (λ j h. sym (table-at (wordIn ws es k) (sizeAt es k) 0 j (omega (arith, n)) ∙ r .words j h))
 
 -- they are a statement's, or there are none
-pub line-shape : (t : List ℕ) → Formed t → (k : ℕ) → k < length (endsOf t) → Shape (wordsOn t k)
+pub line-shape : (t : List ℕ) → Formed t → (k : ℕ) → k < length (endsIn t) → Shape (wordsOn t k)
 unfolding wordsOn
 line-shape t f k h =
     let r = row-at (rows-of t f) k h in
     subst (λ (l : List ℕ). Shape (map (wordAt t) l)) (row-table r) (r .shape)
 
 module _ (t : List ℕ) (k : ℕ) where
-  words-long : length (wordsOn t k) ≡ sizeAt (endsOf t) k
+  words-long : length (wordsOn t k) ≡ sizeAt (endsIn t) k
   unfolding wordsOn
   words-long =
-      length-map (table (wordIn (wordsOf t) (endsOf t) k) (sizeAt (endsOf t) k)) (wordAt t)
-      ∙ table-length (wordIn (wordsOf t) (endsOf t) k) (sizeAt (endsOf t) k)
+      length-map (table (wordIn (wordsIn t) (endsIn t) k) (sizeAt (endsIn t) k)) (wordAt t)
+      ∙ table-length (wordIn (wordsIn t) (endsIn t) k) (sizeAt (endsIn t) k)
 
-  words-at : (j : ℕ) → j < sizeAt (endsOf t) k → getD (wordsOn t k) j (wordAt t 0) ≡ wordOn t k j
+  words-at : (j : ℕ) → j < sizeAt (endsIn t) k → getD (wordsOn t k) j (wordAt t 0) ≡ wordOn t k j
   unfolding wordsOn
   words-at j l =
-      List·getD-map (wordAt t) (table (wordIn (wordsOf t) (endsOf t) k) (sizeAt (endsOf t) k)) j 0
-      ∙ ap (wordAt t) (table-at (wordIn (wordsOf t) (endsOf t) k) (sizeAt (endsOf t) k) 0 j l)
+      List·getD-map (wordAt t) (table (wordIn (wordsIn t) (endsIn t) k) (sizeAt (endsIn t) k)) j 0
+      ∙ ap (wordAt t) (table-at (wordIn (wordsIn t) (endsIn t) k) (sizeAt (endsIn t) k) 0 j l)
 
 -- ---- what a line says
 
@@ -58,5 +58,5 @@ told blank e d f = inl (sym e)
 told (port p x a) e d f = inr (inl (sym e, subst (Among portWords) (f 0 (omega arith)) a))
 told (gate x k s a) e d f = inr (inr (length s, omega arith, subst (Among (kindWords (length s))) (f 1 (omega arith)) a))
 
-pub line-told : (t : List ℕ) → Formed t → (k : ℕ) → k < length (endsOf t) → Told (sizeAt (endsOf t) k) (wordOn t k 0) (wordOn t k 1)
+pub line-told : (t : List ℕ) → Formed t → (k : ℕ) → k < length (endsIn t) → Told (sizeAt (endsIn t) k) (wordOn t k 0) (wordOn t k 1)
 line-told t f k h = told (line-shape t f k h) (words-long t k) (wordAt t 0) (words-at t k)

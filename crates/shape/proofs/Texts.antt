@@ -12,7 +12,7 @@ use Rattle.ground.specs.Lists.{collect}
 use Rattle.ground.proofs.Tests.{never-both}
 use Rattle.ground.proofs.Lists.{collect-length}
 use Rattle.ground.proofs.Collect.{collect-yes, collect-no}
-use Rattle.words.specs.Words.{within, wordByte, mode, modeTo, begins, feeds, wordsTo, wordsOf, endsOf}
+use Rattle.words.specs.Words.{within, wordByte, mode, modeTo, begins, feeds, wordsTo, wordsIn, endsIn}
 use Rattle.syntax.specs.Regular as r
 use Rattle.syntax.specs.Regular.{seq, star, has, Many, stop, Has}
 use Rattle.syntax.specs.Grammar.{signs, placeIn, symbol, symbols, sign, line, bench}
@@ -69,8 +69,8 @@ next-line {t} {l} {s} {i} q b =
       rows = rw (w, f) (rows-line q b p.line);
     }
 
-last-line : {t l : List ℕ} {i : ℕ} → RightLine l → Begins t i (l ++ []) → Rows t (wordsOf t) (endsOf t)
-unfolding wordsOf endsOf
+last-line : {t l : List ℕ} {i : ℕ} → RightLine l → Begins t i (l ++ []) → Rows t (wordsIn t) (endsIn t)
+unfolding wordsIn endsIn
 last-line {t} {l} {i} q b =
     let long : length t - i ≡ length l = sym (length-drop i t) ∙ ap length (b .rest) ∙ ap length (append-nil l) in
     let n : i + length l ≡ length t = omega (arith, b .inside) in
@@ -78,7 +78,7 @@ last-line {t} {l} {i} q b =
 
 lines : {t w : List ℕ} → Many (Has (seq (sign 10) line)) w → (rest : List ℕ) → symbols rest ≡ w
     → {l : List ℕ} → RightLine l → {i : ℕ} → Begins t i (l ++ rest)
-    → Rows t (wordsOf t) (endsOf t)
+    → Rows t (wordsIn t) (endsIn t)
 lines stop rest e q b = last-line q (rw (nil rest e) at b)
 lines (r.more u v j h m) rest e q b =
     let s = split u rest v (e ∙ j) in
@@ -91,7 +91,7 @@ start : (t : List ℕ) → Begins t 0 t
 unfolding collect modeTo
 start t = record { inside = omega arith; rest = refl; fresh = refl; rows = none }
 
-pub rows-of : (t : List ℕ) → Formed t → Rows t (wordsOf t) (endsOf t)
+pub rows-of : (t : List ℕ) → Formed t → Rows t (wordsIn t) (endsIn t)
 unfolding Formed bench Has
 rows-of t h =
     let w = two line (star (seq (sign 10) line)) t h in

@@ -7,7 +7,7 @@ use Prim.Native.Nat.{ℕ, _+_, _≤_}
 use lib.ListN.{length}
 use Rattle.ground.specs.Lists.{table}
 use Rattle.gates.specs.Gate.{lastKind, pinsOf}
-use Rattle.words.specs.Words.{wordAt, wordsOf, endsOf}
+use Rattle.words.specs.Words.{wordAt, wordsIn, endsIn}
 use Rattle.syntax.specs.Kinds.{portWords, kindWords, kindOf, Among}
 use Rattle.statements.specs.Lines.{sizeAt, wordIn}
 
@@ -19,14 +19,14 @@ pub data Shape : List (List ℕ) → Type 0 where
 
 -- those of line k of a text
 unfoldable pub wordsOn : List ℕ → ℕ → List (List ℕ)
-wordsOn t k = map (wordAt t) (table (wordIn (wordsOf t) (endsOf t) k) (sizeAt (endsOf t) k))
+wordsOn t k = map (wordAt t) (table (wordIn (wordsIn t) (endsIn t) k) (sizeAt (endsIn t) k))
 
 -- word j of line k
 abbrev pub wordOn : List ℕ → ℕ → ℕ → List ℕ
-wordOn t k j = wordAt t (wordIn (wordsOf t) (endsOf t) k j)
+wordOn t k j = wordAt t (wordIn (wordsIn t) (endsIn t) k j)
 
 -- line k has a name, a kind of gates, and as many sources as the gates' rule has pins for it
 pub record GateLine (t : List ℕ) (k : ℕ) : Type 0 where
   pub some-kind : 1 ≤ kindOf (wordOn t k 1)
   pub last-kind : kindOf (wordOn t k 1) ≤ lastKind
-  pub words : sizeAt (endsOf t) k ≡ 2 + pinsOf (kindOf (wordOn t k 1))
+  pub words : sizeAt (endsIn t) k ≡ 2 + pinsOf (kindOf (wordOn t k 1))

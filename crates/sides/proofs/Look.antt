@@ -26,7 +26,7 @@ use Rattle.nodes.specs.Node.{Node, IsNode, countX}
 use Rattle.nodes.proofs.Node.{all-set}
 use Rattle.simulate.proofs.Settled.{shaped}
 use Rattle.sides.specs.Look.{settled, Settled, lookOf}
-use Rattle.sides.specs.Owed.{Prepared}
+use Rattle.sides.specs.Owed.{SideReady}
 
 -- ---- the search's own word
 
@@ -87,7 +87,7 @@ module _ (fault : Fault) (c : List ℕ) (n : ℕ) (s : Node) where
           ))
 
 -- what a search of an accepted circuit needs
-pub prepared : (fault : Fault) (c : List ℕ) (n room : ℕ) → WellFormed c (inputsBefore c n) n → fault .line < n → fault .value ≤ 1 → room ≡ n + n → Prepared c fault n room
+pub prepared : (fault : Fault) (c : List ℕ) (n room : ℕ) → WellFormed c (inputsBefore c n) n → fault .line < n → fault .value ≤ 1 → room ≡ n + n → SideReady c fault n room
 prepared fault c n room well line small two = record {
   shaped = shaped well;
   line = line;

@@ -27,5 +27,5 @@ unfoldable pub lookOf : Fault → List ℕ → ℕ → Look
 lookOf fault c n s = entryBy settled c (goodOf c s n) (faultyOf fault c s n) n
 
 -- its good, then its faulty values
-unfoldable pub workOf : Fault → List ℕ → ℕ → Node → List ℕ
-workOf fault c n s = bothOf fault c s n
+unfoldable pub lookWork : Fault → List ℕ → ℕ → Node → List ℕ
+lookWork fault c n s = bothOf fault c s n

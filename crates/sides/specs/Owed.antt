@@ -8,15 +8,15 @@ use Rattle.lists.specs.declared.Fault.{Fault}
 use Rattle.simulate.specs.Owed.{Shaped}
 use Rattle.nodes.specs.Node.{Node}
 use Rattle.nodes.specs.Walk.{Looks}
-use Rattle.sides.specs.Look.{lookOf, workOf}
+use Rattle.sides.specs.Look.{lookOf, lookWork}
 
 -- a circuit of n lines, a fault on one of them, of which a node without X always says something, and room for two values a line
-pub record Prepared (c : List ℕ) (fault : Fault) (n room : ℕ) : Type 0 where
+pub record SideReady (c : List ℕ) (fault : Fault) (n room : ℕ) : Type 0 where
   pub shaped : Shaped c (inputsBefore c n) n
   pub line : fault .line < n
   pub looks : Looks (inputsBefore c n) (lookOf fault c n)
   pub two : room ≡ n + n
 
-pub record Visited (fault : Fault) (c : List ℕ) (n : ℕ) (s : Node) (r : ℕ) (w′ : List ℕ) : Type 0 where
+pub record VisitDone (fault : Fault) (c : List ℕ) (n : ℕ) (s : Node) (r : ℕ) (w′ : List ℕ) : Type 0 where
   pub says : r ≡ lookOf fault c n s
-  pub work : w′ ≡ workOf fault c n s
+  pub work : w′ ≡ lookWork fault c n s

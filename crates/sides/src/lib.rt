@@ -6,14 +6,14 @@ use nodes::first_x;
 ghost use lib.ListN.{length};
 ghost use Rattle.circuit.specs.Record.{inputsBefore};
 ghost use Rattle.nodes.specs.Node.{IsNode};
-ghost use Rattle.nodes.specs.Owed.{Sided};
-ghost use Rattle.sides.specs.Look.{lookOf, workOf};
-ghost use Rattle.sides.specs.Owed.{Prepared, Visited};
+ghost use Rattle.nodes.specs.Owed.{SideDone};
+ghost use Rattle.sides.specs.Look.{lookOf, lookWork};
+ghost use Rattle.sides.specs.Owed.{SideReady, VisitDone};
 
 // Looks at a node: the work memory gets its good and faulty values. 1 fail, 0 it is left, 2 neither.
 fn visit(circuit: &[u8], node: &[u8], fault: Fault, work: &mut [u8], n: usize) -> u8
-    requires { ⌜ Prepared (now circuit) fault n (length (now work)) × IsNode (inputsBefore (now circuit) n) (now node) ⌝ }
-    ensures { λ r. ⌜ Visited fault (now (circuit .entry)) n (now (node .entry)) r (now (work .exit)) ⌝ }
+    requires { ⌜ SideReady (now circuit) fault n (length (now work)) × IsNode (inputsBefore (now circuit) n) (now node) ⌝ }
+    ensures { λ r. ⌜ VisitDone fault (now (circuit .entry)) n (now (node .entry)) r (now (work .exit)) ⌝ }
 {
     look(circuit, node, fault, work, n)
 }
@@ -28,8 +28,8 @@ pub fn side(
     work: &mut [u8],
     left: u64,
 ) -> Verdict
-    requires { ⌜ Prepared (now circuit) fault n (length (now work)) × IsNode (inputsBefore (now circuit) n) (now node) ⌝ }
-    ensures { λ r. ⌜ Sided (lookOf fault (now (circuit .entry)) n) (workOf fault (now (circuit .entry)) n) left (now (node .entry)) (now (work .entry)) r (now (node .exit)) (now (work .exit)) ⌝ }
+    requires { ⌜ SideReady (now circuit) fault n (length (now work)) × IsNode (inputsBefore (now circuit) n) (now node) ⌝ }
+    ensures { λ r. ⌜ SideDone (lookOf fault (now (circuit .entry)) n) (lookWork fault (now (circuit .entry)) n) left (now (node .entry)) (now (work .entry)) r (now (node .exit)) (now (work .exit)) ⌝ }
 {
     if left == 0 {
         return Verdict::GivenUp(0);

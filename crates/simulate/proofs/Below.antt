@@ -15,7 +15,7 @@ use Rattle.circuit.specs.Record.{isInput, inputsBefore}
 use Rattle.lists.specs.declared.Fault.{Fault}
 use Rattle.simulate.specs.Simulate.{unforced, stuckAt, gateValue, lineValue}
 use Rattle.simulate.specs.Work.{goodOf, faultyOf}
-use Rattle.simulate.specs.Owed.{Ordered, lineIn, Settled, Leaves, Simulates, MakesFaulty}
+use Rattle.simulate.specs.Owed.{Ordered, lineIn, SimulatedTo, Leaves, SimulateDone, SimulateFaultDone}
 use Rattle.simulate.proofs.Settled.{settled-more}
 
 module _ (fault : Fault) where
@@ -50,7 +50,7 @@ module _ (fault : Fault) where
   good-input c p n j l e = grow-at (lineValue unforced c p) 0 n j l ∙ rw e
 
   -- the good values are settled below the fault's line
-  good-settled : (c p : List ℕ) (n : ℕ) → fault .line < n → Settled (stuckAt fault) c p (goodOf c p n) (fault .line)
+  good-settled : (c p : List ℕ) (n : ℕ) → fault .line < n → SimulatedTo (stuckAt fault) c p (goodOf c p n) (fault .line)
   good-settled c p n l = record {
     done = grow-front (lineValue unforced c p) (fault .line) n (omega arith) ∙ sym (values-below c p (fault .line) (omega arith));
     inputs = λ j a b e. good-input c p n j (omega (arith, grow-length (lineValue unforced c p) n)) e;
@@ -62,9 +62,9 @@ module _ (fault : Fault) where
       → fault .line < length vs
       → v ≡ lineIn (stuckAt fault) c vs (fault .line)
       → length (set vs (fault .line) v) ≡ length vs
-      → Simulates c (set vs (fault .line) v) (fault .line + 1) vs′
-      → MakesFaulty fault c vs vs′
+      → SimulateDone c (set vs (fault .line) v) (fault .line + 1) vs′
+      → SimulateFaultDone fault c vs vs′
   makes-faulty {c} {vs} {vs′} {v} o l e long sim p q =
-      let at-line : Settled (stuckAt fault) c p vs (fault .line) = rw q (good-settled c p (length vs) l) in
-      let after : Settled (stuckAt fault) c p (set vs (fault .line) v) (fault .line + 1) = rw e (settled-more (o .lower (fault .line) l) l at-line) in
+      let at-line : SimulatedTo (stuckAt fault) c p vs (fault .line) = rw q (good-settled c p (length vs) l) in
+      let after : SimulatedTo (stuckAt fault) c p (set vs (fault .line) v) (fault .line + 1) = rw e (settled-more (o .lower (fault .line) l) l at-line) in
       sim (stuckAt fault) p stuck-leaves after ∙ ap (faultyOf fault c p) long

@@ -9,7 +9,7 @@ use lib.ListN.{length, getD, take, drop, set, length-set, length-take, length-dr
 use lib.Seq.{take-suc, take-suc-set, take-set-le, drop-set-add, getD-take, take-at, drop-at, take-all, length-take-le}
 use Rattle.lists.specs.declared.Fault.{Fault}
 use Rattle.simulate.specs.Work.{goodOf, faultyOf}
-use Rattle.simulate.specs.Owed.{MakesFaulty, AddsFaulty}
+use Rattle.simulate.specs.Owed.{SimulateFaultDone, FaultyValuesDone}
 
 -- ---- the loop that copies
 
@@ -72,7 +72,7 @@ module _ (fault : Fault) (c : List ℕ) (n : ℕ) (w w′ u : List ℕ) (two : l
   filled-is =
       rw (drop-of-length-le (drop n w′) {i = length w′ - n} (simp length-drop (omega arith)), append-nil, copied, take-at (take n w) (take n w) n half-long)
 
-  pub adds-faulty : MakesFaulty fault c (lent n w′) u → AddsFaulty fault c n w (filled n w′ u)
+  pub adds-faulty : SimulateFaultDone fault c (lent n w′) u → FaultyValuesDone fault c n w (filled n w′ u)
   adds-faulty makes p good =
       let long : length (lent n w′) ≡ n = lent-long n w′ copied-long in
       let u-is : u ≡ faultyOf fault c p n = makes p (lent-is ∙ good ∙ ap (goodOf c p) (sym long)) ∙ ap (faultyOf fault c p) long in

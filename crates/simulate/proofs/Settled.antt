@@ -20,7 +20,7 @@ use Rattle.circuit.specs.Record.{kindAt, pinAt, isInput, inputsBefore}
 use Rattle.circuit.specs.Formed.{Lower, WellFormed}
 use Rattle.simulate.specs.Simulate.{Forcing, unforced, gateValue, lineValue, valuesTo}
 use Rattle.simulate.specs.Work.{goodOf}
-use Rattle.simulate.specs.Owed.{Ordered, Shaped, lineIn, InputsFrom, Settled, Leaves, Simulates}
+use Rattle.simulate.specs.Owed.{Ordered, Shaped, lineIn, InputsFrom, SimulatedTo, Leaves, SimulateDone}
 
 pub ordered : {c : List ℕ} {m n : ℕ} → WellFormed c m n → Ordered c n
 ordered w = record {
@@ -45,7 +45,7 @@ gate-take f c vs k low =
 line-settled : {f : Forcing} {c p vs : List ℕ} {k : ℕ}
     → ((kindAt c k ≡ 0 → ⊥) → kindAt c k ≤ lastKind → Lower c k)
     → k < length vs
-    → Settled f c p vs k
+    → SimulatedTo f c p vs k
     → lineIn f c vs k ≡ lineValue f c p (valuesTo f c p k) k
 unfolding lineIn lineValue
 line-settled {f} {c} {p} {vs} {k} low l s = go (isInput c k) refl
@@ -60,8 +60,8 @@ line-settled {f} {c} {p} {vs} {k} low l s = go (isInput c k) refl
 pub settled-more : {f : Forcing} {c p vs : List ℕ} {k : ℕ}
     → ((kindAt c k ≡ 0 → ⊥) → kindAt c k ≤ lastKind → Lower c k)
     → k < length vs
-    → Settled f c p vs k
-    → Settled f c p (set vs k (lineIn f c vs k)) (k + 1)
+    → SimulatedTo f c p vs k
+    → SimulatedTo f c p (set vs k (lineIn f c vs k)) (k + 1)
 unfolding grow
 settled-more {f} {c} {p} {vs} {k} low l s = record {
   done = rw (add-one, take-suc-set vs k (lineIn f c vs k) l, s .done, line-settled low l s);
@@ -84,7 +84,7 @@ pub record SoFar (c vs₀ : List ℕ) (start : ℕ) (vs : List ℕ) (k : ℕ) : 
   pub above : start ≤ k
   pub at-most : k ≤ length vs₀
   pub long : length vs ≡ length vs₀
-  pub settled : (f : Forcing) (p : List ℕ) → Leaves f start → Settled f c p vs₀ start → Settled f c p vs k
+  pub settled : (f : Forcing) (p : List ℕ) → Leaves f start → SimulatedTo f c p vs₀ start → SimulatedTo f c p vs k
 
 pub start : (c vs : List ℕ) (k : ℕ) → k ≤ length vs → SoFar c vs k vs k
 start c vs k h = record { above = omega arith; at-most = h; long = refl; settled = λ f p _ s. s }
@@ -100,13 +100,13 @@ module _ {c vs₀ vs : List ℕ} {k start : ℕ} (so : SoFar c vs₀ start vs k)
         (settled-more (o .lower k l) (omega (arith, so .long)) (so .settled f p left s));
   }
 
-  pub finished : length vs₀ ≤ k → Simulates c vs₀ start vs
+  pub finished : length vs₀ ≤ k → SimulateDone c vs₀ start vs
   finished l f p left s =
       let e : k ≡ length vs₀ = omega (arith, so .at-most) in
       sym (take-all k vs (omega (arith, so .long))) ∙ so .settled f p left s .done ∙ ap (valuesTo f c p) e
 
 -- with the inputs' lines set, all lines simulated have the good values
-pub all-good : (c p vs₀ : List ℕ) {vs vs′ : List ℕ} → length vs ≡ length vs₀ → InputsFrom c p vs 0 → Simulates c vs 0 vs′ → vs′ ≡ goodOf c p (length vs₀)
+pub all-good : (c p vs₀ : List ℕ) {vs vs′ : List ℕ} → length vs ≡ length vs₀ → InputsFrom c p vs 0 → SimulateDone c vs 0 vs′ → vs′ ≡ goodOf c p (length vs₀)
 unfolding grow
 all-good c p vs₀ long inputs simulated =
     simulated unforced p (λ l s v _. refl) (record { done = refl; inputs = inputs }) ∙ ap (goodOf c p) long

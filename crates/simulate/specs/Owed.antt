@@ -25,12 +25,12 @@ pub record Shaped (c : List ℕ) (inputs n : ℕ) : Type 0 where
   pub inputs-are : inputsBefore c n ≡ inputs
 
 -- a circuit of n lines, and room for two values a line
-pub record Room (c : List ℕ) (inputs n room : ℕ) : Type 0 where
+pub record GoodValuesReady (c : List ℕ) (inputs n room : ℕ) : Type 0 where
   pub shaped : Shaped c inputs n
   pub two : room ≡ n + n
 
 -- the same with a fault on one of the lines
-pub record FaultRoom (c : List ℕ) (fault : Fault) (n room : ℕ) : Type 0 where
+pub record FaultyValuesReady (c : List ℕ) (fault : Fault) (n room : ℕ) : Type 0 where
   pub ordered : Ordered c n
   pub two : room ≡ n + n
   pub line : fault .line < n
@@ -48,7 +48,7 @@ abbrev pub InputsFrom : List ℕ → List ℕ → List ℕ → ℕ → Type 0
 InputsFrom c p vs k = (j : ℕ) → k ≤ j → j < length vs → isInput c j ≡ true → getD vs j 0 ≡ getD p (inputsBefore c j) 0
 
 -- the lines below k have their values, and the inputs above theirs
-pub record Settled (f : Forcing) (c p vs : List ℕ) (k : ℕ) : Type 0 where
+pub record SimulatedTo (f : Forcing) (c p vs : List ℕ) (k : ℕ) : Type 0 where
   pub done : take k vs ≡ valuesTo f c p k
   pub inputs : InputsFrom c p vs k
 
@@ -57,13 +57,13 @@ abbrev pub Leaves : Forcing → ℕ → Type 0
 Leaves f k = (l s v : ℕ) → k ≤ l → f l s v ≡ v
 
 -- where the lines below start are settled, under whatever pattern and forcing that leaves the others alone, vs′ has the values of all
-abbrev pub Simulates : List ℕ → List ℕ → ℕ → List ℕ → Type 0
-Simulates c vs start vs′ = (f : Forcing) (p : List ℕ) → Leaves f start → Settled f c p vs start → vs′ ≡ valuesTo f c p (length vs)
+abbrev pub SimulateDone : List ℕ → List ℕ → ℕ → List ℕ → Type 0
+SimulateDone c vs start vs′ = (f : Forcing) (p : List ℕ) → Leaves f start → SimulatedTo f c p vs start → vs′ ≡ valuesTo f c p (length vs)
 
 -- where vs has the good values, under whatever pattern, vs′ has the faulty ones
-abbrev pub MakesFaulty : Fault → List ℕ → List ℕ → List ℕ → Type 0
-MakesFaulty fault c vs vs′ = (p : List ℕ) → vs ≡ goodOf c p (length vs) → vs′ ≡ faultyOf fault c p (length vs)
+abbrev pub SimulateFaultDone : Fault → List ℕ → List ℕ → List ℕ → Type 0
+SimulateFaultDone fault c vs vs′ = (p : List ℕ) → vs ≡ goodOf c p (length vs) → vs′ ≡ faultyOf fault c p (length vs)
 
 -- where the first half of w has the good values, w′ has these and then the faulty ones
-abbrev pub AddsFaulty : Fault → List ℕ → ℕ → List ℕ → List ℕ → Type 0
-AddsFaulty fault c n w w′ = (p : List ℕ) → take n w ≡ goodOf c p n → w′ ≡ bothOf fault c p n
+abbrev pub FaultyValuesDone : Fault → List ℕ → ℕ → List ℕ → List ℕ → Type 0
+FaultyValuesDone fault c n w w′ = (p : List ℕ) → take n w ≡ goodOf c p n → w′ ≡ bothOf fault c p n

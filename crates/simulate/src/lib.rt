@@ -11,7 +11,7 @@ ghost use lib.ListN.{length, take, drop};
 ghost use Rattle.circuit.specs.Record.{kindAt, Inside};
 ghost use Rattle.simulate.specs.Simulate.{unforced, stuckAt};
 ghost use Rattle.simulate.specs.Work.{goodOf};
-ghost use Rattle.simulate.specs.Owed.{Ordered, Shaped, Room, FaultRoom, inputOr, lineIn, InputsFrom, Simulates, MakesFaulty, AddsFaulty};
+ghost use Rattle.simulate.specs.Owed.{Ordered, Shaped, GoodValuesReady, FaultyValuesReady, inputOr, lineIn, InputsFrom, SimulateDone, SimulateFaultDone, FaultyValuesDone};
 
 // The value of line k; an input's line has it already.
 fn line_value(circuit: &[u8], values: &[u8], k: usize) -> u8
@@ -30,7 +30,7 @@ fn line_value(circuit: &[u8], values: &[u8], k: usize) -> u8
 // Gives every line from `start` on its value.
 fn simulate_from(circuit: &[u8], values: &mut [u8], start: usize)
     requires { ⌜ Ordered (now circuit) (length (now values)) × (start ≤ length (now values)) ⌝ }
-    ensures { λ _. ⌜ Simulates (now (circuit .entry)) (now (values .entry)) start (now (values .exit)) ⌝ }
+    ensures { λ _. ⌜ SimulateDone (now (circuit .entry)) (now (values .entry)) start (now (values .exit)) ⌝ }
 {
     let mut k = start;
     while k < values.len() {
@@ -77,7 +77,7 @@ fn simulate(circuit: &[u8], pattern: &[u8], values: &mut [u8])
 
 // The first half of the work memory gets the good values.
 pub fn good_values(circuit: &[u8], pattern: &[u8], work: &mut [u8], n: usize)
-    requires { ⌜ Room (now circuit) (length (now pattern)) n (length (now work)) ⌝ }
+    requires { ⌜ GoodValuesReady (now circuit) (length (now pattern)) n (length (now work)) ⌝ }
     ensures { λ _. ⌜ now (work .exit) ≡ goodOf (now (circuit .entry)) (now (pattern .entry)) n ++ drop n (now (work .entry)) ⌝ }
 {
     simulate(circuit, pattern, &mut work[..n]);
@@ -110,7 +110,7 @@ fn stuck_value(circuit: &[u8], fault: Fault, values: &[u8]) -> u8
 // Turns good values into faulty ones, from the fault's line on.
 fn simulate_fault(circuit: &[u8], fault: Fault, values: &mut [u8])
     requires { ⌜ Ordered (now circuit) (length (now values)) × (fault .line < length (now values)) ⌝ }
-    ensures { λ _. ⌜ MakesFaulty fault (now (circuit .entry)) (now (values .entry)) (now (values .exit)) ⌝ }
+    ensures { λ _. ⌜ SimulateFaultDone fault (now (circuit .entry)) (now (values .entry)) (now (values .exit)) ⌝ }
 {
     let line = fault.line;
     let v = stuck_value(circuit, fault, values);
@@ -132,8 +132,8 @@ fn copy_half(work: &mut [u8], n: usize)
 
 // The second half of the work memory gets the faulty values, where the first has the good ones.
 pub fn faulty_values(circuit: &[u8], fault: Fault, work: &mut [u8], n: usize)
-    requires { ⌜ FaultRoom (now circuit) fault n (length (now work)) ⌝ }
-    ensures { λ _. ⌜ AddsFaulty fault (now (circuit .entry)) n (now (work .entry)) (now (work .exit)) ⌝ }
+    requires { ⌜ FaultyValuesReady (now circuit) fault n (length (now work)) ⌝ }
+    ensures { λ _. ⌜ FaultyValuesDone fault (now (circuit .entry)) n (now (work .entry)) (now (work .exit)) ⌝ }
 {
     copy_half(work, n);
     simulate_fault(circuit, fault, &mut work[n..]);

@@ -16,18 +16,18 @@ use Rattle.ground.proofs.Tests.{either}
 use Rattle.ground.proofs.Counting.{count-mono, nth}
 use Rattle.ground.proofs.Lists.{collect-length}
 use Rattle.ground.proofs.Collect.{collect-nth, collect-below}
-use Rattle.words.specs.Words.{begins, feeds, wordsTo, wordsOf, endsOf}
+use Rattle.words.specs.Words.{begins, feeds, wordsTo, wordsIn, endsIn}
 use Rattle.statements.specs.Lines.{startAt, wordIn, sizeAt}
 
 -- ---- words
 
-pub words-length : (t : List ℕ) → length (wordsOf t) ≡ wordsTo t (length t)
-unfolding wordsOf
+pub words-length : (t : List ℕ) → length (wordsIn t) ≡ wordsTo t (length t)
+unfolding wordsIn
 words-length t = collect-length (begins t) (λ i. i) (length t)
 
 -- a word begins before the text's end
-pub word-inside : (t : List ℕ) (i : ℕ) → i < length (wordsOf t) → getD (wordsOf t) i 0 < length t
-unfolding wordsOf
+pub word-inside : (t : List ℕ) (i : ℕ) → i < length (wordsIn t) → getD (wordsIn t) i 0 < length t
+unfolding wordsIn
 word-inside t = collect-below (begins t) (λ i. i) (length t) (length t) (λ k l e. l)
 
 -- ---- ends
@@ -37,16 +37,16 @@ record End (t : List ℕ) (k : ℕ) : Type 0 where
   pub place : ℕ
   pub inside : place ≤ length t
   pub before : countBelow place (feeds t) ≡ k
-  pub is : getD (endsOf t) k 0 ≡ wordsTo t place
+  pub is : getD (endsIn t) k 0 ≡ wordsTo t place
 
-ends-length : (t : List ℕ) → length (endsOf t) ≡ countBelow (length t) (feeds t) + 1
-unfolding endsOf
+ends-length : (t : List ℕ) → length (endsIn t) ≡ countBelow (length t) (feeds t) + 1
+unfolding endsIn
 ends-length t =
     length-append (collect (feeds t) (wordsTo t) (length t)) (wordsTo t (length t) ∷ [])
     ∙ ap (λ (x : ℕ). x + 1) (collect-length (feeds t) (wordsTo t) (length t))
 
-end : (t : List ℕ) (k : ℕ) → k < length (endsOf t) → End t k
-unfolding endsOf
+end : (t : List ℕ) (k : ℕ) → k < length (endsIn t) → End t k
+unfolding endsIn
 end t k l = go (ℕ-discrete (length fed) k)
   where
     fed : List ℕ
@@ -73,49 +73,49 @@ end t k l = go (ℕ-discrete (length fed) k)
 
 module _ (t : List ℕ) where
   -- no end lies behind the last word
-  pub end-below : (k : ℕ) → k < length (endsOf t) → getD (endsOf t) k 0 ≤ wordsTo t (length t)
+  pub end-below : (k : ℕ) → k < length (endsIn t) → getD (endsIn t) k 0 ≤ wordsTo t (length t)
   end-below k l = let w = end t k l in omega (arith, w .is, count-mono (begins t) (w .place) (length t) (w .inside))
 
-  ascends : (k : ℕ) → suc k < length (endsOf t) → getD (endsOf t) k 0 ≤ getD (endsOf t) (suc k) 0
+  ascends : (k : ℕ) → suc k < length (endsIn t) → getD (endsIn t) k 0 ≤ getD (endsIn t) (suc k) 0
   ascends k l = go (end t k (omega arith)) (end t (suc k) l)
     where
-      go : End t k → End t (suc k) → getD (endsOf t) k 0 ≤ getD (endsOf t) (suc k) 0
+      go : End t k → End t (suc k) → getD (endsIn t) k 0 ≤ getD (endsIn t) (suc k) 0
       go v w =
           let order : v .place ≤ w .place = ⊎-elim
           (λ h. let m = count-mono (feeds t) (w .place) (v .place) (omega arith) in absurd (omega (arith, v .before, w .before)))
           (λ h. h) (either (w .place) (v .place)) in
           omega (arith, v .is, w .is, count-mono (begins t) (v .place) (w .place) order)
 
-  pub start-below : (k : ℕ) → k < length (endsOf t) → startAt (endsOf t) k ≤ getD (endsOf t) k 0
+  pub start-below : (k : ℕ) → k < length (endsIn t) → startAt (endsIn t) k ≤ getD (endsIn t) k 0
   unfolding startAt
   start-below zero l = omega arith
   start-below (suc k) l = ascends k l
 
   -- word j of a line that has more is one of the text's
-  pub line-inside : (k j : ℕ) → k < length (endsOf t) → j < sizeAt (endsOf t) k → wordIn (wordsOf t) (endsOf t) k j < length t
+  pub line-inside : (k j : ℕ) → k < length (endsIn t) → j < sizeAt (endsIn t) k → wordIn (wordsIn t) (endsIn t) k j < length t
   unfolding wordIn sizeAt
-  line-inside k j l h = word-inside t (startAt (endsOf t) k + j) (omega (arith, words-length t, end-below k l))
+  line-inside k j l h = word-inside t (startAt (endsIn t) k + j) (omega (arith, words-length t, end-below k l))
 
   -- ---- lines with two words each
 
   twice : (test : ℕ → Bool)
-      → ((k : ℕ) → k < length (endsOf t) → test k ≡ true → 2 ≤ sizeAt (endsOf t) k)
-      → (k : ℕ) → k ≤ length (endsOf t) → 2 * countBelow k test ≤ startAt (endsOf t) k
+      → ((k : ℕ) → k < length (endsIn t) → test k ≡ true → 2 ≤ sizeAt (endsIn t) k)
+      → (k : ℕ) → k ≤ length (endsIn t) → 2 * countBelow k test ≤ startAt (endsIn t) k
   unfolding countBelow startAt sizeAt
   twice test h zero l = omega arith
   twice test h (suc k) l = go (test k) refl (twice test h k (omega arith)) (start-below k l)
     where
-      go : (b : Bool) → test k ≡ b → 2 * countBelow k test ≤ startAt (endsOf t) k → startAt (endsOf t) k ≤ getD (endsOf t) k 0
-          → 2 * (countBelow k test + one b) ≤ getD (endsOf t) k 0
+      go : (b : Bool) → test k ≡ b → 2 * countBelow k test ≤ startAt (endsIn t) k → startAt (endsIn t) k ≤ getD (endsIn t) k 0
+          → 2 * (countBelow k test + one b) ≤ getD (endsIn t) k 0
       go true e ih s = omega (arith, h k l e)
       go false e ih s = omega arith
 
-  start-most : (k : ℕ) → k ≤ length (endsOf t) → startAt (endsOf t) k ≤ wordsTo t (length t)
+  start-most : (k : ℕ) → k ≤ length (endsIn t) → startAt (endsIn t) k ≤ wordsTo t (length t)
   unfolding startAt
   start-most zero l = omega arith
   start-most (suc k) l = end-below k l
 
   pub lines-twice : (test : ℕ → Bool)
-      → ((k : ℕ) → k < length (endsOf t) → test k ≡ true → 2 ≤ sizeAt (endsOf t) k)
-      → 2 * countBelow (length (endsOf t)) test ≤ wordsTo t (length t)
-  lines-twice test h = omega (arith, twice test h (length (endsOf t)) (omega arith), start-most (length (endsOf t)) (omega arith))
+      → ((k : ℕ) → k < length (endsIn t) → test k ≡ true → 2 ≤ sizeAt (endsIn t) k)
+      → 2 * countBelow (length (endsIn t)) test ≤ wordsTo t (length t)
+  lines-twice test h = omega (arith, twice test h (length (endsIn t)) (omega arith), start-most (length (endsIn t)) (omega arith))

@@ -19,8 +19,8 @@ use Rattle.ground.proofs.Grow.{table-length, table-at}
 use Rattle.words.specs.Words.{wordAt, same}
 use Rattle.syntax.specs.Kinds.{inputWord}
 use Rattle.statements.specs.Lines.{wordIn, sizeAt, formOf, formsOf}
-use Rattle.statements.specs.Tables.{isGate}
-use Rattle.statements.specs.Owed.{Forms}
+use Rattle.statements.specs.Tables.{saysGate}
+use Rattle.statements.specs.Owed.{FormsDone}
 
 -- ---- one
 
@@ -95,7 +95,7 @@ module _ {t ws es fs : List ℕ} where
       counted = sum-more (s .counted) l (eb ∙ ap (λ (i : ℕ). one (leb 3 i)) ex);
     }
 
-    pub finished : length es ≤ k → Forms t ws es fs gates
+    pub finished : length es ≤ k → FormsDone t ws es fs gates
     unfolding formsOf
     finished h =
         let e : k ≡ length es = omega (arith, s .counted .at-most) in
@@ -104,7 +104,7 @@ module _ {t ws es fs : List ℕ} where
           forms-are = all;
           gates-are =
               sum-all (s .counted) h
-              ∙ count-same (length es) _ (isGate fs)
+              ∙ count-same (length es) _ (saysGate fs)
               (λ i l. ap (leb 3) (sym (ap (λ (w : List ℕ). getD w i 0) all ∙ forms-get t ws es i l)))
-              ∙ ap (λ (n : ℕ). countBelow n (isGate fs)) (sym (s .lines));
+              ∙ ap (λ (n : ℕ). countBelow n (saysGate fs)) (sym (s .lines));
         }

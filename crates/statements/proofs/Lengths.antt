@@ -12,16 +12,16 @@ use Rattle.ground.specs.Below.{countBelow}
 use Rattle.ground.proofs.Tests.{never-both}
 use Rattle.ground.proofs.Counting.{count-either}
 use Rattle.ground.proofs.Lists.{collect-length}
-use Rattle.statements.specs.Tables.{isInput, isOutput, isGate, defines, inputsIn, gatesIn, defsOf, numbersOf, outsOf, firstsOf, secondsOf, kindsOf}
+use Rattle.statements.specs.Tables.{saysInput, saysOutput, saysGate, defines, inputsIn, gatesIn, defsOf, defNumbersOf, outsOf, firstsOf, secondsOf, kindsOf}
 
 not-both : (x : ℕ) → (eqb x 1 && leb 3 x) ≡ false
 not-both x = never-both (eqb x 1) (leb 3 x) (λ e. let q = eqb-true x 1 e in lt-leb 3 x (omega arith))
 
 pub defs-split : (fs : List ℕ) → countBelow (length fs) (defines fs) ≡ inputsIn fs + gatesIn fs
-defs-split fs = count-either (length fs) (isInput fs) (isGate fs) (λ k. not-both (getD fs k 0))
+defs-split fs = count-either (length fs) (saysInput fs) (saysGate fs) (λ k. not-both (getD fs k 0))
 
-pub numbers-length : (fs : List ℕ) → length (numbersOf fs) ≡ inputsIn fs + gatesIn fs
-unfolding numbersOf
+pub numbers-length : (fs : List ℕ) → length (defNumbersOf fs) ≡ inputsIn fs + gatesIn fs
+unfolding defNumbersOf
 numbers-length fs = collect-length _ _ (length fs) ∙ defs-split fs
 
 module _ (ws es fs : List ℕ) where
@@ -29,10 +29,10 @@ module _ (ws es fs : List ℕ) where
   unfolding defsOf
   defs-length = collect-length _ _ (length fs) ∙ defs-split fs
 
-  pub same-lengths : length (numbersOf fs) ≡ length (defsOf ws es fs)
+  pub same-lengths : length (defNumbersOf fs) ≡ length (defsOf ws es fs)
   same-lengths = numbers-length fs ∙ sym defs-length
 
-  pub outs-length : length (outsOf ws es fs) ≡ countBelow (length fs) (isOutput fs)
+  pub outs-length : length (outsOf ws es fs) ≡ countBelow (length fs) (saysOutput fs)
   unfolding outsOf
   outs-length = collect-length _ _ (length fs)
 

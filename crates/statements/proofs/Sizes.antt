@@ -11,10 +11,10 @@ use borrow.Author.Tests.{eqb-true, leb-true}
 use Rattle.ground.specs.Choose.{choose}
 use Rattle.ground.specs.Below.{countBelow}
 use Rattle.ground.proofs.Collect.{collect-below}
-use Rattle.words.specs.Words.{wordsOf, endsOf}
+use Rattle.words.specs.Words.{wordsIn, endsIn}
 use Rattle.words.proofs.Halves.{half}
 use Rattle.statements.specs.Lines.{wordIn, sizeAt, formsOf}
-use Rattle.statements.specs.Tables.{isOutput, isGate, defines, definedAt, gatesIn, defsOf, outsOf, firstsOf, secondsOf}
+use Rattle.statements.specs.Tables.{saysOutput, saysGate, defines, definedAt, gatesIn, defsOf, outsOf, firstsOf, secondsOf}
 use Rattle.statements.proofs.Lengths.{defs-split}
 use Rattle.statements.proofs.Forms.{Form, form-of, forms-get, forms-length}
 use Rattle.statements.proofs.Ends.{line-inside, lines-twice}
@@ -30,16 +30,16 @@ output-some x e = let q = eqb-true x 2 e in omega arith
 
 module _ (t : List ℕ) where
   abbrev pub formsIn : List ℕ
-  formsIn = formsOf t (wordsOf t) (endsOf t)
+  formsIn = formsOf t (wordsIn t) (endsIn t)
 
   abbrev pub Inside : List ℕ → Type 0
   Inside l = (k : ℕ) → k < length l → getD l k 0 < length t
 
-  lines : length formsIn ≡ length (endsOf t)
-  lines = forms-length t (wordsOf t) (endsOf t)
+  lines : length formsIn ≡ length (endsIn t)
+  lines = forms-length t (wordsIn t) (endsIn t)
 
-  form-at : (k : ℕ) → k < length (endsOf t) → Form (getD formsIn k 0) (sizeAt (endsOf t) k)
-  form-at k l = rw (forms-get t (wordsOf t) (endsOf t) k l) (form-of t (wordsOf t) (endsOf t) k)
+  form-at : (k : ℕ) → k < length (endsIn t) → Form (getD formsIn k 0) (sizeAt (endsIn t) k)
+  form-at k l = rw (forms-get t (wordsIn t) (endsIn t) k l) (form-of t (wordsIn t) (endsIn t) k)
 
   -- ---- how many
 
@@ -52,8 +52,8 @@ module _ (t : List ℕ) where
     pub few-defs : countBelow (length formsIn) (defines formsIn) ≤ 8192
     few-defs = few (defines formsIn) (λ k e. def-some (getD formsIn k 0) e)
 
-    pub few-outs : countBelow (length formsIn) (isOutput formsIn) ≤ 8192
-    few-outs = few (isOutput formsIn) (λ k e. output-some (getD formsIn k 0) e)
+    pub few-outs : countBelow (length formsIn) (saysOutput formsIn) ≤ 8192
+    few-outs = few (saysOutput formsIn) (λ k e. output-some (getD formsIn k 0) e)
 
     pub few-gates : gatesIn formsIn ≤ 8192
     few-gates = omega (arith, few-defs, defs-split formsIn)
@@ -62,34 +62,34 @@ module _ (t : List ℕ) where
 
   -- a table of a word of each line that passes
   within : (test : ℕ → Bool) (word : ℕ → ℕ)
-      → ((k : ℕ) → k < length (endsOf t) → test k ≡ true → word k < sizeAt (endsOf t) k)
-      → (k : ℕ) → k < length formsIn → test k ≡ true → wordIn (wordsOf t) (endsOf t) k (word k) < length t
-  within test word h k l e = let m : k < length (endsOf t) = omega (arith, lines) in line-inside t k (word k) m (h k m e)
+      → ((k : ℕ) → k < length (endsIn t) → test k ≡ true → word k < sizeAt (endsIn t) k)
+      → (k : ℕ) → k < length formsIn → test k ≡ true → wordIn (wordsIn t) (endsIn t) k (word k) < length t
+  within test word h k l e = let m : k < length (endsIn t) = omega (arith, lines) in line-inside t k (word k) m (h k m e)
 
-  pub defs-within : Inside (defsOf (wordsOf t) (endsOf t) formsIn)
+  pub defs-within : Inside (defsOf (wordsIn t) (endsIn t) formsIn)
   unfolding defsOf definedAt
-  defs-within = collect-below _ _ _ _ (within (defines formsIn) (λ k. choose (isGate formsIn k) 0 1) inside)
+  defs-within = collect-below _ _ _ _ (within (defines formsIn) (λ k. choose (saysGate formsIn k) 0 1) inside)
     where
       at-most : (b : Bool) → choose b 0 1 ≤ 1
       at-most true = omega arith
       at-most false = omega arith
 
-      inside : (k : ℕ) → k < length (endsOf t) → defines formsIn k ≡ true → choose (isGate formsIn k) 0 1 < sizeAt (endsOf t) k
-      inside k l e = omega (arith, form-at k l .two (def-some (getD formsIn k 0) e), at-most (isGate formsIn k))
+      inside : (k : ℕ) → k < length (endsIn t) → defines formsIn k ≡ true → choose (saysGate formsIn k) 0 1 < sizeAt (endsIn t) k
+      inside k l e = omega (arith, form-at k l .two (def-some (getD formsIn k 0) e), at-most (saysGate formsIn k))
 
-  pub outs-within : Inside (outsOf (wordsOf t) (endsOf t) formsIn)
+  pub outs-within : Inside (outsOf (wordsIn t) (endsIn t) formsIn)
   unfolding outsOf
-  outs-within = collect-below _ _ _ _ (within (isOutput formsIn) (λ k. 1) (λ k l e. form-at k l .two (output-some (getD formsIn k 0) e)))
+  outs-within = collect-below _ _ _ _ (within (saysOutput formsIn) (λ k. 1) (λ k l e. form-at k l .two (output-some (getD formsIn k 0) e)))
 
-  gate-size : (k : ℕ) → k < length (endsOf t) → isGate formsIn k ≡ true → (3 ≤ getD formsIn k 0) × (getD formsIn k 0 ≤ sizeAt (endsOf t) k)
+  gate-size : (k : ℕ) → k < length (endsIn t) → saysGate formsIn k ≡ true → (3 ≤ getD formsIn k 0) × (getD formsIn k 0 ≤ sizeAt (endsIn t) k)
   gate-size k l e = (leb-true 3 (getD formsIn k 0) e, form-at k l .at-most)
 
-  pub firsts-within : Inside (firstsOf (wordsOf t) (endsOf t) formsIn)
+  pub firsts-within : Inside (firstsOf (wordsIn t) (endsIn t) formsIn)
   unfolding firstsOf
-  firsts-within = collect-below _ _ _ _ (within (isGate formsIn) (λ k. 2) (λ k l e. let s = gate-size k l e in omega (arith, s .0, s .1)))
+  firsts-within = collect-below _ _ _ _ (within (saysGate formsIn) (λ k. 2) (λ k l e. let s = gate-size k l e in omega (arith, s .0, s .1)))
 
-  pub seconds-within : Inside (secondsOf (wordsOf t) (endsOf t) formsIn)
+  pub seconds-within : Inside (secondsOf (wordsIn t) (endsIn t) formsIn)
   unfolding secondsOf
   seconds-within =
       collect-below _ _ _ _
-      (within (isGate formsIn) (λ k. getD formsIn k 0 - 1) (λ k l e. let s = gate-size k l e in omega (arith, s .0, s .1)))
+      (within (saysGate formsIn) (λ k. getD formsIn k 0 - 1) (λ k l e. let s = gate-size k l e in omega (arith, s .0, s .1)))

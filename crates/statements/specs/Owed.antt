@@ -7,48 +7,48 @@ use Prim.Native.Nat.{ℕ, _≤_, _<_}
 use lib.ListN.{length, getD, take}
 use Rattle.ground.specs.Below.{countBelow}
 use Rattle.statements.specs.Lines.{formsOf}
-use Rattle.statements.specs.Tables.{isOutput, isGate, defines, gatesIn, defsOf, numbersOf, outsOf, firstsOf, secondsOf}
+use Rattle.statements.specs.Tables.{saysOutput, saysGate, defines, gatesIn, defsOf, defNumbersOf, outsOf, firstsOf, secondsOf}
 
 -- the lines' forms, and how many gates there are
-pub record Forms (t ws es fs : List ℕ) (gates : ℕ) : Type 0 where
+pub record FormsDone (t ws es fs : List ℕ) (gates : ℕ) : Type 0 where
   pub forms-are : fs ≡ formsOf t ws es
   pub gates-are : gates ≡ gatesIn fs
 
 -- no more than 8,192 lines pass the test, and a table has room for these and one more
-pub record Few (fs : List ℕ) (test : ℕ → Bool) (out : List ℕ) : Type 0 where
+pub record FewRoom (fs : List ℕ) (test : ℕ → Bool) (out : List ℕ) : Type 0 where
   pub few : countBelow (length fs) test ≤ 8192
   pub room : length out ≡ 8193
 
-pub record DefsRoom (ws es fs : List ℕ) (gates : ℕ) (defs numbers : List ℕ) : Type 0 where
+pub record DefsReady (ws es fs : List ℕ) (gates : ℕ) (defs numbers : List ℕ) : Type 0 where
   pub lines : length fs ≡ length es
   pub gates-are : gates ≡ gatesIn fs
-  pub for-defs : Few fs (defines fs) defs
-  pub for-numbers : Few fs (defines fs) numbers
+  pub for-defs : FewRoom fs (defines fs) defs
+  pub for-numbers : FewRoom fs (defines fs) numbers
 
-pub record Defs (ws es fs defs numbers : List ℕ) (d : ℕ) : Type 0 where
+pub record DefsDone (ws es fs defs numbers : List ℕ) (d : ℕ) : Type 0 where
   pub few : d ≤ 8192
   pub defs-are : take d defs ≡ defsOf ws es fs
-  pub numbers-are : take d numbers ≡ numbersOf fs
+  pub numbers-are : take d numbers ≡ defNumbersOf fs
 
 pub record OutsRoom (es fs outs : List ℕ) : Type 0 where
   pub lines : length fs ≡ length es
-  pub for-outs : Few fs (isOutput fs) outs
+  pub for-outs : FewRoom fs (saysOutput fs) outs
 
-pub record Outs (ws es fs outs : List ℕ) (d : ℕ) : Type 0 where
+pub record OutsDone (ws es fs outs : List ℕ) (d : ℕ) : Type 0 where
   pub few : d ≤ 8192
   pub are : take d outs ≡ outsOf ws es fs
 
 -- each form is one, and the tables of the gates have room for one more than there are
-pub record GatesRoom (es fs : List ℕ) (first second : List ℕ) : Type 0 where
+pub record SourcesReady (es fs : List ℕ) (first second : List ℕ) : Type 0 where
   pub lines : length fs ≡ length es
   pub forms : (k : ℕ) → k < length fs → getD fs k 0 < 5
-  pub for-first : Few fs (isGate fs) first
-  pub for-second : Few fs (isGate fs) second
+  pub for-first : FewRoom fs (saysGate fs) first
+  pub for-second : FewRoom fs (saysGate fs) second
 
-pub record Sources (ws es fs firsts seconds : List ℕ) : Type 0 where
+pub record SourcesDone (ws es fs firsts seconds : List ℕ) : Type 0 where
   pub firsts-are : take (gatesIn fs) firsts ≡ firstsOf ws es fs
   pub seconds-are : take (gatesIn fs) seconds ≡ secondsOf ws es fs
 
 pub record KindsRoom (es fs kinds : List ℕ) : Type 0 where
   pub lines : length fs ≡ length es
-  pub for-kinds : Few fs (isGate fs) kinds
+  pub for-kinds : FewRoom fs (saysGate fs) kinds

@@ -15,25 +15,25 @@ use Rattle.statements.specs.Lines.{wordIn}
 
 -- ---- what line k is
 
-abbrev pub isInput : List ℕ → ℕ → Bool
-isInput fs k = eqb (getD fs k 0) 1
+abbrev pub saysInput : List ℕ → ℕ → Bool
+saysInput fs k = eqb (getD fs k 0) 1
 
-abbrev pub isOutput : List ℕ → ℕ → Bool
-isOutput fs k = eqb (getD fs k 0) 2
+abbrev pub saysOutput : List ℕ → ℕ → Bool
+saysOutput fs k = eqb (getD fs k 0) 2
 
-abbrev pub isGate : List ℕ → ℕ → Bool
-isGate fs k = leb 3 (getD fs k 0)
+abbrev pub saysGate : List ℕ → ℕ → Bool
+saysGate fs k = leb 3 (getD fs k 0)
 
 abbrev pub defines : List ℕ → ℕ → Bool
-defines fs k = isInput fs k || isGate fs k
+defines fs k = saysInput fs k || saysGate fs k
 
 -- ---- how many inputs and gates stand before line k, and in all
 
 abbrev pub inputsTo : List ℕ → ℕ → ℕ
-inputsTo fs k = countBelow k (isInput fs)
+inputsTo fs k = countBelow k (saysInput fs)
 
 abbrev pub gatesTo : List ℕ → ℕ → ℕ
-gatesTo fs k = countBelow k (isGate fs)
+gatesTo fs k = countBelow k (saysGate fs)
 
 abbrev pub inputsIn : List ℕ → ℕ
 inputsIn fs = inputsTo fs (length fs)
@@ -45,29 +45,29 @@ gatesIn fs = gatesTo fs (length fs)
 
 -- the name that line k defines: of a gate its first word, of an input its second
 unfoldable pub definedAt : List ℕ → List ℕ → List ℕ → ℕ → ℕ
-definedAt ws es fs k = wordIn ws es k (choose (isGate fs k) 0 1)
+definedAt ws es fs k = wordIn ws es k (choose (saysGate fs k) 0 1)
 
 unfoldable pub numberAt : List ℕ → ℕ → ℕ
-numberAt fs k = choose (isGate fs k) (gatesTo fs k) (gatesIn fs + inputsTo fs k)
+numberAt fs k = choose (saysGate fs k) (gatesTo fs k) (gatesIn fs + inputsTo fs k)
 
 unfoldable pub defsOf : List ℕ → List ℕ → List ℕ → List ℕ
 defsOf ws es fs = collect (defines fs) (definedAt ws es fs) (length fs)
 
-unfoldable pub numbersOf : List ℕ → List ℕ
-numbersOf fs = collect (defines fs) (numberAt fs) (length fs)
+unfoldable pub defNumbersOf : List ℕ → List ℕ
+defNumbersOf fs = collect (defines fs) (numberAt fs) (length fs)
 
 -- ---- the names that are used: of the outputs, and each gate's first and second source (a gate with one source has it twice)
 
 unfoldable pub outsOf : List ℕ → List ℕ → List ℕ → List ℕ
-outsOf ws es fs = collect (isOutput fs) (λ k. wordIn ws es k 1) (length fs)
+outsOf ws es fs = collect (saysOutput fs) (λ k. wordIn ws es k 1) (length fs)
 
 unfoldable pub firstsOf : List ℕ → List ℕ → List ℕ → List ℕ
-firstsOf ws es fs = collect (isGate fs) (λ k. wordIn ws es k 2) (length fs)
+firstsOf ws es fs = collect (saysGate fs) (λ k. wordIn ws es k 2) (length fs)
 
 unfoldable pub secondsOf : List ℕ → List ℕ → List ℕ → List ℕ
-secondsOf ws es fs = collect (isGate fs) (λ k. wordIn ws es k (getD fs k 0 - 1)) (length fs)
+secondsOf ws es fs = collect (saysGate fs) (λ k. wordIn ws es k (getD fs k 0 - 1)) (length fs)
 
 -- ---- the gates' kinds
 
 unfoldable pub kindsOf : List ℕ → List ℕ → List ℕ → List ℕ → List ℕ
-kindsOf t ws es fs = collect (isGate fs) (λ k. kindOf (wordAt t (wordIn ws es k 1))) (length fs)
+kindsOf t ws es fs = collect (saysGate fs) (λ k. kindOf (wordAt t (wordIn ws es k 1))) (length fs)

@@ -10,11 +10,11 @@ ghost use lib.Dec.{eqb, leb};
 ghost use lib.ListN.{length, take};
 ghost use Rattle.ground.specs.Choose.{choose};
 ghost use Rattle.words.specs.Words.{wordAt, same};
-ghost use Rattle.words.specs.Owed.{Keyword};
+ghost use Rattle.words.specs.Owed.{KeywordReady};
 ghost use Rattle.syntax.specs.Kinds.{kindOf};
 ghost use Rattle.statements.specs.Lines.{startAt, wordIn, sizeAt, formOf};
 ghost use Rattle.statements.specs.Tables.{gatesIn, kindsOf};
-ghost use Rattle.statements.specs.Owed.{Forms, DefsRoom, Defs, OutsRoom, Outs, GatesRoom, Sources, KindsRoom};
+ghost use Rattle.statements.specs.Owed.{FormsDone, DefsReady, DefsDone, OutsRoom, OutsDone, SourcesReady, SourcesDone, KindsRoom};
 
 // ---- one line
 
@@ -77,7 +77,7 @@ fn form_of(text: &[u8], words: &[u16], ends: &[u16], k: usize) -> u8
 
 // This kind where the word at a byte is its name, else the other.
 fn kind_if(text: &[u8], at: usize, name: &[u8], kind: u8, other: u8) -> u8
-    requires { ⌜ Keyword (now name) at ⌝ }
+    requires { ⌜ KeywordReady (now name) at ⌝ }
     ensures { λ r. ⌜ r ≡ choose (same (wordAt (now (text .entry)) at) (now (name .entry))) kind other ⌝ }
 {
     if is_name(text, at, name) {
@@ -106,7 +106,7 @@ fn kind_of(text: &[u8], at: usize) -> u8
 // The form of each line; how many gates there are.
 pub fn put_forms(text: &[u8], words: &[u16], ends: &[u16], forms: &mut [u8]) -> usize
     requires { ⌜ (length (now forms) ≡ length (now ends)) × (length (now ends) < 65536) ⌝ }
-    ensures { λ r. ⌜ Forms (now (text .entry)) (now (words .entry)) (now (ends .entry)) (now (forms .exit)) r ⌝ }
+    ensures { λ r. ⌜ FormsDone (now (text .entry)) (now (words .entry)) (now (ends .entry)) (now (forms .exit)) r ⌝ }
 {
     let mut gates = 0;
     let mut k = 0;
@@ -152,8 +152,8 @@ pub fn put_defs(
     defs: &mut [u16],
     numbers: &mut [u16],
 ) -> usize
-    requires { ⌜ DefsRoom (now words) (now ends) (now forms) gates (now defs) (now numbers) ⌝ }
-    ensures { λ r. ⌜ Defs (now (words .entry)) (now (ends .entry)) (now (forms .entry)) (now (defs .exit)) (now (numbers .exit)) r ⌝ }
+    requires { ⌜ DefsReady (now words) (now ends) (now forms) gates (now defs) (now numbers) ⌝ }
+    ensures { λ r. ⌜ DefsDone (now (words .entry)) (now (ends .entry)) (now (forms .entry)) (now (defs .exit)) (now (numbers .exit)) r ⌝ }
 {
     let mut g = 0;
     let mut n = gates;
@@ -174,7 +174,7 @@ pub fn put_defs(
 // The names of the outputs, as often as they are written. How many there are.
 pub fn put_outs(words: &[u16], ends: &[u16], forms: &[u8], outs: &mut [u16]) -> usize
     requires { ⌜ OutsRoom (now ends) (now forms) (now outs) ⌝ }
-    ensures { λ r. ⌜ Outs (now (words .entry)) (now (ends .entry)) (now (forms .entry)) (now (outs .exit)) r ⌝ }
+    ensures { λ r. ⌜ OutsDone (now (words .entry)) (now (ends .entry)) (now (forms .entry)) (now (outs .exit)) r ⌝ }
 {
     let mut d = 0;
     let mut k = 0;
@@ -205,8 +205,8 @@ pub fn put_sources(
     firsts: &mut [u16],
     seconds: &mut [u16],
 )
-    requires { ⌜ GatesRoom (now ends) (now forms) (now firsts) (now seconds) ⌝ }
-    ensures { λ _. ⌜ Sources (now (words .entry)) (now (ends .entry)) (now (forms .entry)) (now (firsts .exit)) (now (seconds .exit)) ⌝ }
+    requires { ⌜ SourcesReady (now ends) (now forms) (now firsts) (now seconds) ⌝ }
+    ensures { λ _. ⌜ SourcesDone (now (words .entry)) (now (ends .entry)) (now (forms .entry)) (now (firsts .exit)) (now (seconds .exit)) ⌝ }
 {
     let mut g = 0;
     let mut k = 0;

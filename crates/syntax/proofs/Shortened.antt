@@ -5,7 +5,7 @@ use mathlib.Core.Logic.{_⊎_, inl, inr, ⊎-elim}
 use mathlib.Core.List.{List, [], _++_}
 use Prim.Native.Nat.{ℕ}
 use Rattle.syntax.specs.Regular.{Re, none, eps, one, seq, alt, star, Has}
-use Rattle.syntax.specs.Derivative.{cat, orElse, either}
+use Rattle.syntax.specs.Derivative.{cat, besides, either}
 
 pub cat-to : (r s : Re) (w : List ℕ) → Has (seq r s) w → Has (cat r s) w
 unfolding Has cat
@@ -25,8 +25,8 @@ cat-from (seq a b) s w h = h
 cat-from (alt a b) s w h = h
 cat-from (star a) s w h = h
 
-else-to : (r s : Re) (w : List ℕ) → Has r w ⊎ Has s w → Has (orElse r s) w
-unfolding Has orElse
+else-to : (r s : Re) (w : List ℕ) → Has r w ⊎ Has s w → Has (besides r s) w
+unfolding Has besides
 else-to r none w h = ⊎-elim (λ x. x) (λ x. absurd x) h
 else-to r eps w h = h
 else-to r (one l) w h = h
@@ -34,8 +34,8 @@ else-to r (seq a b) w h = h
 else-to r (alt a b) w h = h
 else-to r (star a) w h = h
 
-else-from : (r s : Re) (w : List ℕ) → Has (orElse r s) w → Has r w ⊎ Has s w
-unfolding Has orElse
+else-from : (r s : Re) (w : List ℕ) → Has (besides r s) w → Has r w ⊎ Has s w
+unfolding Has besides
 else-from r none w h = inl h
 else-from r eps w h = h
 else-from r (one l) w h = h

@@ -19,10 +19,10 @@ use Rattle.ground.proofs.Map.{map-at}
 use Rattle.ground.proofs.Grow.{table-length, table-at}
 use Rattle.words.specs.Words.{within, wordByte}
 use Rattle.syntax.specs.Regular.{Re, none, has}
-use Rattle.syntax.specs.Derivative.{cat, orElse, either, empty, next, after, live}
+use Rattle.syntax.specs.Derivative.{cat, besides, either, empty, next, after, live}
 use Rattle.syntax.specs.Kinds.{inputWord, outputWord, kinds, kindWords}
 use Rattle.syntax.specs.Grammar.{signs, placeIn, symbol, letters, keys, wordSymbol, upTo, blanks, name, mark, close, oneArgument, twoArguments, gate, statement, comment, line, bench}
-use Rattle.syntax.specs.Owed.{SymbolTable, then, inName, inKeyword, inKind, states, stateOf, told, row, rows, StateTable}
+use Rattle.syntax.specs.Owed.{SymbolTable, then, inName, inKeyword, inKind, states, stateOf, cellSays, row, rows, StateTable}
 
 -- ---- symbols
 
@@ -68,8 +68,8 @@ pub record Character (q c x : ℕ) : Type 0 where
   pub high : x < 125
   pub state : stateOf (x - 46) ≡ next (stateOf q) c
 
-follows : (q c x : ℕ) → told states x ≡ (true, next (stateOf q) c) → Character q c x
-unfolding told stateOf
+follows : (q c x : ℕ) → cellSays states x ≡ (true, next (stateOf q) c) → Character q c x
+unfolding cellSays stateOf
 follows q c x e =
     let b = both _ _ (ap (λ (y : Bool × Re). y .0) e) in
     record { low = leb-true 46 x (b .0); high = ltb-true x 125 (b .1); state = ap (λ (y : Bool × Re). y .1) e }
@@ -79,9 +79,9 @@ unfolding StateTable stateOf
 state-at t e q c h g =
     let k = 23 * q + 2 + c in
     follows q c (getD t k 0)
-    (sym (List·getD-map (told states) t k 0)
-    ∙ ap (λ (l : List (Bool × Re)). getD l k (told states 0)) e
-    ∙ rows-at states q c (told states 0) (rw count h) g)
+    (sym (List·getD-map (cellSays states) t k 0)
+    ∙ ap (λ (l : List (Bool × Re)). getD l k (cellSays states 0)) e
+    ∙ rows-at states q c (cellSays states 0) (rw count h) g)
 
 -- two tests that agree at each number below n, which antt computes
 agree : (n : ℕ) (s t : ℕ → Bool) → T (allBelow n (λ k. eqb (one (s k)) (one (t k)))) → (k : ℕ) → k < n → s k ≡ t k
@@ -89,7 +89,7 @@ agree n s t h k l = one-same (s k) (t k) (eqb→eq (one (s k)) (one (t k)) (at-b
 
 -- a state goes on unless it is 0, and a text may end in 1, 2 and 3
 tests : (q : ℕ) → q < 79 → (live (stateOf q) ≡ ltb 0 q) × (empty (stateOf q) ≡ (ltb 0 q && ltb q 4))
-unfolding live stateOf states then inName after inKeyword inKind has cat orElse either empty next
+unfolding live stateOf states then inName after inKeyword inKind has cat besides either empty next
     signs within wordByte placeIn symbol letters keys inputWord outputWord kinds kindWords wordSymbol upTo blanks name mark close oneArgument twoArguments gate statement comment line bench
 tests q h = (agree 79 (λ k. live (stateOf k)) (λ k. ltb 0 k) tt q h, agree 79 (λ k. empty (stateOf k)) (λ k. ltb 0 k && ltb k 4) tt q h)
 

@@ -15,21 +15,21 @@ cat (alt a b) s = seq (alt a b) s
 cat (star a) s = seq (star a) s
 
 -- r is not none
-unfoldable pub orElse : Re → Re → Re
-orElse r none = r
-orElse r eps = alt r eps
-orElse r (one l) = alt r (one l)
-orElse r (seq a b) = alt r (seq a b)
-orElse r (alt a b) = alt r (alt a b)
-orElse r (star a) = alt r (star a)
+unfoldable pub besides : Re → Re → Re
+besides r none = r
+besides r eps = alt r eps
+besides r (one l) = alt r (one l)
+besides r (seq a b) = alt r (seq a b)
+besides r (alt a b) = alt r (alt a b)
+besides r (star a) = alt r (star a)
 
 unfoldable pub either : Re → Re → Re
 either none s = s
-either eps s = orElse eps s
-either (one l) s = orElse (one l) s
-either (seq a b) s = orElse (seq a b) s
-either (alt a b) s = orElse (alt a b) s
-either (star a) s = orElse (star a) s
+either eps s = besides eps s
+either (one l) s = besides (one l) s
+either (seq a b) s = besides (seq a b) s
+either (alt a b) s = besides (alt a b) s
+either (star a) s = besides (star a) s
 
 -- the grammar has the empty text
 unfoldable pub empty : Re → Bool

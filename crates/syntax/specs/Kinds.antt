@@ -59,12 +59,12 @@ unfoldable pub kindWords : ℕ → List (List ℕ)
 kindWords n = wordsWith n kinds
 
 -- the number of the kind that a word names, or 0
-abbrev pub numberIn : List Kind → List ℕ → ℕ
-numberIn [] w = 0
-numberIn (k ∷ ks) w = choose (same w (k .word)) (k .number) (numberIn ks w)
+abbrev pub kindIn : List Kind → List ℕ → ℕ
+kindIn [] w = 0
+kindIn (k ∷ ks) w = choose (same w (k .word)) (k .number) (kindIn ks w)
 
 unfoldable pub kindOf : List ℕ → ℕ
-kindOf w = numberIn kinds w
+kindOf w = kindIn kinds w
 
 -- the table has each kind of gates once, with as many sources as the gates' rule has pins for it, and no word twice
 pub record EachKind : Type 0 where

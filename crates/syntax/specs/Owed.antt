@@ -60,8 +60,8 @@ stateOf q = getD states q none
 -- ---- the table of the states
 
 -- what a character says: whether it is a state, as a character from . on, and what may follow in that state
-unfoldable pub told : List Re → ℕ → Bool × Re
-told s x = (leb 46 x && ltb x 125, getD s (x - 46) none)
+unfoldable pub cellSays : List Re → ℕ → Bool × Re
+cellSays s x = (leb 46 x && ltb x 125, getD s (x - 46) none)
 
 -- what a row has to say: its state, a blank, and the state that follows at each symbol
 unfoldable pub row : Re → List (Bool × Re)
@@ -72,7 +72,7 @@ rows [] = []
 rows (r ∷ s) = row r ++ rows s
 
 unfoldable pub StateTable : List ℕ → Type 0
-StateTable t = map (told states) t ≡ rows states
+StateTable t = map (cellSays states) t ≡ rows states
 
 -- ---- the same as beginnings of rows
 

@@ -20,7 +20,7 @@ use Rattle.simulate.proofs.Truths.{filling-refines, Alike, good-alike, faulty-a
 use Rattle.nodes.specs.Node.{Node, IsNode}
 use Rattle.sides.specs.Look.{lookOf}
 use Rattle.sides.proofs.Look.{look-fails, look-leaves, look-three, unknown-has-x}
-use Rattle.verdicts.specs.Meaning.{Faithful}
+use Rattle.verdicts.specs.Meaning.{FaithfulLook}
 
 module _ (fault : Fault) (c : List ℕ) (n : ℕ) (small : fault .value ≤ 1) (well : WellFormed c (inputsBefore c n) n) where
   module _ (s : Node) (i : IsNode (inputsBefore c n) s) (x : Vector) (fills : Fills s x) (k : ℕ) where
@@ -54,7 +54,7 @@ module _ (fault : Fault) (c : List ℕ) (n : ℕ) (small : fault .value ≤ 1) (
       let h = look-leaves fault c n s e (d .line) (d .inside) (eqb-true _ 1 (d .output)) in
       d .differ (one-same _ _ (good-truth s i x fills (d .line) (h .good-known) ∙ h .equal ∙ sym (faulty-truth s i x fills (d .line) (h .faulty-known))))
 
-  pub means : Faithful (inputsBefore c n) (lookOf fault c n) (Detects c fault n)
+  pub means : FaithfulLook (inputsBefore c n) (lookOf fault c n) (Detects c fault n)
   means = record {
     looks = record { three = λ s i. look-three fault c n s; unknown = λ s i. unknown-has-x fault c n s small well i };
     fail = fail-detects;

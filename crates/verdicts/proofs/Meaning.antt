@@ -17,7 +17,7 @@ use Rattle.nodes.specs.Walk.{tested, finished, Walk, fail, leave, first, second
 use Rattle.nodes.proofs.Node.{start-is, set-is}
 use Rattle.nodes.proofs.Verdicts.{says, said}
 use Rattle.nodes.proofs.Walk.{walks}
-use Rattle.verdicts.specs.Meaning.{Faithful}
+use Rattle.verdicts.specs.Meaning.{FaithfulLook}
 use Rattle.verdicts.proofs.Fillings.{fills-side, fills-start, filling, filling-fills}
 
 -- ---- what a walk says
@@ -28,7 +28,7 @@ fails (fail e) i = (i, e)
 fails (first {x = at} e f w) i = fails w (set-is at 0 (omega arith) i)
 fails (second {x = at} e f w v) i = fails v (set-is at 1 (omega arith) i)
 
-module _ {n : ℕ} {look : Look} {Detected : Vector → Type 0} (M : Faithful n look Detected) where
+module _ {n : ℕ} {look : Look} {Detected : Vector → Type 0} (M : FaithfulLook n look Detected) where
   -- where there is none, no filling detects
   pub none : {s : Node} {l : List Node} → Walk look s l finished → IsNode n s → (x : Vector) → Fills s x → Detected x → ⊥
   none (leave {s = s} e) i x f = M .left s i e x f

@@ -27,15 +27,15 @@ use Rattle.nodes.proofs.Node.{start-is}
 use Rattle.nodes.proofs.Walk.{answers}
 use Rattle.nodes.proofs.Budget as budget
 use Rattle.search.specs.declared.Searched.the-variants as searched
-use Rattle.search.specs.Promise.{restRules, searchRules, look, verdictFor, testFor, workFor, Searches}
+use Rattle.search.specs.Promise.{searchRestRules, searchRules, look, verdictFor, testFor, workFor, Searches}
 use Rattle.search.proofs.Answer.{ruled}
-use Rattle.verdicts.specs.Meaning.{Faithful}
+use Rattle.verdicts.specs.Meaning.{FaithfulLook}
 use Rattle.verdicts.specs.Told.{Tells, allNodes, works}
 use Rattle.verdicts.proofs.Look.{means}
 use Rattle.verdicts.proofs.Meaning as meaning
 
 -- a node of an accepted circuit and fault means what it says
-pub accepted-means : (c f : List ℕ) → refusal (circuitRules c) ≡ Ruling.Fine → refusal (faultRules 1 c f) ≡ Ruling.Fine → Faithful (inputsOf c) (look c (faultAt f 0)) (Tells c (faultAt f 0))
+pub accepted-means : (c f : List ℕ) → refusal (circuitRules c) ≡ Ruling.Fine → refusal (faultRules 1 c f) ≡ Ruling.Fine → FaithfulLook (inputsOf c) (look c (faultAt f 0)) (Tells c (faultAt f 0))
 accepted-means c f circuit fault =
     let g = good-faults 1 c f fault in
     means (faultAt f 0) c (linesOf c) (g .faults 0 (omega (arith, g .records .some)) .value) (good c circuit .well)
@@ -47,9 +47,9 @@ module _ {c f : List ℕ} {b : ℕ} {t w : List ℕ} {v : Verdict} {t′ w′ : 
       let e : searched.Verdict v ≡ searched.Verdict (verdictFor c (faultAt f 0) b) = p .answer ∙ rw q in
       (q, cc)
 
-  node-means : Faithful (inputsOf c) (look c (faultAt f 0)) (Tells c (faultAt f 0))
+  node-means : FaithfulLook (inputsOf c) (look c (faultAt f 0)) (Tells c (faultAt f 0))
   node-means =
-      let a = both-fine (circuitRules c) (restRules c f (inputsOf c) (linesOf c) (length t) (length w)) (fine .0) in
+      let a = both-fine (circuitRules c) (searchRestRules c f (inputsOf c) (linesOf c) (length t) (length w)) (fine .0) in
       accepted-means c f (a .0) (both-fine (faultRules 1 c f) _ (a .1) .0)
 
   -- the verdict is the definition's

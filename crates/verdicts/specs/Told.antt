@@ -8,7 +8,7 @@ use Rattle.lists.specs.declared.Fault.{Fault}
 use Rattle.simulate.specs.Boolean.{Vector, Detects}
 use Rattle.nodes.specs.Node.{Node, start}
 use Rattle.nodes.specs.Order.{trail}
-use Rattle.sides.specs.Look.{workOf}
+use Rattle.sides.specs.Look.{lookWork}
 use Rattle.search.specs.Promise.{look}
 
 -- the vector x tells good from faulty, in the Boolean meaning
@@ -21,4 +21,4 @@ allNodes c fault = length (trail (look c fault) (start (inputsOf c)))
 
 -- good and faulty values of a node
 abbrev pub works : List ℕ → Fault → Node → List ℕ
-works c fault s = workOf fault c (linesOf c) s
+works c fault s = lookWork fault c (linesOf c) s

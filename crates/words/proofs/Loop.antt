@@ -15,8 +15,8 @@ use Rattle.ground.specs.Lists.{collect}
 use Rattle.ground.proofs.Counting.{count-most}
 use Rattle.ground.proofs.Lists.{Collected, collected-none, collected-more}
 use Rattle.ground.proofs.Collect.{collect-no}
-use Rattle.words.specs.Words.{wordByte, mode, modeTo, begins, feeds, wordsTo, wordsOf, endsOf}
-use Rattle.words.specs.Owed.{Room, Cut}
+use Rattle.words.specs.Words.{wordByte, mode, modeTo, begins, feeds, wordsTo, wordsIn, endsIn}
+use Rattle.words.specs.Owed.{CutRoom, CutDone}
 use Rattle.words.proofs.Halves.{half}
 
 pub record SoFar (t ws es : List ℕ) (m w k i : ℕ) : Type 0 where
@@ -30,7 +30,7 @@ pub record SoFar (t ws es : List ℕ) (m w k i : ℕ) : Type 0 where
   pub words-are : Collected (begins t) (λ i. i) ws w i
   pub ends-are : Collected (feeds t) (wordsTo t) es k i
 
-pub start : {t ws es : List ℕ} → Room t ws es → SoFar t ws es 0 0 0 0
+pub start : {t ws es : List ℕ} → CutRoom t ws es → SoFar t ws es 0 0 0 0
 unfolding modeTo
 start r = record {
   at-most = omega arith;
@@ -87,8 +87,8 @@ module _ {t ws es : List ℕ} {m w k i : ℕ} (s : SoFar t ws es m w k i) (l : i
         ends-are = ends-next;
       })
 
-pub finished : {t ws es : List ℕ} {m w k i : ℕ} → SoFar t ws es m w k i → length t ≤ i → Cut t ws (set es k w) w (k + 1)
-unfolding wordsOf endsOf
+pub finished : {t ws es : List ℕ} {m w k i : ℕ} → SoFar t ws es m w k i → length t ≤ i → CutDone t ws (set es k w) w (k + 1)
+unfolding wordsIn endsIn
 finished {t} {ws} {es} {m} {w} {k} {i} s h =
     let e : i ≡ length t = omega (arith, s .at-most) in
     record {

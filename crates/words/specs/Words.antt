@@ -56,9 +56,9 @@ abbrev pub wordsTo : List ℕ → ℕ → ℕ
 wordsTo t i = countBelow i (begins t)
 
 -- the first bytes of the words
-unfoldable pub wordsOf : List ℕ → List ℕ
-wordsOf t = collect (begins t) (λ i. i) (length t)
+unfoldable pub wordsIn : List ℕ → List ℕ
+wordsIn t = collect (begins t) (λ i. i) (length t)
 
 -- how many words stand before the end of each line; the last line ends with the text
-unfoldable pub endsOf : List ℕ → List ℕ
-endsOf t = collect (feeds t) (wordsTo t) (length t) ++ (wordsTo t (length t) ∷ [])
+unfoldable pub endsIn : List ℕ → List ℕ
+endsIn t = collect (feeds t) (wordsTo t) (length t) ++ (wordsTo t (length t) ∷ [])

@@ -9,7 +9,7 @@ ghost use lib.Dec.{eqb};
 ghost use lib.ListN.{length, getD, set};
 ghost use Rattle.ground.specs.Choose.{choose, one};
 ghost use Rattle.words.specs.Words.{wordByte, wordAt, same, mode};
-ghost use Rattle.words.specs.Owed.{Room, Cut, Keyword, WordTable};
+ghost use Rattle.words.specs.Owed.{CutRoom, CutDone, KeywordReady, WordTable};
 
 // A letter, a digit or _.
 pub fn is_word(b: u8) -> bool
@@ -64,7 +64,7 @@ pub fn same_word(text: &[u8], i: usize, j: usize) -> bool
 
 // Whether the word at a place is this one.
 pub fn is_name(text: &[u8], at: usize, name: &[u8]) -> bool
-    requires { ⌜ Keyword (now name) at ⌝ }
+    requires { ⌜ KeywordReady (now name) at ⌝ }
     ensures { λ r. ⌜ r ≡ same (wordAt (now (text .entry)) at) (now (name .entry)) ⌝ }
 {
     let mut k = 0;
@@ -151,8 +151,8 @@ pub struct Found {
 
 // Writes where each word begins, and how many words stand before each line's end. The table is made once, before the first byte.
 pub fn cut(text: &[u8], words: &mut [u16], ends: &mut [u16]) -> Found
-    requires { ⌜ Room (now text) (now words) (now ends) ⌝ }
-    ensures { λ r. ⌜ Cut (now (text .entry)) (now (words .exit)) (now (ends .exit)) (r .words) (r .lines) ⌝ }
+    requires { ⌜ CutRoom (now text) (now words) (now ends) ⌝ }
+    ensures { λ r. ⌜ CutDone (now (text .entry)) (now (words .exit)) (now (ends .exit)) (r .words) (r .lines) ⌝ }
 {
     let table = word_table();
     let mut m = 0;

@@ -7,15 +7,9 @@ use borrow.Author.Needs.{needs}
 use Rattle.answers.proofs.records_ok.Statement.{statement}
 use Rattle.answers.proofs.records_ok.Tie as tie
 
-rem-if1 : tie.Need-rem-if1
-rem-if1 c = search needs
-
 returns : tie.Need-returns
 unfolding recordsOk
 returns c = simp (ne-eqb _ _ (c .if1 .taken))
-
-div-n : tie.Need-div-n
-div-n c = search needs
 
 returns-2 : tie.Need-returns-2
 unfolding recordsOk
@@ -26,4 +20,4 @@ unfolding recordsOk
 returns-3 c = simp (eq-eqb _ _ (c .before .if1 .left), some _ (c .if2 .left))
 
 pub records-ok-spec : {M : Type 1} → statement M
-records-ok-spec = tie.close (tie.spec rem-if1 returns div-n returns-2 returns-3)
+records-ok-spec = tie.close (tie.spec (λ c. search needs) returns (λ c. search needs) returns-2 returns-3)

@@ -7,23 +7,11 @@ use borrow.Author.Needs.{needs}
 use Rattle.bench.proofs.bench.Statement.{statement}
 use Rattle.bench.proofs.bench.Tie as tie
 
-check-text-requires : tie.Need-check-text-requires
-check-text-requires c κs = search needs
-
-enum-known-v : tie.Need-enum-known-v
-enum-known-v c = search needs
-
-enum-told : tie.Need-enum-told
-enum-told c = search needs
-
 read-words-requires : tie.Need-read-words-requires
 read-words-requires c κs = right-text _ (sym (c .before .before .before .check-text .ensures) ∙ c .before .enum-told .given .1) .room
 
 returns : tie.Need-returns
 returns c = reads (first-refused _ _ (sym (c .before .before .before .check-text .ensures) ∙ c .before .v .given .1))
-
-same-length : tie.Need-same-length
-same-length c = search needs
 
 returns-2 : tie.Need-returns-2
 returns-2 c =
@@ -36,10 +24,10 @@ pub bench-spec : {M : Type 1} → statement M
 bench-spec =
     tie.close
     (tie.spec
-    check-text-requires
-    enum-known-v
-    enum-told
+    (λ c κs. search needs)
+    (λ c. search needs)
+    (λ c. search needs)
     read-words-requires
     returns
-    same-length
+    (λ c. search needs)
     returns-2)

@@ -17,16 +17,10 @@ put-defs-requires c κs =
     let p = c .before .before .before .before .before .before .before .before .before .pre in
     defs-room (p .0 .0) (p .0 .1) (p .1 .0) (p .1 .1)
 
-slice-reshare-prefix-read-uses : tie.Need-slice-reshare-prefix-read-uses
-slice-reshare-prefix-read-uses c = search needs
-
 slice-aggregate-read-uses : tie.Need-slice-aggregate-read-uses
 slice-aggregate-read-uses c =
     let defs = c .before .before .before .before .before in
     sym (length-take-le _ _ (omega (arith, defs .put-defs .ensures .few, entry defs .pre .1 .0)))
-
-slice-reshare-prefix-read-uses-2 : tie.Need-slice-reshare-prefix-read-uses-2
-slice-reshare-prefix-read-uses-2 c = search needs
 
 slice-aggregate-read-uses-2 : tie.Need-slice-aggregate-read-uses-2
 slice-aggregate-read-uses-2 c =
@@ -39,29 +33,17 @@ read-uses-requires c κs =
     let p = entry defs .pre in
     (defined (p .0 .0) (p .0 .1) (defs .put-defs .ensures), p .0 .1)
 
-same-length : tie.Need-same-length
-same-length c = search needs
-
-same-length-2 : tie.Need-same-length-2
-same-length-2 c = search needs
-
-same-length-3 : tie.Need-same-length-3
-same-length-3 c = search needs
-
-returns : tie.Need-returns
-returns c = search needs
-
 pub read-defs-in-spec : {M : Type 1} → statement M
 read-defs-in-spec =
     tie.close
     (tie.spec
     put-defs-requires
-    slice-reshare-prefix-read-uses
+    (λ c. search needs)
     slice-aggregate-read-uses
-    slice-reshare-prefix-read-uses-2
+    (λ c. search needs)
     slice-aggregate-read-uses-2
     read-uses-requires
-    same-length
-    same-length-2
-    same-length-3
-    returns)
+    (λ c. search needs)
+    (λ c. search needs)
+    (λ c. search needs)
+    (λ c. search needs))

@@ -34,12 +34,6 @@ read-net-requires c κs =
     let p = entry kinds .pre in
     rw (net-is (p .0) _ (kinds .put-kinds .ensures)) (resolved (p .0))
 
-same-length : tie.Need-same-length
-same-length c = search needs
-
-same-length-2 : tie.Need-same-length-2
-same-length-2 c = search needs
-
 returns : tie.Need-returns
 returns c =
     let kinds = c .before .before .before .before .before .before .before in
@@ -53,6 +47,6 @@ read-kinds-in-spec =
     slice-reshare-prefix-read-net
     slice-aggregate-read-net
     read-net-requires
-    same-length
-    same-length-2
+    (λ c. search needs)
+    (λ c. search needs)
     returns)

@@ -8,27 +8,18 @@ use borrow.Author.Needs.{needs}
 use Rattle.bench.proofs.read_lines.Statement.{statement}
 use Rattle.bench.proofs.read_lines.Tie as tie
 
-array-borrow-prefix-forms : tie.Need-array-borrow-prefix-forms
-array-borrow-prefix-forms c = search needs
-
 slice-aggregate-read-lines-in : tie.Need-slice-aggregate-read-lines-in
 slice-aggregate-read-lines-in c = sym (length-take-le _ _ (omega arith))
 
 read-lines-in-requires : tie.Need-read-lines-in-requires
 read-lines-in-requires c κs = let s = c .before .before .before .before .before .before in (s .pre .0, length-take-le (length (s .args .ends .now)) (replicate 32769 0) (omega arith), s .pre .1)
 
-same-length : tie.Need-same-length
-same-length c = search needs
-
-returns : tie.Need-returns
-returns c = search needs
-
 pub read-lines-spec : {M : Type 1} → statement M
 read-lines-spec =
     tie.close
     (tie.spec
-    array-borrow-prefix-forms
+    (λ c. search needs)
     slice-aggregate-read-lines-in
     read-lines-in-requires
-    same-length
-    returns)
+    (λ c. search needs)
+    (λ c. search needs))

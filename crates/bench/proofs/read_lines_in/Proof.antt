@@ -5,9 +5,6 @@ use borrow.Author.Needs.{needs}
 use Rattle.bench.proofs.read_lines_in.Statement.{statement}
 use Rattle.bench.proofs.read_lines_in.Tie as tie
 
-put-forms-requires : tie.Need-put-forms-requires
-put-forms-requires c κs = search needs
-
 read-defs-requires : tie.Need-read-defs-requires
 read-defs-requires c κs = (
   told (c .before .before .before .before .before .before .before .before .before .before .before .pre .0)
@@ -15,15 +12,6 @@ read-defs-requires c κs = (
   c .before .before .before .before .put-forms .ensures .gates-are,
 )
 
-same-length : tie.Need-same-length
-same-length c = search needs
-
-same-length-2 : tie.Need-same-length-2
-same-length-2 c = search needs
-
-returns : tie.Need-returns
-returns c = search needs
-
 pub read-lines-in-spec : {M : Type 1} → statement M
 read-lines-in-spec =
-    tie.close (tie.spec put-forms-requires read-defs-requires same-length same-length-2 returns)
+    tie.close (tie.spec (λ c κs. search needs) read-defs-requires (λ c. search needs) (λ c. search needs) (λ c. search needs))

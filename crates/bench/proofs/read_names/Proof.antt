@@ -52,12 +52,6 @@ read-names-in-requires c κs =
     let outs = length-take-le {A = ℕ} (length (s .args .outs .now)) (replicate 8192 0) (omega (arith, f .2)) in
     (s .pre, (gates, gates ∙ sym (f .1), outs))
 
-same-length : tie.Need-same-length
-same-length c = search needs
-
-returns : tie.Need-returns
-returns c = search needs
-
 pub read-names-spec : {M : Type 1} → statement M
 read-names-spec =
     tie.close
@@ -69,5 +63,5 @@ read-names-spec =
     array-borrow-prefix-o
     slice-aggregate-read-names-in-3
     read-names-in-requires
-    same-length
-    returns)
+    (λ c. search needs)
+    (λ c. search needs))

@@ -20,12 +20,6 @@ resolve-requires c κs =
     let p = c .before .before .before .before .before .before .before .before .before .before .before .before .before .before .before .before .pre in
     unresolved (p .0 .0) (p .0 .1) (p .1 .2) (p .1 .0) (p .1 .1)
 
-enum-known-v : tie.Need-enum-known-v
-enum-known-v c = search needs
-
-enum-told : tie.Need-enum-told
-enum-told c = search needs
-
 read-kinds-requires : tie.Need-read-kinds-requires
 read-kinds-requires c κs =
     let told = c .before .before .before .before in
@@ -33,32 +27,11 @@ read-kinds-requires c κs =
     let p = entry resolved .pre in
     named (p .0 .0) (p .0 .1) (resolved .resolve .ensures) (told .enum-told .given .1)
 
-same-length : tie.Need-same-length
-same-length c = search needs
-
-same-length-2 : tie.Need-same-length-2
-same-length-2 c = search needs
-
-same-length-3 : tie.Need-same-length-3
-same-length-3 c = search needs
-
 returns : tie.Need-returns
 returns c =
     let resolved = c .before .before .before .before .before .before .before .before .before in
     let p = entry resolved .pre in
     first-refused _ _ (sym (names-ruling (p .0 .0) (p .0 .1) (resolved .resolve .ensures)) ∙ c .before .v .given .1)
-
-same-length-4 : tie.Need-same-length-4
-same-length-4 c = search needs
-
-same-length-5 : tie.Need-same-length-5
-same-length-5 c = search needs
-
-same-length-6 : tie.Need-same-length-6
-same-length-6 c = search needs
-
-same-length-7 : tie.Need-same-length-7
-same-length-7 c = search needs
 
 returns-2 : tie.Need-returns-2
 returns-2 c =
@@ -73,15 +46,15 @@ read-names-in-spec =
     tie.close
     (tie.spec
     resolve-requires
-    enum-known-v
-    enum-told
+    (λ c. search needs)
+    (λ c. search needs)
     read-kinds-requires
-    same-length
-    same-length-2
-    same-length-3
+    (λ c. search needs)
+    (λ c. search needs)
+    (λ c. search needs)
     returns
-    same-length-4
-    same-length-5
-    same-length-6
-    same-length-7
+    (λ c. search needs)
+    (λ c. search needs)
+    (λ c. search needs)
+    (λ c. search needs)
     returns-2)

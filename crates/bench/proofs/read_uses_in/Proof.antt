@@ -54,9 +54,6 @@ slice-aggregate-read-names-2 c =
     let p = start (c .before .before .before .before) .pre in
     sym (length-take-le _ _ (omega (arith, gates-few (p .0 .0 .told) (p .0 .1), p .1 .1)))
 
-slice-reshare-prefix-read-names-3 : tie.Need-slice-reshare-prefix-read-names-3
-slice-reshare-prefix-read-names-3 c = search needs
-
 slice-aggregate-read-names-3 : tie.Need-slice-aggregate-read-names-3
 slice-aggregate-read-names-3 c =
     let outs = c .before .before .before .before .before in
@@ -67,21 +64,6 @@ read-names-requires c κs =
     let outs = c .before .before .before .before .before .before in
     let p = start outs .pre in
     (p .0 .0, used (p .0 .0 .told) (p .0 .1) (outs .put-outs .ensures) (sources-of outs .put-sources .ensures))
-
-same-length : tie.Need-same-length
-same-length c = search needs
-
-same-length-2 : tie.Need-same-length-2
-same-length-2 c = search needs
-
-same-length-3 : tie.Need-same-length-3
-same-length-3 c = search needs
-
-same-length-4 : tie.Need-same-length-4
-same-length-4 c = search needs
-
-returns : tie.Need-returns
-returns c = search needs
 
 pub read-uses-in-spec : {M : Type 1} → statement M
 read-uses-in-spec =
@@ -94,11 +76,11 @@ read-uses-in-spec =
     slice-aggregate-read-names
     slice-reshare-prefix-read-names-2
     slice-aggregate-read-names-2
-    slice-reshare-prefix-read-names-3
+    (λ c. search needs)
     slice-aggregate-read-names-3
     read-names-requires
-    same-length
-    same-length-2
-    same-length-3
-    same-length-4
-    returns)
+    (λ c. search needs)
+    (λ c. search needs)
+    (λ c. search needs)
+    (λ c. search needs)
+    (λ c. search needs))

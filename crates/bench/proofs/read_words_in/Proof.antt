@@ -12,19 +12,10 @@ use Rattle.bench.proofs.read_words_in.Tie as tie
 abbrev entry : tie.After-cut → tie.Start
 entry c = c .before .before .before .before .before .before .before
 
-cut-requires : tie.Need-cut-requires
-cut-requires c κs = search needs
-
-slice-reshare-prefix-read-lines : tie.Need-slice-reshare-prefix-read-lines
-slice-reshare-prefix-read-lines c = search needs
-
 slice-aggregate-read-lines : tie.Need-slice-aggregate-read-lines
 slice-aggregate-read-lines c =
     let cut = c .before .before .before .before .before in
     sym (length-take-le _ _ (omega (arith, cut .cut .ensures .most-words, entry cut .pre .for-words)))
-
-slice-reshare-prefix-read-lines-2 : tie.Need-slice-reshare-prefix-read-lines-2
-slice-reshare-prefix-read-lines-2 c = search needs
 
 slice-aggregate-read-lines-2 : tie.Need-slice-aggregate-read-lines-2
 slice-aggregate-read-lines-2 c =
@@ -36,29 +27,17 @@ read-lines-requires c κs =
     let cut = c .before .before .before .before .before .before .before in
     (lined (entry cut .pre .short) (cut .cut .ensures), few-lines _ _ (cut .cut .ensures .most-lines))
 
-same-length : tie.Need-same-length
-same-length c = search needs
-
-same-length-2 : tie.Need-same-length-2
-same-length-2 c = search needs
-
-same-length-3 : tie.Need-same-length-3
-same-length-3 c = search needs
-
-returns : tie.Need-returns
-returns c = search needs
-
 pub read-words-in-spec : {M : Type 1} → statement M
 read-words-in-spec =
     tie.close
     (tie.spec
-    cut-requires
-    slice-reshare-prefix-read-lines
+    (λ c κs. search needs)
+    (λ c. search needs)
     slice-aggregate-read-lines
-    slice-reshare-prefix-read-lines-2
+    (λ c. search needs)
     slice-aggregate-read-lines-2
     read-lines-requires
-    same-length
-    same-length-2
-    same-length-3
-    returns)
+    (λ c. search needs)
+    (λ c. search needs)
+    (λ c. search needs)
+    (λ c. search needs))

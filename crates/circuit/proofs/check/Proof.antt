@@ -6,24 +6,6 @@ use Rattle.circuit.proofs.Answer.{checks, layout-refused, layout-fine}
 use Rattle.circuit.proofs.check.Statement.{statement}
 use Rattle.circuit.proofs.check.Tie as tie
 
-check-layout-requires : tie.Need-check-layout-requires
-check-layout-requires c κs = search needs
-
-enum-known-v : tie.Need-enum-known-v
-enum-known-v c = search needs
-
-enum-told : tie.Need-enum-told
-enum-told c = search needs
-
-count-lines-requires : tie.Need-count-lines-requires
-count-lines-requires c κs = search needs
-
-count-lines-requires-2 : tie.Need-count-lines-requires-2
-count-lines-requires-2 c κs = search needs
-
-counted-requires : tie.Need-counted-requires
-counted-requires c κs = search needs
-
 returns : tie.Need-returns
 returns c = checks _ (layout-refused _ _ _ (sym (c .before .before .before .check-layout .ensures) ∙ c .before .v .given .1))
 
@@ -40,11 +22,11 @@ pub check-spec : {M : Type 1} → statement M
 check-spec =
     tie.close
     (tie.spec
-    check-layout-requires
-    enum-known-v
-    enum-told
-    count-lines-requires
-    count-lines-requires-2
-    counted-requires
+    (λ c κs. search needs)
+    (λ c. search needs)
+    (λ c. search needs)
+    (λ c κs. search needs)
+    (λ c κs. search needs)
+    (λ c κs. search needs)
     returns
     returns-2)

@@ -8,15 +8,9 @@ use Rattle.answers.proofs.Places.{whole-broken, place-broken, none-broken}
 use Rattle.circuit.proofs.check_layout.Statement.{statement}
 use Rattle.circuit.proofs.check_layout.Tie as tie
 
-records-ok-requires : tie.Need-records-ok-requires
-records-ok-requires c κs = search needs
-
 returns : tie.Need-returns
 unfolding layoutRules
 returns c = whole-broken _ refl (sym (c .before .records-ok .ensures) ∙ not-true _ (c .if1 .taken))
-
-first-bad-line-requires : tie.Need-first-bad-line-requires
-first-bad-line-requires c κs = search needs
 
 returns-2 : tie.Need-returns-2
 unfolding layoutRules
@@ -28,4 +22,4 @@ returns-3 c = none-broken _ refl (sym (c .before .before .before .records-ok .en
 
 pub check-layout-spec : {M : Type 1} → statement M
 check-layout-spec =
-    tie.close (tie.spec records-ok-requires returns first-bad-line-requires returns-2 returns-3)
+    tie.close (tie.spec (λ c κs. search needs) returns (λ c κs. search needs) returns-2 returns-3)

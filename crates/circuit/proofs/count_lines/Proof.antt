@@ -17,26 +17,8 @@ abbrev μ-loop : tie.MeasureT-loop
 loop-holds : tie.Need-loop-holds Inv-loop μ-loop
 loop-holds c = no-sum _ _
 
-mul-equal : tie.Need-mul-equal Inv-loop μ-loop
-mul-equal c = omega arith
-
-add-equal : tie.Need-add-equal Inv-loop μ-loop
-add-equal c = omega arith
-
-shared-slice-read-equal : tie.Need-shared-slice-read-equal Inv-loop μ-loop
-shared-slice-read-equal c = omega arith
-
-equal-requires : tie.Need-equal-requires Inv-loop μ-loop
-equal-requires c κs = search needs
-
 add-r : tie.Need-add-r Inv-loop μ-loop
 add-r c = omega (arith, sum-small (c .before .before .before .loop .inv))
-
-add-k : tie.Need-add-k Inv-loop μ-loop
-add-k c = omega arith
-
-loop-less : tie.Need-loop-less Inv-loop μ-loop
-loop-less c = omega arith
 
 loop-again : tie.Need-loop-again Inv-loop μ-loop
 loop-again c = sum-more (c .before .before .before .loop .inv) (omega arith) (c .equal .ensures .0)
@@ -51,12 +33,12 @@ count-lines-spec =
     Inv-loop
     μ-loop
     loop-holds
-    mul-equal
-    add-equal
-    shared-slice-read-equal
-    equal-requires
+    (λ c. omega arith)
+    (λ c. omega arith)
+    (λ c. omega arith)
+    (λ c κs. search needs)
     add-r
-    add-k
-    loop-less
+    (λ c. omega arith)
+    (λ c. omega arith)
     loop-again
     returns)

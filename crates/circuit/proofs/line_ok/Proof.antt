@@ -27,31 +27,13 @@ out-kept c = le-leb _ _ (c .if2 .left)
 first-kept : (c : tie.Else3) → pinOk (entry (c .before .before) .args .circuit .now) (entry (c .before .before) .args .k) 1 ≡ true
 first-kept c = sym (c .before .pin-ok .ensures) ∙ not-false _ (c .if3 .left)
 
-mul-if1 : tie.Need-mul-if1
-mul-if1 c = search needs
-
-shared-slice-read-if1 : tie.Need-shared-slice-read-if1
-shared-slice-read-if1 c = search needs
-
 returns : tie.Need-returns
 unfolding lineOk fieldOk
 returns c = simp (lt-leb _ _ (c .if1 .taken))
 
-mul-if2 : tie.Need-mul-if2
-mul-if2 c = search needs
-
-add-if2 : tie.Need-add-if2
-add-if2 c = search needs
-
-shared-slice-read-if2 : tie.Need-shared-slice-read-if2
-shared-slice-read-if2 c = search needs
-
 returns-2 : tie.Need-returns-2
 unfolding lineOk fieldOk
 returns-2 c = simp (le-leb _ _ (c .before .before .if1 .left), lt-leb _ _ (c .if2 .taken))
-
-pin-ok-requires : tie.Need-pin-ok-requires
-pin-ok-requires c κs = search needs
 
 returns-3 : tie.Need-returns-3
 unfolding lineOk fieldOk
@@ -59,18 +41,12 @@ returns-3 c =
     let out = c .before .before in
     simp (kind-kept out, out-kept out, sym (c .before .pin-ok .ensures) ∙ not-true _ (c .if3 .taken))
 
-pin-ok-requires-2 : tie.Need-pin-ok-requires-2
-pin-ok-requires-2 c κs = search needs
-
 returns-4 : tie.Need-returns-4
 unfolding lineOk fieldOk
 returns-4 c =
     let first = c .before .before in
     let out = first .before .before in
     simp (kind-kept out, out-kept out, first-kept first, sym (c .before .pin-ok2 .ensures) ∙ not-true _ (c .if4 .taken))
-
-pin-ok-requires-3 : tie.Need-pin-ok-requires-3
-pin-ok-requires-3 c κs = search needs
 
 returns-5 : tie.Need-returns-5
 unfolding lineOk fieldOk
@@ -85,16 +61,16 @@ pub line-ok-spec : {M : Type 1} → statement M
 line-ok-spec =
     tie.close
     (tie.spec
-    mul-if1
-    shared-slice-read-if1
+    (λ c. search needs)
+    (λ c. search needs)
     returns
-    mul-if2
-    add-if2
-    shared-slice-read-if2
+    (λ c. search needs)
+    (λ c. search needs)
+    (λ c. search needs)
     returns-2
-    pin-ok-requires
+    (λ c κs. search needs)
     returns-3
-    pin-ok-requires-2
+    (λ c κs. search needs)
     returns-4
-    pin-ok-requires-3
+    (λ c κs. search needs)
     returns-5)

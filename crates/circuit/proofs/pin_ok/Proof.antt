@@ -5,14 +5,8 @@ use Rattle.circuit.proofs.Lines.{limit-ok}
 use Rattle.circuit.proofs.pin_ok.Statement.{statement}
 use Rattle.circuit.proofs.pin_ok.Tie as tie
 
-source-requires : tie.Need-source-requires
-source-requires c κs = search needs
-
-limit-requires : tie.Need-limit-requires
-limit-requires c κs = search needs
-
 returns : tie.Need-returns
 returns c = rw (c .before .source .ensures, c .limit .ensures) (limit-ok _ _ _)
 
 pub pin-ok-spec : {M : Type 1} → statement M
-pin-ok-spec = tie.close (tie.spec source-requires limit-requires returns)
+pin-ok-spec = tie.close (tie.spec (λ c κs. search needs) (λ c κs. search needs) returns)

@@ -6,15 +6,6 @@ use Rattle.clauses.proofs.Answer.{counted, first-refused, first-fine, o
 use Rattle.clauses.proofs.accepted.Statement.{statement}
 use Rattle.clauses.proofs.accepted.Tie as tie
 
-check-faults-requires : tie.Need-check-faults-requires
-check-faults-requires c κs = search needs
-
-enum-known-v : tie.Need-enum-known-v
-enum-known-v c = search needs
-
-enum-told : tie.Need-enum-told
-enum-told c = search needs
-
 read-fault-requires : tie.Need-read-fault-requires
 read-fault-requires c κs = one-fault _ _ (sym (c .before .before .check-faults .ensures) ∙ c .enum-told .given .1)
 
@@ -23,9 +14,6 @@ fitted-requires c κs = counted (c .before .before .before .before .before .befo
 
 returns : tie.Need-returns
 returns c = first-refused _ _ (sym (c .before .before .before .check-faults .ensures) ∙ c .before .v .given .1)
-
-same-length : tie.Need-same-length
-same-length c = search needs
 
 returns-2 : tie.Need-returns-2
 returns-2 c =
@@ -39,11 +27,11 @@ pub accepted-spec : {M : Type 1} → statement M
 accepted-spec =
     tie.close
     (tie.spec
-    check-faults-requires
-    enum-known-v
-    enum-told
+    (λ c κs. search needs)
+    (λ c. search needs)
+    (λ c. search needs)
     read-fault-requires
     fitted-requires
     returns
-    same-length
+    (λ c. search needs)
     returns-2)

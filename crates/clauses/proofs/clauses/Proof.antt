@@ -7,23 +7,11 @@ use Rattle.circuit.proofs.Accepted.{accepts, refuses}
 use Rattle.clauses.proofs.clauses.Statement.{statement}
 use Rattle.clauses.proofs.clauses.Tie as tie
 
-check-requires : tie.Need-check-requires
-check-requires c κs = search needs
-
-enum-known-v : tie.Need-enum-known-v
-enum-known-v c = search needs
-
-enum-known-v-2 : tie.Need-enum-known-v-2
-enum-known-v-2 c = search needs
-
 accepted-requires : tie.Need-accepted-requires
 accepted-requires c κs = any-inputs (accepts _ _ _ _ (sym (c .before .before .v2 .given .1) ∙ c .before .before .before .before .check .ensures .answer))
 
 returns : tie.Need-returns
 returns c = writes (first-refused _ _ (refuses _ _ _ (sym (c .before .v .given .1) ∙ c .before .before .before .check .ensures .answer)))
-
-same-length : tie.Need-same-length
-same-length c = search needs
 
 returns-2 : tie.Need-returns-2
 returns-2 c =
@@ -34,10 +22,10 @@ pub clauses-spec : {M : Type 1} → statement M
 clauses-spec =
     tie.close
     (tie.spec
-    check-requires
-    enum-known-v
-    enum-known-v-2
+    (λ c κs. search needs)
+    (λ c. search needs)
+    (λ c. search needs)
     accepted-requires
     returns
-    same-length
+    (λ c. search needs)
     returns-2)

@@ -6,26 +6,11 @@ use Rattle.clauses.proofs.Answer.{short, whole-room, fits}
 use Rattle.clauses.proofs.fitted.Statement.{statement}
 use Rattle.clauses.proofs.fitted.Tie as tie
 
-whole-size-requires : tie.Need-whole-size-requires
-whole-size-requires c κs = search needs
-
 returns : tie.Need-returns
 returns c = short (c .before .whole-size .ensures) (c .if1 .taken)
 
 put-all-requires : tie.Need-put-all-requires
 put-all-requires c κs = whole-room (c .before .before .before .before .pre) (c .before .before .whole-size .ensures) (c .before .if1 .left)
-
-mul-t8 : tie.Need-mul-t8
-mul-t8 c = search needs
-
-add-t13 : tie.Need-add-t13
-add-t13 c = search needs
-
-add-t14 : tie.Need-add-t14
-add-t14 c = omega arith
-
-same-length : tie.Need-same-length
-same-length c = search needs
 
 returns-2 : tie.Need-returns-2
 returns-2 c =
@@ -38,11 +23,11 @@ pub fitted-spec : {M : Type 1} → statement M
 fitted-spec =
     tie.close
     (tie.spec
-    whole-size-requires
+    (λ c κs. search needs)
     returns
     put-all-requires
-    mul-t8
-    add-t13
-    add-t14
-    same-length
+    (λ c. search needs)
+    (λ c. search needs)
+    (λ c. omega arith)
+    (λ c. search needs)
     returns-2)

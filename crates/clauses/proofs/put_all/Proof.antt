@@ -49,9 +49,6 @@ put-last-requires c κs =
     let g = goods s in
     room-last (entry g .pre) (g .put-goods .ensures) (s .put-stuck .ensures) (f .put-faulties .ensures) (d .put-differences .ensures)
 
-same-length : tie.Need-same-length
-same-length c = search needs
-
 returns : tie.Need-returns
 returns c =
     let l = c .before in
@@ -71,5 +68,5 @@ put-all-spec =
     put-faulties-requires
     put-differences-requires
     put-last-requires
-    same-length
+    (λ c. search needs)
     returns)

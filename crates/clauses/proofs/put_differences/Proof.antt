@@ -25,26 +25,8 @@ put-difference-requires c κs =
     let pre = turn .before .before .pre in
     difference-room (line-room (turn .loop .inv .0) (pre .circuit) (pre .room) (c .before .loop-test .taken)) (turn .loop .inv .1)
 
-mul-equal : tie.Need-mul-equal Inv-loop μ-loop
-mul-equal c = omega arith
-
-add-equal : tie.Need-add-equal Inv-loop μ-loop
-add-equal c = omega arith
-
-shared-slice-read-equal : tie.Need-shared-slice-read-equal Inv-loop μ-loop
-shared-slice-read-equal c = omega arith
-
-equal-requires : tie.Need-equal-requires Inv-loop μ-loop
-equal-requires c κs = omega arith
-
 add-j : tie.Need-add-j Inv-loop μ-loop
 add-j c = omega (arith, sum-small (c .before .before .before .before .before .before .loop .inv .1))
-
-add-k : tie.Need-add-k Inv-loop μ-loop
-add-k c = omega arith
-
-loop-less : tie.Need-loop-less Inv-loop μ-loop
-loop-less c = omega arith
 
 loop-again : tie.Need-loop-again Inv-loop μ-loop
 loop-again c =
@@ -67,13 +49,13 @@ put-differences-spec =
     μ-loop
     loop-holds
     put-difference-requires
-    mul-equal
-    add-equal
-    shared-slice-read-equal
-    equal-requires
+    (λ c. omega arith)
+    (λ c. omega arith)
+    (λ c. omega arith)
+    (λ c κs. omega arith)
     add-j
-    add-k
-    loop-less
+    (λ c. omega arith)
+    (λ c. omega arith)
     loop-again
     same-length
     returns)

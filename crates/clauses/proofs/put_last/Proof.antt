@@ -19,50 +19,17 @@ abbrev μ-loop : tie.MeasureT-loop
 loop-holds : tie.Need-loop-holds Inv-loop μ-loop
 loop-holds c = last-none _ _ _ _
 
-mul-plus : tie.Need-mul-plus Inv-loop μ-loop
-mul-plus c = omega arith
-
-add-plus : tie.Need-add-plus Inv-loop μ-loop
-add-plus c = omega arith
-
-add-plus-2 : tie.Need-add-plus-2 Inv-loop μ-loop
-add-plus-2 c = omega arith
-
 plus-requires : tie.Need-plus-requires Inv-loop μ-loop
 plus-requires c κs = variable (omega arith)
-
-add-z : tie.Need-add-z Inv-loop μ-loop
-add-z c = omega arith
-
-mul-z : tie.Need-mul-z Inv-loop μ-loop
-mul-z c = search needs
 
 slice-set-from-z : tie.Need-slice-set-from-z Inv-loop μ-loop
 slice-set-from-z c = omega (arith, put-long (c .before .before .loop .inv .put))
 
-add-j : tie.Need-add-j Inv-loop μ-loop
-add-j c = omega arith
-
-loop-less : tie.Need-loop-less Inv-loop μ-loop
-loop-less c = omega arith
-
 loop-again : tie.Need-loop-again Inv-loop μ-loop
 loop-again c = last-more (c .before .before .loop .inv) (omega arith) (rw (c .plus .ensures) (plus-is _ (variable (omega arith))))
 
-add-words : tie.Need-add-words Inv-loop μ-loop
-add-words c = omega arith
-
-mul-words : tie.Need-mul-words Inv-loop μ-loop
-mul-words c = search needs
-
 slice-set-of-words : tie.Need-slice-set-of-words Inv-loop μ-loop
 slice-set-of-words c = omega (arith, put-long (c .before .loop .inv .put))
-
-add-result : tie.Need-add-result Inv-loop μ-loop
-add-result c = omega arith
-
-add-result-2 : tie.Need-add-result-2 Inv-loop μ-loop
-add-result-2 c = omega arith
 
 same-length : tie.Need-same-length Inv-loop μ-loop
 same-length c = put-long (last-all (c .before .loop .inv) (omega arith))
@@ -77,20 +44,20 @@ put-last-spec =
     Inv-loop
     μ-loop
     loop-holds
-    mul-plus
-    add-plus
-    add-plus-2
+    (λ c. omega arith)
+    (λ c. omega arith)
+    (λ c. omega arith)
     plus-requires
-    add-z
-    mul-z
+    (λ c. omega arith)
+    (λ c. search needs)
     slice-set-from-z
-    add-j
-    loop-less
+    (λ c. omega arith)
+    (λ c. omega arith)
     loop-again
-    add-words
-    mul-words
+    (λ c. omega arith)
+    (λ c. search needs)
     slice-set-of-words
-    add-result
-    add-result-2
+    (λ c. omega arith)
+    (λ c. omega arith)
     same-length
     returns)

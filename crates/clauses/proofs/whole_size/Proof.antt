@@ -18,38 +18,8 @@ loop-holds c = size-none _ _ _
 line-size-requires : tie.Need-line-size-requires Inv-loop μ-loop
 line-size-requires c κs = record { circuit = c .before .before .before .pre .circuit; inside = c .loop-test .taken }
 
-add-words : tie.Need-add-words Inv-loop μ-loop
-add-words c = omega arith
-
-add-clauses : tie.Need-add-clauses Inv-loop μ-loop
-add-clauses c = omega arith
-
-add-k : tie.Need-add-k Inv-loop μ-loop
-add-k c = omega arith
-
-loop-less : tie.Need-loop-less Inv-loop μ-loop
-loop-less c = omega arith
-
 loop-again : tie.Need-loop-again Inv-loop μ-loop
 loop-again c = size-more (c .before .before .before .before .loop .inv) (c .before .before .before .loop-test .taken) (c .before .before .line-size .ensures)
-
-mul-t10 : tie.Need-mul-t10 Inv-loop μ-loop
-mul-t10 c = omega arith
-
-add-t11 : tie.Need-add-t11 Inv-loop μ-loop
-add-t11 c = omega arith
-
-add-t12 : tie.Need-add-t12 Inv-loop μ-loop
-add-t12 c = omega arith
-
-mul-t13 : tie.Need-mul-t13 Inv-loop μ-loop
-mul-t13 c = omega arith
-
-add-t14 : tie.Need-add-t14 Inv-loop μ-loop
-add-t14 c = omega arith
-
-add-t15 : tie.Need-add-t15 Inv-loop μ-loop
-add-t15 c = omega arith
 
 returns : tie.Need-returns Inv-loop μ-loop
 returns c = whole-takes (c .before .loop .inv) (c .loop-test .left) (c .before .before .before .pre .outputs-are)
@@ -62,15 +32,15 @@ whole-size-spec =
     μ-loop
     loop-holds
     line-size-requires
-    add-words
-    add-clauses
-    add-k
-    loop-less
+    (λ c. omega arith)
+    (λ c. omega arith)
+    (λ c. omega arith)
+    (λ c. omega arith)
     loop-again
-    mul-t10
-    add-t11
-    add-t12
-    mul-t13
-    add-t14
-    add-t15
+    (λ c. omega arith)
+    (λ c. omega arith)
+    (λ c. omega arith)
+    (λ c. omega arith)
+    (λ c. omega arith)
+    (λ c. omega arith)
     returns)

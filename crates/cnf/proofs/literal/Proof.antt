@@ -6,19 +6,13 @@ use Rattle.cnf.specs.Write.{signed}
 use Rattle.cnf.proofs.literal.Statement.{statement}
 use Rattle.cnf.proofs.literal.Tie as tie
 
-minus-requires : tie.Need-minus-requires
-minus-requires c κs = search needs
-
 returns : tie.Need-returns
 unfolding signed
 returns c = rw (c .before .if1 .taken) (minus-back (c .before .before .pre) (c .minus .ensures))
-
-plus-requires : tie.Need-plus-requires
-plus-requires c κs = search needs
 
 returns-2 : tie.Need-returns-2
 unfolding signed
 returns-2 c = rw (c .before .if1 .left) (plus-back (c .before .before .pre) (c .plus .ensures))
 
 pub literal-spec : {M : Type 1} → statement M
-literal-spec = tie.close (tie.spec minus-requires returns plus-requires returns-2)
+literal-spec = tie.close (tie.spec (λ c κs. search needs) returns (λ c κs. search needs) returns-2)

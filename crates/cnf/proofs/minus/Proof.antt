@@ -5,9 +5,6 @@ use Rattle.cnf.proofs.Signed.{taken-fits, taken-is}
 use Rattle.cnf.proofs.minus.Statement.{statement}
 use Rattle.cnf.proofs.minus.Tie as tie
 
-cast-result : tie.Need-cast-result
-cast-result c = search needs
-
 sub-result : tie.Need-sub-result
 sub-result c = taken-fits _ (c .pre)
 
@@ -15,4 +12,4 @@ returns : tie.Need-returns
 returns c = taken-is _ (c .pre)
 
 pub minus-spec : {M : Type 1} → statement M
-minus-spec = tie.close (tie.spec cast-result sub-result returns)
+minus-spec = tie.close (tie.spec (λ c. search needs) sub-result returns)

@@ -5,11 +5,8 @@ use Rattle.cnf.proofs.Signed.{plus-is}
 use Rattle.cnf.proofs.plus.Statement.{statement}
 use Rattle.cnf.proofs.plus.Tie as tie
 
-cast-result : tie.Need-cast-result
-cast-result c = search needs
-
 returns : tie.Need-returns
 returns c = plus-is _ (c .pre)
 
 pub plus-spec : {M : Type 1} → statement M
-plus-spec = tie.close (tie.spec cast-result returns)
+plus-spec = tie.close (tie.spec (λ c. search needs) returns)

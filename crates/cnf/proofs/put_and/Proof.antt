@@ -6,18 +6,6 @@ use Rattle.ground.proofs.Put.{put-then}
 use Rattle.cnf.proofs.put_and.Statement.{statement}
 use Rattle.cnf.proofs.put_and.Tie as tie
 
-put-pair-requires : tie.Need-put-pair-requires
-put-pair-requires c κs = search needs
-
-put-pair-requires-2 : tie.Need-put-pair-requires-2
-put-pair-requires-2 c κs = search needs
-
-put-triple-requires : tie.Need-put-triple-requires
-put-triple-requires c κs = search needs
-
-same-length : tie.Need-same-length
-same-length c = search needs
-
 returns : tie.Need-returns
 returns c =
     let third = c .before in
@@ -29,4 +17,4 @@ returns c =
 
 pub put-and-spec : {M : Type 1} → statement M
 put-and-spec =
-    tie.close (tie.spec put-pair-requires put-pair-requires-2 put-triple-requires same-length returns)
+    tie.close (tie.spec (λ c κs. search needs) (λ c κs. search needs) (λ c κs. search needs) (λ c. search needs) returns)

@@ -6,15 +6,6 @@ use Rattle.ground.proofs.Put.{put-then}
 use Rattle.cnf.proofs.put_buffer.Statement.{statement}
 use Rattle.cnf.proofs.put_buffer.Tie as tie
 
-put-pair-requires : tie.Need-put-pair-requires
-put-pair-requires c κs = search needs
-
-put-pair-requires-2 : tie.Need-put-pair-requires-2
-put-pair-requires-2 c κs = search needs
-
-same-length : tie.Need-same-length
-same-length c = search needs
-
 returns : tie.Need-returns
 returns c =
     let s = c .before .before .before .before .before .before in
@@ -22,4 +13,4 @@ returns c =
     (put-then (c .before .before .before .before .put-pair .ensures) (c .before .put-pair2 .ensures))
 
 pub put-buffer-spec : {M : Type 1} → statement M
-put-buffer-spec = tie.close (tie.spec put-pair-requires put-pair-requires-2 same-length returns)
+put-buffer-spec = tie.close (tie.spec (λ c κs. search needs) (λ c κs. search needs) (λ c. search needs) returns)

@@ -15,38 +15,11 @@ gate c = c .before .before .before .before .before .before .before .before
 returns : tie.Need-returns
 returns c = rw (no-shape _ _ _ _ (c .if1 .taken)) (put-none _ _)
 
-is-one-of-requires : tie.Need-is-one-of-requires
-is-one-of-requires c κs = search needs
-
-is-one-of-requires-2 : tie.Need-is-one-of-requires-2
-is-one-of-requires-2 c κs = search needs
-
-literal-requires : tie.Need-literal-requires
-literal-requires c κs = search needs
-
-literal-requires-2 : tie.Need-literal-requires-2
-literal-requires-2 c κs = search needs
-
-literal-requires-3 : tie.Need-literal-requires-3
-literal-requires-3 c κs = search needs
-
-literal-requires-4 : tie.Need-literal-requires-4
-literal-requires-4 c κs = search needs
-
-literal-requires-5 : tie.Need-literal-requires-5
-literal-requires-5 c κs = search needs
-
-literal-requires-6 : tie.Need-literal-requires-6
-literal-requires-6 c κs = search needs
-
 put-shape-requires : tie.Need-put-shape-requires
 put-shape-requires c κs =
     let some = gate (c .before) in
     let s = some .before in
     omega (arith, s .pre .room, shape-length _ (s .args .y) (s .args .a) (s .args .b) (s .pre .kind-last) (some .if1 .left))
-
-same-length : tie.Need-same-length
-same-length c = search needs
 
 returns-2 : tie.Need-returns-2
 returns-2 c =
@@ -75,14 +48,14 @@ put-gate-spec =
     tie.close
     (tie.spec
     returns
-    is-one-of-requires
-    is-one-of-requires-2
-    literal-requires
-    literal-requires-2
-    literal-requires-3
-    literal-requires-4
-    literal-requires-5
-    literal-requires-6
+    (λ c κs. search needs)
+    (λ c κs. search needs)
+    (λ c κs. search needs)
+    (λ c κs. search needs)
+    (λ c κs. search needs)
+    (λ c κs. search needs)
+    (λ c κs. search needs)
+    (λ c κs. search needs)
     put-shape-requires
-    same-length
+    (λ c. search needs)
     returns-2)

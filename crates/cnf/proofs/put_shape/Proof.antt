@@ -12,9 +12,6 @@ put-buffer-requires : tie.Need-put-buffer-requires
 unfolding byShape
 put-buffer-requires c κs = omega (arith, simp (le-leb _ _ (c .before .if1 .taken)) at (c .before .before .pre))
 
-same-length : tie.Need-same-length
-same-length c = search needs
-
 returns : tie.Need-returns
 unfolding byShape
 returns c =
@@ -26,9 +23,6 @@ returns c =
 put-and-requires : tie.Need-put-and-requires
 unfolding byShape
 put-and-requires c κs = omega (arith, simp (lt-leb _ _ (c .before .before .if1 .left), le-leb _ _ (c .before .if2 .taken)) at (c .before .before .before .pre))
-
-same-length-2 : tie.Need-same-length-2
-same-length-2 c = search needs
 
 returns-2 : tie.Need-returns-2
 unfolding byShape
@@ -43,9 +37,6 @@ returns-2 c =
 put-xor-requires : tie.Need-put-xor-requires
 unfolding byShape
 put-xor-requires c κs = omega (arith, simp (lt-leb _ _ (c .before .before .if1 .left), lt-leb _ _ (c .before .if2 .left)) at (c .before .before .before .pre))
-
-same-length-3 : tie.Need-same-length-3
-same-length-3 c = search needs
 
 returns-3 : tie.Need-returns-3
 unfolding byShape
@@ -62,11 +53,11 @@ put-shape-spec =
     tie.close
     (tie.spec
     put-buffer-requires
-    same-length
+    (λ c. search needs)
     returns
     put-and-requires
-    same-length-2
+    (λ c. search needs)
     returns-2
     put-xor-requires
-    same-length-3
+    (λ c. search needs)
     returns-3)

@@ -6,21 +6,6 @@ use Rattle.ground.proofs.Put.{put-then}
 use Rattle.cnf.proofs.put_xor.Statement.{statement}
 use Rattle.cnf.proofs.put_xor.Tie as tie
 
-put-triple-requires : tie.Need-put-triple-requires
-put-triple-requires c κs = search needs
-
-put-triple-requires-2 : tie.Need-put-triple-requires-2
-put-triple-requires-2 c κs = search needs
-
-put-triple-requires-3 : tie.Need-put-triple-requires-3
-put-triple-requires-3 c κs = search needs
-
-put-triple-requires-4 : tie.Need-put-triple-requires-4
-put-triple-requires-4 c κs = search needs
-
-same-length : tie.Need-same-length
-same-length c = search needs
-
 returns : tie.Need-returns
 returns c =
     let fourth = c .before in
@@ -37,9 +22,9 @@ pub put-xor-spec : {M : Type 1} → statement M
 put-xor-spec =
     tie.close
     (tie.spec
-    put-triple-requires
-    put-triple-requires-2
-    put-triple-requires-3
-    put-triple-requires-4
-    same-length
+    (λ c κs. search needs)
+    (λ c κs. search needs)
+    (λ c κs. search needs)
+    (λ c κs. search needs)
+    (λ c. search needs)
     returns)

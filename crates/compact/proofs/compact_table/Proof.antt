@@ -8,20 +8,8 @@ use Rattle.compact.proofs.compact_table.Tie as tie
 returns : tie.Need-returns
 returns c = finish-10 (c .if1 .taken)
 
-mark-few-requires : tie.Need-mark-few-requires
-mark-few-requires c κs = search needs
-
-same-length : tie.Need-same-length
-same-length c = search needs
-
 returns-2 : tie.Need-returns-2
 returns-2 c = finish-fine (c .before .before .before .before .before .if1 .left) (c .before .before .mark-few .ensures)
-
-mark-many-requires : tie.Need-mark-many-requires
-mark-many-requires c κs = search needs
-
-same-length-2 : tie.Need-same-length-2
-same-length-2 c = search needs
 
 returns-3 : tie.Need-returns-3
 returns-3 c = finish-fine (c .before .before .before .before .before .if1 .left) (c .before .before .mark-many .ensures)
@@ -31,9 +19,9 @@ compact-table-spec =
     tie.close
     (tie.spec
     returns
-    mark-few-requires
-    same-length
+    (λ c κs. search needs)
+    (λ c. search needs)
     returns-2
-    mark-many-requires
-    same-length-2
+    (λ c κs. search needs)
+    (λ c. search needs)
     returns-3)

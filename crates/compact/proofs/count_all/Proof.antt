@@ -34,12 +34,6 @@ see-pattern-requires c κs =
     let l = turn .loop in
     row-faults (sizes-after (l .counts) (l .seen) (turn .before .before .before .before .pre .0) (l .inv .cells) (l .inv .faults)) _ (search needs)
 
-add-p : tie.Need-add-p Inv-loop μ-loop
-add-p c = search needs
-
-loop-less : tie.Need-loop-less Inv-loop μ-loop
-loop-less c = search needs
-
 loop-again : tie.Need-loop-again Inv-loop μ-loop
 loop-again c =
     let seen = c .before .before in
@@ -68,8 +62,8 @@ count-all-spec =
     mul-from
     count-pattern-requires
     see-pattern-requires
-    add-p
-    loop-less
+    (λ c. search needs)
+    (λ c. search needs)
     loop-again
     same-length
     same-length-2

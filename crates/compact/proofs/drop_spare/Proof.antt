@@ -16,9 +16,6 @@ abbrev μ-loop : tie.MeasureT-loop
 loop-holds : tie.Need-loop-holds Inv-loop μ-loop
 loop-holds c = let s = c .before .before .before .before in all-to-go (s .pre .1 .0) (s .pre .1 .1)
 
-sub-p : tie.Need-sub-p Inv-loop μ-loop
-sub-p c = search needs
-
 turn-requires : tie.Need-turn-requires Inv-loop μ-loop
 turn-requires c κs =
     let s = c .before .before .before .before .before .before .before .before in
@@ -26,12 +23,6 @@ turn-requires c κs =
       sizes-after _ _ (s .pre .0) (l .inv .cells) refl,
       (record { marks = l .inv .marks ∙ ap length (s .pre .1 .0) ∙ length-replicate _ 1; below = search needs }, ready-next (l .inv) (search needs)),
     )
-
-sub-left : tie.Need-sub-left Inv-loop μ-loop
-sub-left c = search needs
-
-loop-less : tie.Need-loop-less Inv-loop μ-loop
-loop-less c = search needs
 
 loop-again : tie.Need-loop-again Inv-loop μ-loop
 loop-again c =
@@ -54,10 +45,10 @@ drop-spare-spec =
     Inv-loop
     μ-loop
     loop-holds
-    sub-p
+    (λ c. search needs)
     turn-requires
-    sub-left
-    loop-less
+    (λ c. search needs)
+    (λ c. search needs)
     loop-again
     same-length
     same-length-2

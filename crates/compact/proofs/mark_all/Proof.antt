@@ -8,12 +8,6 @@ use borrow.Author.Needs.{needs}
 use Rattle.compact.proofs.mark_all.Statement.{statement}
 use Rattle.compact.proofs.mark_all.Tie as tie
 
-keep-all-requires : tie.Need-keep-all-requires
-keep-all-requires c κs = search needs
-
-count-all-requires : tie.Need-count-all-requires
-count-all-requires c κs = search needs
-
 drop-spare-requires : tie.Need-drop-spare-requires
 drop-spare-requires c κs =
     let a = c .before .before .before .before .before .before .before in
@@ -22,26 +16,14 @@ drop-spare-requires c κs =
     let n = a .count-all in
     (sizes-after _ _ (s .pre .0) (n .kept .0) (n .kept .1 .0), (k .keep-all .ensures ∙ ap (λ (n : ℕ). replicate n 1) (s .pre .1 .1), n .ensures))
 
-same-length : tie.Need-same-length
-same-length c = search needs
-
-same-length-2 : tie.Need-same-length-2
-same-length-2 c = search needs
-
-same-length-3 : tie.Need-same-length-3
-same-length-3 c = search needs
-
-returns : tie.Need-returns
-returns c = search needs
-
 pub mark-all-spec : {M : Type 1} → statement M
 mark-all-spec =
     tie.close
     (tie.spec
-    keep-all-requires
-    count-all-requires
+    (λ c κs. search needs)
+    (λ c κs. search needs)
     drop-spare-requires
-    same-length
-    same-length-2
-    same-length-3
-    returns)
+    (λ c. search needs)
+    (λ c. search needs)
+    (λ c. search needs)
+    (λ c. search needs))

@@ -14,9 +14,6 @@ mul-from c =
 needed-requires : tie.Need-needed-requires
 needed-requires c κs = let s = c .before .before .before .before .before in (row-cells (s .pre .0) _ (s .pre .1 .0 .below), search needs)
 
-same-length : tie.Need-same-length
-same-length c = search needs
-
 returns : tie.Need-returns
 returns c =
     let s = c .before .before .before .before .before .before .before in
@@ -24,15 +21,6 @@ returns c =
 
 count-pattern-requires : tie.Need-count-pattern-requires
 count-pattern-requires c κs = let s = c .before .before .before .before .before .before .before .before in row-cells (s .pre .0) _ (s .pre .1 .0 .below)
-
-slice-write-marks : tie.Need-slice-write-marks
-slice-write-marks c = search needs
-
-same-length-2 : tie.Need-same-length-2
-same-length-2 c = search needs
-
-same-length-3 : tie.Need-same-length-3
-same-length-3 c = search needs
 
 returns-2 : tie.Need-returns-2
 returns-2 c =
@@ -48,10 +36,10 @@ turn-spec =
     (tie.spec
     mul-from
     needed-requires
-    same-length
+    (λ c. search needs)
     returns
     count-pattern-requires
-    slice-write-marks
-    same-length-2
-    same-length-3
+    (λ c. search needs)
+    (λ c. search needs)
+    (λ c. search needs)
     returns-2)

@@ -6,23 +6,8 @@ use borrow.Author.Needs.{needs}
 use Rattle.counts.proofs.count_pairs.Statement.{statement}
 use Rattle.counts.proofs.count_pairs.Tie as tie
 
-add-e : tie.Need-add-e
-add-e c = search needs
-
-shared-slice-read-e : tie.Need-shared-slice-read-e
-shared-slice-read-e c = search needs
-
 returns : tie.Need-returns
 returns c = pairs-unknown _ _ _ (λ k. omega (arith, c .before .before .before .slice-known .given k)) (c .if1 .taken)
-
-mul-count-row : tie.Need-mul-count-row
-mul-count-row c = search needs
-
-count-row-requires : tie.Need-count-row-requires
-count-row-requires c κs = search needs
-
-same-length : tie.Need-same-length
-same-length c = search needs
 
 returns-2 : tie.Need-returns-2
 returns-2 c = pairs-known _ _ _ (c .before .before .before .before .if1 .left) (c .before .before .count-row .ensures)
@@ -31,10 +16,10 @@ pub count-pairs-spec : {M : Type 1} → statement M
 count-pairs-spec =
     tie.close
     (tie.spec
-    add-e
-    shared-slice-read-e
+    (λ c. search needs)
+    (λ c. search needs)
     returns
-    mul-count-row
-    count-row-requires
-    same-length
+    (λ c. search needs)
+    (λ c κs. search needs)
+    (λ c. search needs)
     returns-2)

@@ -7,14 +7,14 @@ use borrow.Author.Needs.{needs}
 use lib.ListN.{length}
 use Rattle.ground.specs.Below.{anyBelow}
 use Rattle.counts.specs.Counted.{hitPair}
-use Rattle.counts.specs.Owed.{Moved}
+use Rattle.counts.specs.Owed.{CellsDone}
 use Rattle.counts.proofs.Moves.{moved-none, pairs-next, faults-next}
 use Rattle.counts.proofs.count_pattern.Statement.{statement}
 use Rattle.counts.proofs.count_pattern.Tie as tie
 
 abbrev Inv-loop : tie.InvT-loop
 Inv-loop counts₀ table from n into g₀ counts g =
-    (g ≤ n) × (length counts ≡ length counts₀) × Moved into (λ k. anyBelow g (hitPair table from k)) counts₀ counts
+    (g ≤ n) × (length counts ≡ length counts₀) × CellsDone into (λ k. anyBelow g (hitPair table from k)) counts₀ counts
 
 abbrev μ-loop : tie.MeasureT-loop
 μ-loop counts₀ table from n into g₀ counts g = n - g
@@ -22,25 +22,10 @@ abbrev μ-loop : tie.MeasureT-loop
 loop-holds : tie.Need-loop-holds Inv-loop μ-loop
 loop-holds c = (search needs, refl, moved-none _ (λ k. omega (arith, c .before .slice-known .given k)) (λ k. refl))
 
-count-pairs-requires : tie.Need-count-pairs-requires Inv-loop μ-loop
-count-pairs-requires c κs = search needs
-
-add-g : tie.Need-add-g Inv-loop μ-loop
-add-g c = search needs
-
-loop-less : tie.Need-loop-less Inv-loop μ-loop
-loop-less c = search needs
-
 loop-again : tie.Need-loop-again Inv-loop μ-loop
 loop-again c =
     let l = c .before .before .before .before .before .loop in
     (search needs, c .before .before .count-pairs .kept .0 ∙ l .inv .1, pairs-next _ _ _ (l .inv .2) (search needs) (c .before .before .count-pairs .ensures))
-
-mul-count-row : tie.Need-mul-count-row Inv-loop μ-loop
-mul-count-row c = search needs
-
-count-row-requires : tie.Need-count-row-requires Inv-loop μ-loop
-count-row-requires c κs = search needs
 
 same-length : tie.Need-same-length Inv-loop μ-loop
 same-length c = c .before .before .count-row .kept .0 ∙ c .before .before .before .before .before .loop .inv .1
@@ -59,11 +44,11 @@ count-pattern-spec =
     Inv-loop
     μ-loop
     loop-holds
-    count-pairs-requires
-    add-g
-    loop-less
+    (λ c κs. search needs)
+    (λ c. search needs)
+    (λ c. search needs)
     loop-again
-    mul-count-row
-    count-row-requires
+    (λ c. search needs)
+    (λ c κs. search needs)
     same-length
     returns)

@@ -6,50 +6,20 @@ use native.Mathlib.Omega.{arith}
 use borrow.Author.Needs.{needs}
 use lib.ListN.{length, length-set}
 use Rattle.counts.specs.Counted.{hitRow}
-use Rattle.counts.specs.Owed.{Moved}
+use Rattle.counts.specs.Owed.{CellsDone}
 use Rattle.counts.proofs.Moves.{row-none, row-next}
 use Rattle.counts.proofs.count_row.Statement.{statement}
 use Rattle.counts.proofs.count_row.Tie as tie
 
 abbrev Inv-loop : tie.InvT-loop
 Inv-loop counts₀ at table from n want into f₀ counts f =
-    (f ≤ n) × (length counts ≡ length counts₀) × Moved into (hitRow table from want at f) counts₀ counts
+    (f ≤ n) × (length counts ≡ length counts₀) × CellsDone into (hitRow table from want at f) counts₀ counts
 
 abbrev μ-loop : tie.MeasureT-loop
 μ-loop counts₀ at table from n want into f₀ counts f = n - f
 
 loop-holds : tie.Need-loop-holds Inv-loop μ-loop
 loop-holds c = (search needs, refl, row-none _ _ _ _ (λ k. omega (arith, c .before .slice-known .given k)))
-
-add-same : tie.Need-add-same Inv-loop μ-loop
-add-same c = search needs
-
-shared-slice-read-same : tie.Need-shared-slice-read-same Inv-loop μ-loop
-shared-slice-read-same c = search needs
-
-same-requires : tie.Need-same-requires Inv-loop μ-loop
-same-requires c κs = search needs
-
-add-count-cell : tie.Need-add-count-cell Inv-loop μ-loop
-add-count-cell c = search needs
-
-slice-read-count-cell : tie.Need-slice-read-count-cell Inv-loop μ-loop
-slice-read-count-cell c = search needs
-
-count-cell-requires : tie.Need-count-cell-requires Inv-loop μ-loop
-count-cell-requires c κs = search needs
-
-add-counts : tie.Need-add-counts Inv-loop μ-loop
-add-counts c = search needs
-
-slice-write-counts : tie.Need-slice-write-counts Inv-loop μ-loop
-slice-write-counts c = search needs
-
-add-f : tie.Need-add-f Inv-loop μ-loop
-add-f c = search needs
-
-loop-less : tie.Need-loop-less Inv-loop μ-loop
-loop-less c = search needs
 
 loop-again : tie.Need-loop-again Inv-loop μ-loop
 loop-again c =
@@ -72,16 +42,16 @@ count-row-spec =
     Inv-loop
     μ-loop
     loop-holds
-    add-same
-    shared-slice-read-same
-    same-requires
-    add-count-cell
-    slice-read-count-cell
-    count-cell-requires
-    add-counts
-    slice-write-counts
-    add-f
-    loop-less
+    (λ c. search needs)
+    (λ c. search needs)
+    (λ c κs. search needs)
+    (λ c. search needs)
+    (λ c. search needs)
+    (λ c κs. search needs)
+    (λ c. search needs)
+    (λ c. search needs)
+    (λ c. search needs)
+    (λ c. search needs)
     loop-again
     same-length
     returns)

@@ -14,31 +14,16 @@ Inv-loop counts seen table from n g₀ g = None (soleAt counts seen table from) 
 abbrev μ-loop : tie.MeasureT-loop
 μ-loop counts seen table from n g₀ g = n - g
 
-mul-sole-in : tie.Need-mul-sole-in Inv-loop μ-loop
-mul-sole-in c = search needs
-
-sole-in-requires : tie.Need-sole-in-requires Inv-loop μ-loop
-sole-in-requires c κs = search needs
-
 returns : tie.Need-returns Inv-loop μ-loop
 returns c = needed-fault _ _ _ _ _ (c .before .sole-in .ensures) (c .if1 .taken)
 
 loop-holds : tie.Need-loop-holds Inv-loop μ-loop
 loop-holds c = none-yet _ _
 
-sole-at-requires : tie.Need-sole-at-requires Inv-loop μ-loop
-sole-at-requires c κs = search needs
-
 returns-2 : tie.Need-returns-2 Inv-loop μ-loop
 returns-2 c =
     needed-pair _ _ _ _ _ (c .before .before .before .before .before .sole-in .ensures) (c .before .before .before .before .if1 .left)
     (found (c .before .before .before .loop .inv) (search needs) (c .before .sole-at .ensures) (c .if2 .taken))
-
-add-g : tie.Need-add-g Inv-loop μ-loop
-add-g c = search needs
-
-loop-less : tie.Need-loop-less Inv-loop μ-loop
-loop-less c = search needs
 
 loop-again : tie.Need-loop-again Inv-loop μ-loop
 loop-again c = none-more (c .before .before .before .loop .inv) (search needs) (c .before .sole-at .ensures) (c .if2 .left)
@@ -54,13 +39,13 @@ needed-spec =
     (tie.spec
     Inv-loop
     μ-loop
-    mul-sole-in
-    sole-in-requires
+    (λ c. search needs)
+    (λ c κs. search needs)
     returns
     loop-holds
-    sole-at-requires
+    (λ c κs. search needs)
     returns-2
-    add-g
-    loop-less
+    (λ c. search needs)
+    (λ c. search needs)
     loop-again
     returns-3)

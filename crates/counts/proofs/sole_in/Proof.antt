@@ -16,30 +16,6 @@ abbrev μ-loop : tie.MeasureT-loop
 loop-holds : tie.Need-loop-holds Inv-loop μ-loop
 loop-holds c = none-some _ _
 
-add-sole : tie.Need-add-sole Inv-loop μ-loop
-add-sole c = search needs
-
-shared-slice-read-sole : tie.Need-shared-slice-read-sole Inv-loop μ-loop
-shared-slice-read-sole c = search needs
-
-shared-slice-read-sole-2 : tie.Need-shared-slice-read-sole-2 Inv-loop μ-loop
-shared-slice-read-sole-2 c = search needs
-
-add-sole-2 : tie.Need-add-sole-2 Inv-loop μ-loop
-add-sole-2 c = search needs
-
-shared-slice-read-sole-3 : tie.Need-shared-slice-read-sole-3 Inv-loop μ-loop
-shared-slice-read-sole-3 c = search needs
-
-sole-requires : tie.Need-sole-requires Inv-loop μ-loop
-sole-requires c κs = search needs
-
-add-f : tie.Need-add-f Inv-loop μ-loop
-add-f c = search needs
-
-loop-less : tie.Need-loop-less Inv-loop μ-loop
-loop-less c = search needs
-
 loop-again : tie.Need-loop-again Inv-loop μ-loop
 loop-again c = some-more (c .before .before .before .before .before .loop .inv) (search needs) (c .sole .ensures)
 
@@ -53,13 +29,13 @@ sole-in-spec =
     Inv-loop
     μ-loop
     loop-holds
-    add-sole
-    shared-slice-read-sole
-    shared-slice-read-sole-2
-    add-sole-2
-    shared-slice-read-sole-3
-    sole-requires
-    add-f
-    loop-less
+    (λ c. search needs)
+    (λ c. search needs)
+    (λ c. search needs)
+    (λ c. search needs)
+    (λ c. search needs)
+    (λ c κs. search needs)
+    (λ c. search needs)
+    (λ c. search needs)
     loop-again
     returns)

@@ -10,15 +10,6 @@ use Rattle.dictionary.proofs.accepted.Tie as tie
 abbrev entry : tie.After-check-rest → tie.Start
 entry c = c .before .before .before .before .before .before
 
-check-rest-requires : tie.Need-check-rest-requires
-check-rest-requires c κs = search needs
-
-enum-known-v : tie.Need-enum-known-v
-enum-known-v c = search needs
-
-enum-told : tie.Need-enum-told
-enum-told c = search needs
-
 fill-table-requires : tie.Need-fill-table-requires
 fill-table-requires c κs =
     let told = c .before .before in
@@ -32,12 +23,6 @@ returns c =
     let checked = c .before .before .before in
     refused-answer _ _ _ _ _ _ _ _ (sym (checked .check-rest .ensures) ∙ c .before .v .given .1)
 
-same-length : tie.Need-same-length
-same-length c = search needs
-
-same-length-2 : tie.Need-same-length-2
-same-length-2 c = search needs
-
 returns-2 : tie.Need-returns-2
 returns-2 c =
     let filled = c .before .before .before .before in
@@ -49,11 +34,11 @@ pub accepted-spec : {M : Type 1} → statement M
 accepted-spec =
     tie.close
     (tie.spec
-    check-rest-requires
-    enum-known-v
-    enum-told
+    (λ c κs. search needs)
+    (λ c. search needs)
+    (λ c. search needs)
     fill-table-requires
     returns
-    same-length
-    same-length-2
+    (λ c. search needs)
+    (λ c. search needs)
     returns-2)

@@ -10,18 +10,6 @@ use Rattle.answers.proofs.Rules.{after-refused, after-fine}
 use Rattle.dictionary.proofs.check_rest.Statement.{statement}
 use Rattle.dictionary.proofs.check_rest.Tie as tie
 
-check-lists-requires : tie.Need-check-lists-requires
-check-lists-requires c κs = search needs
-
-enum-known-v : tie.Need-enum-known-v
-enum-known-v c = search needs
-
-enum-told : tie.Need-enum-told
-enum-told c = search needs
-
-div-p : tie.Need-div-p
-div-p c = search needs
-
 mul-check-lent : tie.Need-mul-check-lent
 mul-check-lent c =
     let s = c .before .before .before .before .before .before in
@@ -30,9 +18,6 @@ mul-check-lent c =
 
 mul-check-lent-2 : tie.Need-mul-check-lent-2
 mul-check-lent-2 c = let k = c .before .before .before .before .before .before .pre in omega (arith, k .lines, k .good .most-lines)
-
-check-lent-requires : tie.Need-check-lent-requires
-check-lent-requires c κs = search needs
 
 returns : tie.Need-returns
 returns c = let s = c .before .before .before .before .before .before .before in
@@ -51,12 +36,12 @@ pub check-rest-spec : {M : Type 1} → statement M
 check-rest-spec =
     tie.close
     (tie.spec
-    check-lists-requires
-    enum-known-v
-    enum-told
-    div-p
+    (λ c κs. search needs)
+    (λ c. search needs)
+    (λ c. search needs)
+    (λ c. search needs)
     mul-check-lent
     mul-check-lent-2
-    check-lent-requires
+    (λ c κs. search needs)
     returns
     returns-2)

@@ -5,18 +5,6 @@ use borrow.Author.Needs.{needs}
 use Rattle.entries.proofs.of_ruling.Statement.{statement}
 use Rattle.entries.proofs.of_ruling.Tie as tie
 
-enum-told : tie.Need-enum-told
-enum-told c = search needs
-
-success-requires : tie.Need-success-requires
-success-requires c κs = search needs
-
-enum-known-v : tie.Need-enum-known-v
-enum-known-v c = search needs
-
-refused-requires : tie.Need-refused-requires
-refused-requires c κs = search needs
-
 returns : tie.Need-returns
 returns c = c .success .ensures ∙ simp (c .before .enum-told .given .1)
 
@@ -25,4 +13,4 @@ returns-2 c = c .refused .ensures ∙ simp (c .before .before .v .given .1)
 
 pub of-ruling-spec : {M : Type 1} → statement M
 of-ruling-spec =
-    tie.close (tie.spec enum-told success-requires enum-known-v refused-requires returns returns-2)
+    tie.close (tie.spec (λ c. search needs) (λ c κs. search needs) (λ c. search needs) (λ c κs. search needs) returns returns-2)

@@ -10,12 +10,6 @@ use Rattle.entries.proofs.report.Tie as tie
 returns : tie.Need-returns
 returns c = other-size _ (ne-eqb _ _ (c .if1 .taken))
 
-put-numbers-requires : tie.Need-put-numbers-requires
-put-numbers-requires c κs = search needs
-
-same-length : tie.Need-same-length
-same-length c = search needs
-
 returns-2 : tie.Need-returns-2
 returns-2 c =
     let put = c .before .before in
@@ -23,4 +17,4 @@ returns-2 c =
     right-size (numbersIn (sized .before .before .args .reply)) (eq-eqb _ _ (sized .if1 .left)) (put .put-numbers .ensures)
 
 pub report-spec : {M : Type 1} → statement M
-report-spec = tie.close (tie.spec returns put-numbers-requires same-length returns-2)
+report-spec = tie.close (tie.spec returns (λ c κs. search needs) (λ c. search needs) returns-2)

@@ -10,21 +10,6 @@ use Rattle.entries.proofs.ullimaqsu_bench.Tie as tie
 returns : tie.Need-returns
 returns c = let e = ne-eqb _ _ (c .if1 .taken) in record { answer = other-size _ e; circuit = rw e }
 
-bench-requires : tie.Need-bench-requires
-bench-requires c κs = search needs
-
-of-read-requires : tie.Need-of-read-requires
-of-read-requires c κs = search needs
-
-report-requires : tie.Need-report-requires
-report-requires c κs = search needs
-
-same-length : tie.Need-same-length
-same-length c = search needs
-
-same-length-2 : tie.Need-same-length-2
-same-length-2 c = search needs
-
 returns-2 : tie.Need-returns-2
 returns-2 c =
     let e = eq-eqb _ _ (c .before .before .before .before .before .before .before .before .before .if1 .left) in
@@ -36,9 +21,9 @@ ullimaqsu-bench-spec =
     tie.close
     (tie.spec
     returns
-    bench-requires
-    of-read-requires
-    report-requires
-    same-length
-    same-length-2
+    (λ c κs. search needs)
+    (λ c κs. search needs)
+    (λ c κs. search needs)
+    (λ c. search needs)
+    (λ c. search needs)
     returns-2)

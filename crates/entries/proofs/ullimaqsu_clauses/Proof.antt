@@ -10,21 +10,6 @@ use Rattle.entries.proofs.ullimaqsu_clauses.Tie as tie
 returns : tie.Need-returns
 returns c = let e = ne-eqb _ _ (c .if1 .taken) in record { answer = other-size _ e; words = rw e }
 
-clauses-requires : tie.Need-clauses-requires
-clauses-requires c κs = search needs
-
-of-written-requires : tie.Need-of-written-requires
-of-written-requires c κs = search needs
-
-report-requires : tie.Need-report-requires
-report-requires c κs = search needs
-
-same-length : tie.Need-same-length
-same-length c = search needs
-
-same-length-2 : tie.Need-same-length-2
-same-length-2 c = search needs
-
 returns-2 : tie.Need-returns-2
 returns-2 c = let e = eq-eqb _ _ (c .before .before .before .before .before .before .before .before .if1 .left) in
     let k = c .before .before .before .before .before .before .clauses .ensures in
@@ -35,9 +20,9 @@ ullimaqsu-clauses-spec =
     tie.close
     (tie.spec
     returns
-    clauses-requires
-    of-written-requires
-    report-requires
-    same-length
-    same-length-2
+    (λ c κs. search needs)
+    (λ c κs. search needs)
+    (λ c κs. search needs)
+    (λ c. search needs)
+    (λ c. search needs)
     returns-2)

@@ -10,24 +10,6 @@ use Rattle.entries.proofs.ullimaqsu_dictionary.Tie as tie
 returns : tie.Need-returns
 returns c = let e = ne-eqb _ _ (c .if1 .taken) in record { answer = other-size _ e; table = rw e; work = rw e }
 
-dictionary-requires : tie.Need-dictionary-requires
-dictionary-requires c κs = search needs
-
-of-ruling-requires : tie.Need-of-ruling-requires
-of-ruling-requires c κs = search needs
-
-report-requires : tie.Need-report-requires
-report-requires c κs = search needs
-
-same-length : tie.Need-same-length
-same-length c = search needs
-
-same-length-2 : tie.Need-same-length-2
-same-length-2 c = search needs
-
-same-length-3 : tie.Need-same-length-3
-same-length-3 c = search needs
-
 returns-2 : tie.Need-returns-2
 returns-2 c = let e = eq-eqb _ _ (c .before .before .before .before .before .before .before .before .before .before .before .before .if1 .left) in
     let k = c .before .before .before .before .before .before .before .before .before .dictionary .ensures in
@@ -38,10 +20,10 @@ ullimaqsu-dictionary-spec =
     tie.close
     (tie.spec
     returns
-    dictionary-requires
-    of-ruling-requires
-    report-requires
-    same-length
-    same-length-2
-    same-length-3
+    (λ c κs. search needs)
+    (λ c κs. search needs)
+    (λ c κs. search needs)
+    (λ c. search needs)
+    (λ c. search needs)
+    (λ c. search needs)
     returns-2)

@@ -18,41 +18,11 @@ abbrev μ-loop : tie.MeasureT-loop
 loop-holds : tie.Need-loop-holds Inv-loop μ-loop
 loop-holds c = start agree _ _ _ _
 
-mul-status : tie.Need-mul-status Inv-loop μ-loop
-mul-status c = omega arith
-
-add-status : tie.Need-add-status Inv-loop μ-loop
-add-status c = omega arith
-
-shared-slice-read-status : tie.Need-shared-slice-read-status Inv-loop μ-loop
-shared-slice-read-status c = omega arith
-
-shared-slice-read-status-2 : tie.Need-shared-slice-read-status-2 Inv-loop μ-loop
-shared-slice-read-status-2 c = omega arith
-
-add-status-2 : tie.Need-add-status-2 Inv-loop μ-loop
-add-status-2 c = omega arith
-
-shared-slice-read-status-3 : tie.Need-shared-slice-read-status-3 Inv-loop μ-loop
-shared-slice-read-status-3 c = omega arith
-
-status-requires : tie.Need-status-requires Inv-loop μ-loop
-status-requires c κs = search needs
-
 returns : tie.Need-returns Inv-loop μ-loop
 returns c =
     failed (c .before .before .before .before .before .before .loop .inv) (omega arith)
     (in-halves agree _ (c .before .before .before .before .before .before .before .before .before .args .work .now) (omega arith) (c .before .status .ensures))
     (c .if1 .taken)
-
-joined-requires : tie.Need-joined-requires Inv-loop μ-loop
-joined-requires c κs = search needs
-
-add-k : tie.Need-add-k Inv-loop μ-loop
-add-k c = omega arith
-
-loop-less : tie.Need-loop-less Inv-loop μ-loop
-loop-less c = omega arith
 
 loop-again : tie.Need-loop-again Inv-loop μ-loop
 loop-again c = rw (c .joined .ensures)
@@ -70,16 +40,16 @@ entry-in-spec =
     Inv-loop
     μ-loop
     loop-holds
-    mul-status
-    add-status
-    shared-slice-read-status
-    shared-slice-read-status-2
-    add-status-2
-    shared-slice-read-status-3
-    status-requires
+    (λ c. omega arith)
+    (λ c. omega arith)
+    (λ c. omega arith)
+    (λ c. omega arith)
+    (λ c. omega arith)
+    (λ c. omega arith)
+    (λ c κs. search needs)
     returns
-    joined-requires
-    add-k
-    loop-less
+    (λ c κs. search needs)
+    (λ c. omega arith)
+    (λ c. omega arith)
     loop-again
     returns-2)

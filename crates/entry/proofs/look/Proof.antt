@@ -6,15 +6,6 @@ use Rattle.entry.proofs.Looks.{looked}
 use Rattle.entry.proofs.look.Statement.{statement}
 use Rattle.entry.proofs.look.Tie as tie
 
-good-values-requires : tie.Need-good-values-requires
-good-values-requires c κs = search needs
-
-fault-entry-requires : tie.Need-fault-entry-requires
-fault-entry-requires c κs = search needs
-
-same-length : tie.Need-same-length
-same-length c = search needs
-
 returns : tie.Need-returns
 returns c = let s = c .before .before .before .before .before .before .before .before .before .before .before in
     looked (s .args .fault) (s .args .circuit .now) (s .args .pattern .now) (s .args .n)
@@ -22,4 +13,4 @@ returns c = let s = c .before .before .before .before .before .before .before .b
     (c .before .before .before .before .before .before .good-values .ensures) (c .before .before .fault-entry .ensures)
 
 pub look-spec : {M : Type 1} → statement M
-look-spec = tie.close (tie.spec good-values-requires fault-entry-requires same-length returns)
+look-spec = tie.close (tie.spec (λ c κs. search needs) (λ c κs. search needs) (λ c. search needs) returns)

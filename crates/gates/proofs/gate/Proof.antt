@@ -7,39 +7,6 @@ use borrow.Author.Needs.{needs}
 use Rattle.gates.proofs.gate.Statement.{statement}
 use Rattle.gates.proofs.gate.Tie as tie
 
-buf3-requires : tie.Need-buf3-requires
-buf3-requires c κs = search needs
-
-not3-requires : tie.Need-not3-requires
-not3-requires c κs = search needs
-
-and3-requires : tie.Need-and3-requires
-and3-requires c κs = search needs
-
-and3-requires-2 : tie.Need-and3-requires-2
-and3-requires-2 c κs = search needs
-
-not3-requires-2 : tie.Need-not3-requires-2
-not3-requires-2 c κs = search needs
-
-or3-requires : tie.Need-or3-requires
-or3-requires c κs = search needs
-
-or3-requires-2 : tie.Need-or3-requires-2
-or3-requires-2 c κs = search needs
-
-not3-requires-3 : tie.Need-not3-requires-3
-not3-requires-3 c κs = search needs
-
-xor3-requires : tie.Need-xor3-requires
-xor3-requires c κs = search needs
-
-xor3-requires-2 : tie.Need-xor3-requires-2
-xor3-requires-2 c κs = search needs
-
-not3-requires-4 : tie.Need-not3-requires-4
-not3-requires-4 c κs = search needs
-
 returns : tie.Need-returns
 unfolding gateOf
 returns c = rw (c .before .match .keys1) (c .buf3 .ensures)
@@ -90,17 +57,17 @@ pub gate-spec : {M : Type 1} → statement M
 gate-spec =
     tie.close
     (tie.spec
-    buf3-requires
-    not3-requires
-    and3-requires
-    and3-requires-2
-    not3-requires-2
-    or3-requires
-    or3-requires-2
-    not3-requires-3
-    xor3-requires
-    xor3-requires-2
-    not3-requires-4
+    (λ c κs. search needs)
+    (λ c κs. search needs)
+    (λ c κs. search needs)
+    (λ c κs. search needs)
+    (λ c κs. search needs)
+    (λ c κs. search needs)
+    (λ c κs. search needs)
+    (λ c κs. search needs)
+    (λ c κs. search needs)
+    (λ c κs. search needs)
+    (λ c κs. search needs)
     returns
     returns-2
     returns-3

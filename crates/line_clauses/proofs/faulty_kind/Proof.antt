@@ -9,18 +9,9 @@ use Rattle.line_clauses.specs.Owed.{faultyKind}
 use Rattle.line_clauses.proofs.faulty_kind.Statement.{statement}
 use Rattle.line_clauses.proofs.faulty_kind.Tie as tie
 
-is-at-requires : tie.Need-is-at-requires
-is-at-requires c κs = search needs
-
 returns : tie.Need-returns
 unfolding faultyKind
 returns c = (simp (sym (c .before .is-at .ensures) ∙ c .if1 .taken), omega arith)
-
-mul-kind : tie.Need-mul-kind
-mul-kind c = search needs
-
-shared-slice-read-kind : tie.Need-shared-slice-read-kind
-shared-slice-read-kind c = search needs
 
 returns-2 : tie.Need-returns-2
 unfolding faultyKind
@@ -32,4 +23,4 @@ returns-3 c = (simp (sym (c .before .before .before .is-at .ensures) ∙ c .befo
 
 pub faulty-kind-spec : {M : Type 1} → statement M
 faulty-kind-spec =
-    tie.close (tie.spec is-at-requires returns mul-kind shared-slice-read-kind returns-2 returns-3)
+    tie.close (tie.spec (λ c κs. search needs) returns (λ c. search needs) (λ c. search needs) returns-2 returns-3)

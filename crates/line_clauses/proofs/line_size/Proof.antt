@@ -26,20 +26,8 @@ good-last c = kind-last (entry c .pre)
 faulty-last : (c : tie.After-size-of2) → c .before .faulty-kind .result ≤ lastKind
 faulty-last c = c .before .faulty-kind .ensures .1
 
-mul-size-of : tie.Need-mul-size-of
-mul-size-of c = search needs
-
-shared-slice-read-size-of : tie.Need-shared-slice-read-size-of
-shared-slice-read-size-of c = search needs
-
 size-of-requires : tie.Need-size-of-requires
 size-of-requires c κs = kind-last (c .before .before .pre)
-
-faulty-kind-requires : tie.Need-faulty-kind-requires
-faulty-kind-requires c κs = search needs
-
-size-of-requires-2 : tie.Need-size-of-requires-2
-size-of-requires-2 c κs = search needs
 
 add-t7 : tie.Need-add-t7
 add-t7 c =
@@ -73,11 +61,11 @@ pub line-size-spec : {M : Type 1} → statement M
 line-size-spec =
     tie.close
     (tie.spec
-    mul-size-of
-    shared-slice-read-size-of
+    (λ c. search needs)
+    (λ c. search needs)
     size-of-requires
-    faulty-kind-requires
-    size-of-requires-2
+    (λ c κs. search needs)
+    (λ c κs. search needs)
     add-t7
     add-t10
     returns)

@@ -16,23 +16,8 @@ low c =
     let p = entry c .pre in
     (omega (arith, rw (c .before .wide .ensures .0) at (c .source .ensures), lower (p .0) _ (p .1) (p .2)), omega arith)
 
-is-at-requires : tie.Need-is-at-requires
-is-at-requires c κs = search needs
-
-mul-result : tie.Need-mul-result
-mul-result c = search needs
-
-add-result : tie.Need-add-result
-add-result c = search needs
-
 returns : tie.Need-returns
 returns c = (pin-stuck _ _ _ _ _ (c .before .is-at .ensures) (c .if1 .taken), omega arith)
-
-wide-requires : tie.Need-wide-requires
-wide-requires c κs = search needs
-
-source-requires : tie.Need-source-requires
-source-requires c κs = search needs
 
 mul-result-2 : tie.Need-mul-result-2
 mul-result-2 c = omega (arith, low c)
@@ -50,12 +35,12 @@ pub pin-variable-spec : {M : Type 1} → statement M
 pin-variable-spec =
     tie.close
     (tie.spec
-    is-at-requires
-    mul-result
-    add-result
+    (λ c κs. search needs)
+    (λ c. search needs)
+    (λ c. search needs)
     returns
-    wide-requires
-    source-requires
+    (λ c κs. search needs)
+    (λ c κs. search needs)
     mul-result-2
     add-result-2
     returns-2)

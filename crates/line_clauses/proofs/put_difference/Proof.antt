@@ -16,46 +16,13 @@ gate : (c : tie.Else1)
     differenceClauses (a .circuit .now) (a .n) (a .k) ≡ gateClauses 7 (sites (differenceVar (a .n) (a .j)) (goodVar (a .k)) (faultyVar (a .k)))
 gate c = difference-gate _ _ _ (c .if1 .left) (c .before .before .before .pre .below)
 
-mul-if1 : tie.Need-mul-if1
-mul-if1 c = search needs
-
-add-if1 : tie.Need-add-if1
-add-if1 c = search needs
-
-shared-slice-read-if1 : tie.Need-shared-slice-read-if1
-shared-slice-read-if1 c = search needs
-
 returns : tie.Need-returns
 returns c = rw (difference-none _ _ _ (c .if1 .taken)) (put-none _ _)
-
-mul-put-gate : tie.Need-mul-put-gate
-mul-put-gate c = search needs
-
-add-put-gate : tie.Need-add-put-gate
-add-put-gate c = search needs
-
-add-put-gate-2 : tie.Need-add-put-gate-2
-add-put-gate-2 c = search needs
-
-mul-put-gate-2 : tie.Need-mul-put-gate-2
-mul-put-gate-2 c = search needs
-
-add-put-gate-3 : tie.Need-add-put-gate-3
-add-put-gate-3 c = search needs
-
-mul-put-gate-3 : tie.Need-mul-put-gate-3
-mul-put-gate-3 c = search needs
-
-add-put-gate-4 : tie.Need-add-put-gate-4
-add-put-gate-4 c = search needs
 
 put-gate-requires : tie.Need-put-gate-requires
 put-gate-requires c κs =
     let room = c .before .before .before .before .pre .own .room in
     gate-room _ _ _ _ (gate (c .before)) room (omega arith) (omega arith) (omega arith) (omega arith)
-
-same-length : tie.Need-same-length
-same-length c = search needs
 
 returns-2 : tie.Need-returns-2
 returns-2 c = put-line (gate (c .before .before .before)) (c .before .put-gate .ensures)
@@ -64,17 +31,17 @@ pub put-difference-spec : {M : Type 1} → statement M
 put-difference-spec =
     tie.close
     (tie.spec
-    mul-if1
-    add-if1
-    shared-slice-read-if1
+    (λ c. search needs)
+    (λ c. search needs)
+    (λ c. search needs)
     returns
-    mul-put-gate
-    add-put-gate
-    add-put-gate-2
-    mul-put-gate-2
-    add-put-gate-3
-    mul-put-gate-3
-    add-put-gate-4
+    (λ c. search needs)
+    (λ c. search needs)
+    (λ c. search needs)
+    (λ c. search needs)
+    (λ c. search needs)
+    (λ c. search needs)
+    (λ c. search needs)
     put-gate-requires
-    same-length
+    (λ c. search needs)
     returns-2)

@@ -47,68 +47,17 @@ some-gate c =
     faulty-gate _ _ _ _ (asked c .is-at .ensures) (free .if1 .left) (gate .if2 .left) last
     (c .before .pin-variable .ensures .0) (c .pin-variable2 .ensures .0)
 
-is-at-requires : tie.Need-is-at-requires
-is-at-requires c κs = search needs
-
-mul-put-gate : tie.Need-mul-put-gate
-mul-put-gate c = search needs
-
-add-put-gate : tie.Need-add-put-gate
-add-put-gate c = search needs
-
-mul-put-gate-2 : tie.Need-mul-put-gate-2
-mul-put-gate-2 c = search needs
-
-add-put-gate-2 : tie.Need-add-put-gate-2
-add-put-gate-2 c = search needs
-
-mul-put-gate-3 : tie.Need-mul-put-gate-3
-mul-put-gate-3 c = search needs
-
-add-put-gate-3 : tie.Need-add-put-gate-3
-add-put-gate-3 c = search needs
-
 put-gate-requires : tie.Need-put-gate-requires
 put-gate-requires c κs =
     gate-room _ _ _ _ (stuck (c .before)) (entry (c .before .before) .pre .room) (omega arith) (omega arith) (omega arith) (omega arith)
 
-same-length : tie.Need-same-length
-same-length c = search needs
-
 returns : tie.Need-returns
 returns c = put-line (stuck (c .before .before .before)) (c .before .put-gate .ensures)
-
-mul-kind : tie.Need-mul-kind
-mul-kind c = search needs
-
-shared-slice-read-kind : tie.Need-shared-slice-read-kind
-shared-slice-read-kind c = search needs
-
-mul-put-gate-4 : tie.Need-mul-put-gate-4
-mul-put-gate-4 c = search needs
-
-add-put-gate-4 : tie.Need-add-put-gate-4
-add-put-gate-4 c = search needs
-
-mul-put-gate-5 : tie.Need-mul-put-gate-5
-mul-put-gate-5 c = search needs
-
-add-put-gate-5 : tie.Need-add-put-gate-5
-add-put-gate-5 c = search needs
-
-mul-put-gate-6 : tie.Need-mul-put-gate-6
-mul-put-gate-6 c = search needs
-
-add-put-gate-6 : tie.Need-add-put-gate-6
-add-put-gate-6 c = search needs
 
 put-gate-requires-2 : tie.Need-put-gate-requires-2
 put-gate-requires-2 c κs =
     let asked = c .before .before .before .before in
     gate-room _ _ _ _ (input (c .before)) (entry asked .pre .room) (omega arith) (omega arith) (omega arith) (omega arith)
-
-same-length-2 : tie.Need-same-length-2
-same-length-2 c = search needs
 
 returns-2 : tie.Need-returns-2
 returns-2 c = put-line (input (c .before .before .before)) (c .before .put-gate2 .ensures)
@@ -119,19 +68,10 @@ pin-variable-requires c κs = (gate-line (c .before .before .before .before .bef
 pin-variable-requires-2 : tie.Need-pin-variable-requires-2
 pin-variable-requires-2 c κs = (gate-line (c .before .before .before .before .before .before .pre .line) (c .before .if2 .left), omega arith, omega arith)
 
-mul-put-gate-7 : tie.Need-mul-put-gate-7
-mul-put-gate-7 c = search needs
-
-add-put-gate-7 : tie.Need-add-put-gate-7
-add-put-gate-7 c = search needs
-
 put-gate-requires-3 : tie.Need-put-gate-requires-3
 put-gate-requires-3 c κs =
     let pre = entry (asked (c .before)) .pre in
     gate-room _ _ _ _ (some-gate (c .before)) (pre .room) (kind-last (pre .line)) (omega arith) (omega arith) (omega arith)
-
-same-length-3 : tie.Need-same-length-3
-same-length-3 c = search needs
 
 returns-3 : tie.Need-returns-3
 returns-3 c = put-line (some-gate (c .before .before .before)) (c .before .put-gate3 .ensures)
@@ -140,31 +80,31 @@ pub put-faulty-spec : {M : Type 1} → statement M
 put-faulty-spec =
     tie.close
     (tie.spec
-    is-at-requires
-    mul-put-gate
-    add-put-gate
-    mul-put-gate-2
-    add-put-gate-2
-    mul-put-gate-3
-    add-put-gate-3
+    (λ c κs. search needs)
+    (λ c. search needs)
+    (λ c. search needs)
+    (λ c. search needs)
+    (λ c. search needs)
+    (λ c. search needs)
+    (λ c. search needs)
     put-gate-requires
-    same-length
+    (λ c. search needs)
     returns
-    mul-kind
-    shared-slice-read-kind
-    mul-put-gate-4
-    add-put-gate-4
-    mul-put-gate-5
-    add-put-gate-5
-    mul-put-gate-6
-    add-put-gate-6
+    (λ c. search needs)
+    (λ c. search needs)
+    (λ c. search needs)
+    (λ c. search needs)
+    (λ c. search needs)
+    (λ c. search needs)
+    (λ c. search needs)
+    (λ c. search needs)
     put-gate-requires-2
-    same-length-2
+    (λ c. search needs)
     returns-2
     pin-variable-requires
     pin-variable-requires-2
-    mul-put-gate-7
-    add-put-gate-7
+    (λ c. search needs)
+    (λ c. search needs)
     put-gate-requires-3
-    same-length-3
+    (λ c. search needs)
     returns-3)

@@ -33,26 +33,8 @@ gate : (c : tie.After-source2)
     ≡ gateClauses (kindAt (a .circuit .now) (a .k)) (sites (goodVar (a .k)) (goodVar (c .before .source .result)) (goodVar (c .source2 .result)))
 gate c = good-gate _ _ (kind-last (entry c .pre .line)) (c .before .source .ensures) (c .source2 .ensures)
 
-mul-kind : tie.Need-mul-kind
-mul-kind c = search needs
-
-shared-slice-read-kind : tie.Need-shared-slice-read-kind
-shared-slice-read-kind c = search needs
-
 returns : tie.Need-returns
 returns c = rw (good-none _ _ (c .if1 .taken)) (put-none _ _)
-
-source-requires : tie.Need-source-requires
-source-requires c κs = search needs
-
-source-requires-2 : tie.Need-source-requires-2
-source-requires-2 c κs = search needs
-
-mul-put-gate : tie.Need-mul-put-gate
-mul-put-gate c = search needs
-
-add-put-gate : tie.Need-add-put-gate
-add-put-gate c = search needs
 
 mul-put-gate-2 : tie.Need-mul-put-gate-2
 mul-put-gate-2 c = omega (arith, low (c .before))
@@ -72,9 +54,6 @@ put-gate-requires c κs =
     let pre = entry (c .before) .pre in
     gate-room _ _ _ _ (gate (c .before)) (pre .room) (kind-last (pre .line)) (omega arith) (omega arith) (omega arith)
 
-same-length : tie.Need-same-length
-same-length c = search needs
-
 returns-2 : tie.Need-returns-2
 returns-2 c = put-line (gate (c .before .before .before)) (c .before .put-gate .ensures)
 
@@ -82,17 +61,17 @@ pub put-good-spec : {M : Type 1} → statement M
 put-good-spec =
     tie.close
     (tie.spec
-    mul-kind
-    shared-slice-read-kind
+    (λ c. search needs)
+    (λ c. search needs)
     returns
-    source-requires
-    source-requires-2
-    mul-put-gate
-    add-put-gate
+    (λ c κs. search needs)
+    (λ c κs. search needs)
+    (λ c. search needs)
+    (λ c. search needs)
     mul-put-gate-2
     add-put-gate-2
     mul-put-gate-3
     add-put-gate-3
     put-gate-requires
-    same-length
+    (λ c. search needs)
     returns-2)

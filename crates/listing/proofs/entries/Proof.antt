@@ -11,12 +11,6 @@ use Rattle.listing.proofs.entries.Tie as tie
 most : (f p : ℕ) → f ≤ 256 → p ≤ 256 → f * p ≤ 65536
 most f p a b = let h : f * p ≤ 256 * 256 = mul-le-mul a b in omega arith
 
-returns : tie.Need-returns
-returns c = search needs
-
-returns-2 : tie.Need-returns-2
-returns-2 c = search needs
-
 mul-result : tie.Need-mul-result
 mul-result c = omega (arith, most (c .before .before .args .faults) (c .before .before .args .patterns) (omega arith) (omega arith))
 
@@ -24,4 +18,4 @@ returns-3 : tie.Need-returns-3
 returns-3 c = record { product = λ a b. refl; most = most _ _ (omega arith) (omega arith) }
 
 pub entries-spec : {M : Type 1} → statement M
-entries-spec = tie.close (tie.spec returns returns-2 mul-result returns-3)
+entries-spec = tie.close (tie.spec (λ c. search needs) (λ c. search needs) mul-result returns-3)

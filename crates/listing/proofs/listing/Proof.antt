@@ -8,35 +8,20 @@ use Rattle.circuit.proofs.Accepted.{accepts, refuses, known}
 use Rattle.listing.proofs.listing.Statement.{statement}
 use Rattle.listing.proofs.listing.Tie as tie
 
-check-requires : tie.Need-check-requires
-check-requires c κs = search needs
-
-enum-known-v : tie.Need-enum-known-v
-enum-known-v c = search needs
-
-put-refused-requires : tie.Need-put-refused-requires
-put-refused-requires c κs = search needs
-
-enum-known-v-2 : tie.Need-enum-known-v-2
-enum-known-v-2 c = search needs
-
 put-accepted-requires : tie.Need-put-accepted-requires
 put-accepted-requires c κs = (known (accepts _ _ _ _ (sym (c .before .before .before .v2 .given .1) ∙ c .before .before .before .before .before .check .ensures .answer)), omega arith, omega arith)
 
 returns : tie.Need-returns
 returns c = circuit-listed (omega arith) (refuses _ _ _ (sym (c .before .before .before .v .given .1) ∙ c .before .before .before .before .before .check .ensures .answer)) (c .put-refused .ensures)
 
-returns-2 : tie.Need-returns-2
-returns-2 c = search needs
-
 pub listing-spec : {M : Type 1} → statement M
 listing-spec =
     tie.close
     (tie.spec
-    check-requires
-    enum-known-v
-    put-refused-requires
-    enum-known-v-2
+    (λ c κs. search needs)
+    (λ c. search needs)
+    (λ c κs. search needs)
+    (λ c. search needs)
     put-accepted-requires
     returns
-    returns-2)
+    (λ c. search needs))

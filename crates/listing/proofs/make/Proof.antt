@@ -8,20 +8,8 @@ use Rattle.listing.proofs.Made.{tabled}
 use Rattle.listing.proofs.make.Statement.{statement}
 use Rattle.listing.proofs.make.Tie as tie
 
-mul-two : tie.Need-mul-two
-mul-two c = search needs
-
-array-borrow-prefix-work : tie.Need-array-borrow-prefix-work
-array-borrow-prefix-work c = search needs
-
 slice-aggregate-dictionary : tie.Need-slice-aggregate-dictionary
 slice-aggregate-dictionary c = sym (length-take-le _ _ (omega arith))
-
-dictionary-requires : tie.Need-dictionary-requires
-dictionary-requires c κs = search needs
-
-same-length : tie.Need-same-length
-same-length c = search needs
 
 returns : tie.Need-returns
 returns c =
@@ -34,9 +22,9 @@ pub make-spec : {M : Type 1} → statement M
 make-spec =
     tie.close
     (tie.spec
-    mul-two
-    array-borrow-prefix-work
+    (λ c. search needs)
+    (λ c. search needs)
     slice-aggregate-dictionary
-    dictionary-requires
-    same-length
+    (λ c κs. search needs)
+    (λ c. search needs)
     returns)

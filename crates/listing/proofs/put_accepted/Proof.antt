@@ -10,15 +10,6 @@ use Rattle.listing.proofs.put_accepted.Tie as tie
 abbrev entry : tie.After-entries → tie.Start
 entry c = c .before .before .before .before .before .before
 
-div-p : tie.Need-div-p
-div-p c = search needs
-
-entries-requires : tie.Need-entries-requires
-entries-requires c κs = search needs
-
-slice-relend-prefix-put-made : tie.Need-slice-relend-prefix-put-made
-slice-relend-prefix-put-made c = search needs
-
 slice-aggregate-put-made : tie.Need-slice-aggregate-put-made
 slice-aggregate-put-made c =
     let at-entries = c .before in
@@ -31,12 +22,6 @@ put-made-requires c κs =
     let s = entry at-entries in
     (sizes (s .args .table .now) (s .pre .0) (at-entries .entries .ensures) (s .pre .1), (counted (s .pre .0), s .pre .2))
 
-same-length : tie.Need-same-length
-same-length c = search needs
-
-same-length-2 : tie.Need-same-length-2
-same-length-2 c = search needs
-
 returns : tie.Need-returns
 returns c =
     let put = c .before .before .before .before in
@@ -48,11 +33,11 @@ pub put-accepted-spec : {M : Type 1} → statement M
 put-accepted-spec =
     tie.close
     (tie.spec
-    div-p
-    entries-requires
-    slice-relend-prefix-put-made
+    (λ c. search needs)
+    (λ c κs. search needs)
+    (λ c. search needs)
     slice-aggregate-put-made
     put-made-requires
-    same-length
-    same-length-2
+    (λ c. search needs)
+    (λ c. search needs)
     returns)

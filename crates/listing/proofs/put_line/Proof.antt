@@ -27,12 +27,6 @@ mark-of c = c .before .before .before .before
 abbrev row-of : tie.After-put-byte → tie.After-put-letters
 row-of c = c .before .before .before .before
 
-mark-letter-requires : tie.Need-mark-letter-requires
-mark-letter-requires c κs = search needs
-
-put-decimal-requires : tie.Need-put-decimal-requires
-put-decimal-requires c κs = search needs
-
 put-three-requires : tie.Need-put-three-requires
 put-three-requires c κs =
     let number = c .before .before .before in
@@ -68,9 +62,6 @@ put-byte-requires c κs =
       digits-short 20 (a .p),
     )
 
-same-length : tie.Need-same-length
-same-length c = search needs
-
 returns : tie.Need-returns
 returns c =
     let end = c .before .before in
@@ -86,10 +77,10 @@ pub put-line-spec : {M : Type 1} → statement M
 put-line-spec =
     tie.close
     (tie.spec
-    mark-letter-requires
-    put-decimal-requires
+    (λ c κs. search needs)
+    (λ c κs. search needs)
     put-three-requires
     put-letters-requires
     put-byte-requires
-    same-length
+    (λ c. search needs)
     returns)

@@ -20,15 +20,6 @@ loop-holds c = start _ _ _ _ _
 add-to : tie.Need-add-to Inv-loop μ-loop
 add-to c = omega (arith, row-fits (c .before .before .before .before .before .pre) (c .before .loop .inv) (omega arith))
 
-shared-slice-read-put-line : tie.Need-shared-slice-read-put-line Inv-loop μ-loop
-shared-slice-read-put-line c = omega arith
-
-sub-put-line : tie.Need-sub-put-line Inv-loop μ-loop
-sub-put-line c = omega arith
-
-part-put-line-start : tie.Need-part-put-line-start Inv-loop μ-loop
-part-put-line-start c = omega arith
-
 part-put-line-end : tie.Need-part-put-line-end Inv-loop μ-loop
 part-put-line-end c = omega (arith, row-fits (c .before .before .before .before .before .before .before .pre) (c .before .before .before .loop .inv) (omega arith))
 
@@ -37,12 +28,6 @@ put-line-requires c κs =
     let turn = c .before .before .before .before in
     let entry = turn .before .before .before .before in
     simp length-take (omega (arith, line-fits (entry .pre) (turn .loop .inv) (omega arith)))
-
-add-p : tie.Need-add-p Inv-loop μ-loop
-add-p c = omega arith
-
-loop-less : tie.Need-loop-less Inv-loop μ-loop
-loop-less c = omega arith
 
 loop-again : tie.Need-loop-again Inv-loop μ-loop
 loop-again c =
@@ -64,13 +49,13 @@ put-lines-spec =
     μ-loop
     loop-holds
     add-to
-    shared-slice-read-put-line
-    sub-put-line
-    part-put-line-start
+    (λ c. omega arith)
+    (λ c. omega arith)
+    (λ c. omega arith)
     part-put-line-end
     put-line-requires
-    add-p
-    loop-less
+    (λ c. omega arith)
+    (λ c. omega arith)
     loop-again
     same-length
     returns)

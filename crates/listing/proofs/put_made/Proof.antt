@@ -10,18 +10,6 @@ use Rattle.listing.proofs.put_made.Tie as tie
 abbrev entry : tie.After-make → tie.Start
 entry c = c .before .before .before .before .before .before .before
 
-make-requires : tie.Need-make-requires
-make-requires c κs = search needs
-
-enum-known-v : tie.Need-enum-known-v
-enum-known-v c = search needs
-
-put-refused-requires : tie.Need-put-refused-requires
-put-refused-requires c κs = search needs
-
-enum-told : tie.Need-enum-told
-enum-told c = search needs
-
 put-table-requires : tie.Need-put-table-requires
 put-table-requires c κs =
     let told = c .before .before in
@@ -29,24 +17,12 @@ put-table-requires c κs =
     let pre = entry made .pre in
     full (made .make .ensures) (told .enum-told .given .1) (pre .1 .0) (pre .1 .1)
 
-same-length : tie.Need-same-length
-same-length c = search needs
-
-same-length-2 : tie.Need-same-length-2
-same-length-2 c = search needs
-
 returns : tie.Need-returns
 returns c =
     let put = c .before .before in
     let known = put .before .before .before in
     let made = known .before .before .before .before in
     refused-lists (entry made .pre .1 .1) (rw (known .v .given .1) at (made .make .ensures)) (put .put-refused .ensures)
-
-same-length-3 : tie.Need-same-length-3
-same-length-3 c = search needs
-
-same-length-4 : tie.Need-same-length-4
-same-length-4 c = search needs
 
 returns-2 : tie.Need-returns-2
 returns-2 c =
@@ -60,14 +36,14 @@ pub put-made-spec : {M : Type 1} → statement M
 put-made-spec =
     tie.close
     (tie.spec
-    make-requires
-    enum-known-v
-    put-refused-requires
-    enum-told
+    (λ c κs. search needs)
+    (λ c. search needs)
+    (λ c κs. search needs)
+    (λ c. search needs)
     put-table-requires
-    same-length
-    same-length-2
+    (λ c. search needs)
+    (λ c. search needs)
     returns
-    same-length-3
-    same-length-4
+    (λ c. search needs)
+    (λ c. search needs)
     returns-2)

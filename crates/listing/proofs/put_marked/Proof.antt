@@ -5,18 +5,6 @@ use Rattle.listing.proofs.Made.{marks-are}
 use Rattle.listing.proofs.put_marked.Statement.{statement}
 use Rattle.listing.proofs.put_marked.Tie as tie
 
-compact-requires : tie.Need-compact-requires
-compact-requires c κs = search needs
-
-put-lines-requires : tie.Need-put-lines-requires
-put-lines-requires c κs = search needs
-
-same-length : tie.Need-same-length
-same-length c = search needs
-
-same-length-2 : tie.Need-same-length-2
-same-length-2 c = search needs
-
 returns : tie.Need-returns
 returns c =
     let put = c .before .before in
@@ -26,4 +14,4 @@ returns c =
 
 pub put-marked-spec : {M : Type 1} → statement M
 put-marked-spec =
-    tie.close (tie.spec compact-requires put-lines-requires same-length same-length-2 returns)
+    tie.close (tie.spec (λ c κs. search needs) (λ c κs. search needs) (λ c. search needs) (λ c. search needs) returns)

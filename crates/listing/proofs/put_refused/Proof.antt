@@ -25,12 +25,6 @@ space-of c = c .before .before .before .before
 abbrev place-of : tie.After-put-byte2 → tie.After-put-decimal2
 place-of c = c .before .before .before .before
 
-put-refused-word-requires : tie.Need-put-refused-word-requires
-put-refused-word-requires c κs = search needs
-
-put-decimal-requires : tie.Need-put-decimal-requires
-put-decimal-requires c κs = search needs
-
 put-byte-requires : tie.Need-put-byte-requires
 put-byte-requires c κs =
     let number = c .before .before .before in
@@ -73,9 +67,6 @@ put-byte-requires-2 c κs =
       digits-short 20 (a .place),
     )
 
-same-length : tie.Need-same-length
-same-length c = search needs
-
 returns : tie.Need-returns
 returns c =
     let end = c .before .before in
@@ -91,10 +82,10 @@ pub put-refused-spec : {M : Type 1} → statement M
 put-refused-spec =
     tie.close
     (tie.spec
-    put-refused-word-requires
-    put-decimal-requires
+    (λ c κs. search needs)
+    (λ c κs. search needs)
     put-byte-requires
     put-decimal-requires-2
     put-byte-requires-2
-    same-length
+    (λ c. search needs)
     returns)

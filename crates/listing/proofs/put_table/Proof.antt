@@ -7,27 +7,18 @@ use borrow.Author.Needs.{needs}
 use Rattle.listing.proofs.put_table.Statement.{statement}
 use Rattle.listing.proofs.put_table.Tie as tie
 
-array-borrow-prefix-marks : tie.Need-array-borrow-prefix-marks
-array-borrow-prefix-marks c = search needs
-
 slice-aggregate-put-marked : tie.Need-slice-aggregate-put-marked
 slice-aggregate-put-marked c = let s = c .before .before .before .before in sym (length-take-le _ _ (omega (arith, s .pre .sized .few-patterns)))
 
 put-marked-requires : tie.Need-put-marked-requires
 put-marked-requires c κs = let s = c .before .before .before .before in (s .pre, length-take-le _ _ (omega (arith, s .pre .sized .few-patterns)))
 
-same-length : tie.Need-same-length
-same-length c = search needs
-
-returns : tie.Need-returns
-returns c = search needs
-
 pub put-table-spec : {M : Type 1} → statement M
 put-table-spec =
     tie.close
     (tie.spec
-    array-borrow-prefix-marks
+    (λ c. search needs)
     slice-aggregate-put-marked
     put-marked-requires
-    same-length
-    returns)
+    (λ c. search needs)
+    (λ c. search needs))

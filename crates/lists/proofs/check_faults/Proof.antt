@@ -8,15 +8,9 @@ use borrow.Author.Needs.{needs}
 use Rattle.lists.proofs.check_faults.Statement.{statement}
 use Rattle.lists.proofs.check_faults.Tie as tie
 
-records-ok-requires : tie.Need-records-ok-requires
-records-ok-requires c κs = search needs
-
 returns : tie.Need-returns
 unfolding faultRules
 returns c = whole-broken _ refl (sym (c .before .records-ok .ensures) ∙ not-true _ (c .if1 .taken))
-
-first-bad-fault-requires : tie.Need-first-bad-fault-requires
-first-bad-fault-requires c κs = search needs
 
 returns-2 : tie.Need-returns-2
 unfolding faultRules
@@ -28,4 +22,4 @@ returns-3 c = none-broken _ refl (sym (c .before .before .before .records-ok .en
 
 pub check-faults-spec : {M : Type 1} → statement M
 check-faults-spec =
-    tie.close (tie.spec records-ok-requires returns first-bad-fault-requires returns-2 returns-3)
+    tie.close (tie.spec (λ c κs. search needs) returns (λ c κs. search needs) returns-2 returns-3)

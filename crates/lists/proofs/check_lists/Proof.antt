@@ -8,18 +8,6 @@ use Rattle.answers.proofs.Rules.{after-refused, after-fine}
 use Rattle.lists.proofs.check_lists.Statement.{statement}
 use Rattle.lists.proofs.check_lists.Tie as tie
 
-check-faults-requires : tie.Need-check-faults-requires
-check-faults-requires c κs = search needs
-
-enum-known-v : tie.Need-enum-known-v
-enum-known-v c = search needs
-
-enum-told : tie.Need-enum-told
-enum-told c = search needs
-
-check-patterns-requires : tie.Need-check-patterns-requires
-check-patterns-requires c κs = search needs
-
 returns : tie.Need-returns
 returns c = let s = c .before .before .before .before .before .before .before in
     sym
@@ -37,9 +25,9 @@ pub check-lists-spec : {M : Type 1} → statement M
 check-lists-spec =
     tie.close
     (tie.spec
-    check-faults-requires
-    enum-known-v
-    enum-told
-    check-patterns-requires
+    (λ c κs. search needs)
+    (λ c. search needs)
+    (λ c. search needs)
+    (λ c κs. search needs)
     returns
     returns-2)

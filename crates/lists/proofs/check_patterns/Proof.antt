@@ -8,15 +8,9 @@ use borrow.Author.Needs.{needs}
 use Rattle.lists.proofs.check_patterns.Statement.{statement}
 use Rattle.lists.proofs.check_patterns.Tie as tie
 
-records-ok-requires : tie.Need-records-ok-requires
-records-ok-requires c κs = search needs
-
 returns : tie.Need-returns
 unfolding patternRules
 returns c = whole-broken _ refl (sym (c .before .records-ok .ensures) ∙ not-true _ (c .if1 .taken))
-
-first-big-requires : tie.Need-first-big-requires
-first-big-requires c κs = search needs
 
 returns-2 : tie.Need-returns-2
 unfolding patternRules
@@ -28,4 +22,4 @@ returns-3 c = none-broken _ refl (sym (c .before .before .before .records-ok .en
 
 pub check-patterns-spec : {M : Type 1} → statement M
 check-patterns-spec =
-    tie.close (tie.spec records-ok-requires returns first-big-requires returns-2 returns-3)
+    tie.close (tie.spec (λ c κs. search needs) returns (λ c κs. search needs) returns-2 returns-3)

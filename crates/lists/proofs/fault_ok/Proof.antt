@@ -42,64 +42,19 @@ site-kept c =
     let wide = c .before in
     le-leb _ _ (rw (wide .wide .ensures .0, wide .before .before .pins .ensures, line-of wide .before .word .ensures) at (c .if2 .left))
 
-mul-word : tie.Need-mul-word
-mul-word c = search needs
-
-word-requires : tie.Need-word-requires
-word-requires c κs = search needs
-
 returns : tie.Need-returns
 unfolding faultOk
 returns c = simp (le-ltb _ _ (rw (c .before .word .ensures) at (c .if1 .taken)))
 
-mul-pins : tie.Need-mul-pins
-mul-pins c = search needs
-
-shared-slice-read-pins : tie.Need-shared-slice-read-pins
-shared-slice-read-pins c = search needs
-
-pins-requires : tie.Need-pins-requires
-pins-requires c κs = search needs
-
-mul-wide : tie.Need-mul-wide
-mul-wide c = search needs
-
-add-wide : tie.Need-add-wide
-add-wide c = search needs
-
-shared-slice-read-wide : tie.Need-shared-slice-read-wide
-shared-slice-read-wide c = search needs
-
-wide-requires : tie.Need-wide-requires
-wide-requires c κs = search needs
-
 returns-2 : tie.Need-returns-2
 unfolding faultOk
 returns-2 c = simp (line-kept (line-of (c .before)), site-lost c)
-
-mul-if3 : tie.Need-mul-if3
-mul-if3 c = search needs
-
-add-if3 : tie.Need-add-if3
-add-if3 c = search needs
-
-shared-slice-read-if3 : tie.Need-shared-slice-read-if3
-shared-slice-read-if3 c = search needs
 
 returns-3 : tie.Need-returns-3
 unfolding faultOk
 returns-3 c =
     let site = c .before .before in
     simp (line-kept (line-of (site .before)), site-kept site, lt-leb _ _ (c .if3 .taken))
-
-mul-word-2 : tie.Need-mul-word-2
-mul-word-2 c = search needs
-
-add-word : tie.Need-add-word
-add-word c = search needs
-
-word-requires-2 : tie.Need-word-requires-2
-word-requires-2 c κs = search needs
 
 returns-4 : tie.Need-returns-4
 unfolding faultOk
@@ -108,15 +63,6 @@ returns-4 c =
     let site = value .before .before in
     let low-lost = ne-eqb _ _ (rw (c .before .word2 .ensures) at (c .if4 .taken)) in
     simp (line-kept (line-of (site .before)), site-kept site, le-leb _ _ (value .if3 .left), low-lost)
-
-mul-word-3 : tie.Need-mul-word-3
-mul-word-3 c = search needs
-
-add-word-2 : tie.Need-add-word-2
-add-word-2 c = search needs
-
-word-requires-3 : tie.Need-word-requires-3
-word-requires-3 c κs = search needs
 
 returns-5 : tie.Need-returns-5
 unfolding faultOk
@@ -131,26 +77,26 @@ pub fault-ok-spec : {M : Type 1} → statement M
 fault-ok-spec =
     tie.close
     (tie.spec
-    mul-word
-    word-requires
+    (λ c. search needs)
+    (λ c κs. search needs)
     returns
-    mul-pins
-    shared-slice-read-pins
-    pins-requires
-    mul-wide
-    add-wide
-    shared-slice-read-wide
-    wide-requires
+    (λ c. search needs)
+    (λ c. search needs)
+    (λ c κs. search needs)
+    (λ c. search needs)
+    (λ c. search needs)
+    (λ c. search needs)
+    (λ c κs. search needs)
     returns-2
-    mul-if3
-    add-if3
-    shared-slice-read-if3
+    (λ c. search needs)
+    (λ c. search needs)
+    (λ c. search needs)
     returns-3
-    mul-word-2
-    add-word
-    word-requires-2
+    (λ c. search needs)
+    (λ c. search needs)
+    (λ c κs. search needs)
     returns-4
-    mul-word-3
-    add-word-2
-    word-requires-3
+    (λ c. search needs)
+    (λ c. search needs)
+    (λ c κs. search needs)
     returns-5)

@@ -24,12 +24,6 @@ fault-ok-requires c κs = record { inside = omega arith }
 returns : tie.Need-returns Inv-loop μ-loop
 returns c = stopped (omega arith) (c .before .before .before .loop .inv .1) (sym (c .before .fault-ok .ensures) ∙ not-true _ (c .if1 .taken))
 
-add-j : tie.Need-add-j Inv-loop μ-loop
-add-j c = omega arith
-
-loop-less : tie.Need-loop-less Inv-loop μ-loop
-loop-less c = omega arith
-
 loop-again : tie.Need-loop-again Inv-loop μ-loop
 loop-again c = (omega arith, every-next (c .before .before .before .loop .inv .1) (sym (c .before .fault-ok .ensures) ∙ not-false _ (c .if1 .left)))
 
@@ -45,7 +39,7 @@ first-bad-fault-spec =
     loop-holds
     fault-ok-requires
     returns
-    add-j
-    loop-less
+    (λ c. omega arith)
+    (λ c. omega arith)
     loop-again
     returns-2)

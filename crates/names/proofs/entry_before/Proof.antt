@@ -8,15 +8,6 @@ use borrow.Author.Needs.{needs}
 use Rattle.names.proofs.entry_before.Statement.{statement}
 use Rattle.names.proofs.entry_before.Tie as tie
 
-before-requires : tie.Need-before-requires
-before-requires c κs = search needs
-
-mul-result : tie.Need-mul-result
-mul-result c = search needs
-
-shared-slice-read-result : tie.Need-shared-slice-read-result
-shared-slice-read-result c = search needs
-
 returns : tie.Need-returns
 returns c = ap (λ (i : ℕ). getD (c .before .before .before .before .args .numbers .now) i 0) (c .before .before .before2 .ensures)
 
@@ -28,4 +19,4 @@ returns-2 c =
 
 pub entry-before-spec : {M : Type 1} → statement M
 entry-before-spec =
-    tie.close (tie.spec before-requires mul-result shared-slice-read-result returns returns-2)
+    tie.close (tie.spec (λ c κs. search needs) (λ c. search needs) (λ c. search needs) returns returns-2)

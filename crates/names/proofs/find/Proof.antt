@@ -15,32 +15,14 @@ Inv-loop text defs head next n h at p₀ p = Walk text defs (wordAt text at) n h
 abbrev μ-loop : tie.MeasureT-loop
 μ-loop text defs head next n h at p₀ p = p
 
-mul-wide16 : tie.Need-mul-wide16 Inv-loop μ-loop
-mul-wide16 c = omega arith
-
-shared-slice-read-wide16 : tie.Need-shared-slice-read-wide16 Inv-loop μ-loop
-shared-slice-read-wide16 c = omega arith
-
-wide16-requires : tie.Need-wide16-requires Inv-loop μ-loop
-wide16-requires c κs = search needs
-
 loop-holds : tie.Need-loop-holds Inv-loop μ-loop
 loop-holds c = let first = c .before .before .before .before .before .before in start (first .pre .0) (first .pre .1 .0) (first .pre .1 .1) (c .wide16 .ensures .0)
-
-sub-d : tie.Need-sub-d Inv-loop μ-loop
-sub-d c = omega arith
 
 mul-wide16-2 : tie.Need-mul-wide16-2 Inv-loop μ-loop
 mul-wide16-2 c = omega (arith, inside (c .before .loop .inv) (omega arith))
 
 shared-slice-read-wide16-2 : tie.Need-shared-slice-read-wide16-2 Inv-loop μ-loop
 shared-slice-read-wide16-2 c = omega (arith, inside (c .before .before .loop .inv) (omega arith))
-
-wide16-requires-2 : tie.Need-wide16-requires-2 Inv-loop μ-loop
-wide16-requires-2 c κs = search needs
-
-same-word-requires : tie.Need-same-word-requires Inv-loop μ-loop
-same-word-requires c κs = search needs
 
 returns : tie.Need-returns Inv-loop μ-loop
 returns c =
@@ -57,9 +39,6 @@ mul-wide16-3 c = omega (arith, inside (c .before .before .before .before .before
 
 shared-slice-read-wide16-3 : tie.Need-shared-slice-read-wide16-3 Inv-loop μ-loop
 shared-slice-read-wide16-3 c = omega (arith, inside (c .before .before .before .before .before .before .loop .inv) (omega arith))
-
-wide16-requires-3 : tie.Need-wide16-requires-3 Inv-loop μ-loop
-wide16-requires-3 c κs = search needs
 
 loop-less : tie.Need-loop-less Inv-loop μ-loop
 loop-less c =
@@ -88,19 +67,19 @@ find-spec =
     (tie.spec
     Inv-loop
     μ-loop
-    mul-wide16
-    shared-slice-read-wide16
-    wide16-requires
+    (λ c. omega arith)
+    (λ c. omega arith)
+    (λ c κs. search needs)
     loop-holds
-    sub-d
+    (λ c. omega arith)
     mul-wide16-2
     shared-slice-read-wide16-2
-    wide16-requires-2
-    same-word-requires
+    (λ c κs. search needs)
+    (λ c κs. search needs)
     returns
     mul-wide16-3
     shared-slice-read-wide16-3
-    wide16-requires-3
+    (λ c κs. search needs)
     loop-less
     loop-again
     returns-2)

@@ -22,9 +22,6 @@ outs-of c = c .before .before .before .before .before .before
 abbrev firsts-of : tie.After-look-up3 → tie.After-look-up2
 firsts-of c = c .before .before .before .before .before .before
 
-enter-requires : tie.Need-enter-requires
-enter-requires c κs = search needs
-
 look-up-requires : tie.Need-look-up-requires
 look-up-requires c κs =
     let entered = c .before .before .before .before .before .before .before in
@@ -55,24 +52,6 @@ look-up-requires-3 c κs =
       so-far = omega (arith, entered-most (entered .enter .ensures), looked-most (outs .look-up .ensures), looked-most (firsts .look-up2 .ensures));
     }
 
-rule-names-requires : tie.Need-rule-names-requires
-rule-names-requires c κs = search needs
-
-same-length : tie.Need-same-length
-same-length c = search needs
-
-same-length-2 : tie.Need-same-length-2
-same-length-2 c = search needs
-
-same-length-3 : tie.Need-same-length-3
-same-length-3 c = search needs
-
-same-length-4 : tie.Need-same-length-4
-same-length-4 c = search needs
-
-same-length-5 : tie.Need-same-length-5
-same-length-5 c = search needs
-
 returns : tie.Need-returns
 returns c =
     let seconds = c .before .before .before in
@@ -94,14 +73,14 @@ pub resolve-by-spec : {M : Type 1} → statement M
 resolve-by-spec =
     tie.close
     (tie.spec
-    enter-requires
+    (λ c κs. search needs)
     look-up-requires
     look-up-requires-2
     look-up-requires-3
-    rule-names-requires
-    same-length
-    same-length-2
-    same-length-3
-    same-length-4
-    same-length-5
+    (λ c κs. search needs)
+    (λ c. search needs)
+    (λ c. search needs)
+    (λ c. search needs)
+    (λ c. search needs)
+    (λ c. search needs)
     returns)

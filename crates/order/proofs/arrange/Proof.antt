@@ -9,14 +9,8 @@ use Rattle.ground.proofs.Filled.{take-replicate}
 use Rattle.order.proofs.arrange.Statement.{statement}
 use Rattle.order.proofs.arrange.Tie as tie
 
-array-borrow-prefix-reader : tie.Need-array-borrow-prefix-reader
-array-borrow-prefix-reader c = search needs
-
 slice-aggregate-arrange-in : tie.Need-slice-aggregate-arrange-in
 slice-aggregate-arrange-in c = sym (length-take-le _ _ (omega arith))
-
-array-borrow-prefix-placed : tie.Need-array-borrow-prefix-placed
-array-borrow-prefix-placed c = search needs
 
 slice-aggregate-arrange-in-2 : tie.Need-slice-aggregate-arrange-in-2
 slice-aggregate-arrange-in-2 c = sym (length-take-le _ _ (omega arith))
@@ -30,20 +24,14 @@ arrange-in-requires c κs =
       unmarked = take-replicate 8192 (length (s .args .a .now)) 0 (omega arith);
     }
 
-same-length : tie.Need-same-length
-same-length c = search needs
-
-returns : tie.Need-returns
-returns c = search needs
-
 pub arrange-spec : {M : Type 1} → statement M
 arrange-spec =
     tie.close
     (tie.spec
-    array-borrow-prefix-reader
+    (λ c. search needs)
     slice-aggregate-arrange-in
-    array-borrow-prefix-placed
+    (λ c. search needs)
     slice-aggregate-arrange-in-2
     arrange-in-requires
-    same-length
-    returns)
+    (λ c. search needs)
+    (λ c. search needs))

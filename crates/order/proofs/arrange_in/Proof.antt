@@ -8,24 +8,6 @@ use Rattle.order.proofs.Arranged.{arranged}
 use Rattle.order.proofs.arrange_in.Statement.{statement}
 use Rattle.order.proofs.arrange_in.Tie as tie
 
-readers-requires : tie.Need-readers-requires
-readers-requires c κs = search needs
-
-place-requires : tie.Need-place-requires
-place-requires c κs = search needs
-
-rule-placed-requires : tie.Need-rule-placed-requires
-rule-placed-requires c κs = search needs
-
-same-length : tie.Need-same-length
-same-length c = search needs
-
-same-length-2 : tie.Need-same-length-2
-same-length-2 c = search needs
-
-same-length-3 : tie.Need-same-length-3
-same-length-3 c = search needs
-
 returns : tie.Need-returns
 returns c =
     let placing = c .before .before .before .before .before .before in
@@ -37,10 +19,10 @@ pub arrange-in-spec : {M : Type 1} → statement M
 arrange-in-spec =
     tie.close
     (tie.spec
-    readers-requires
-    place-requires
-    rule-placed-requires
-    same-length
-    same-length-2
-    same-length-3
+    (λ c κs. search needs)
+    (λ c κs. search needs)
+    (λ c κs. search needs)
+    (λ c. search needs)
+    (λ c. search needs)
+    (λ c. search needs)
     returns)

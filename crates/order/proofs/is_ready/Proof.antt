@@ -7,36 +7,9 @@ use Rattle.order.specs.Owed.{thereBy, readyBy}
 use Rattle.order.proofs.is_ready.Statement.{statement}
 use Rattle.order.proofs.is_ready.Tie as tie
 
-shared-slice-read-if1 : tie.Need-shared-slice-read-if1
-shared-slice-read-if1 c = search needs
-
 returns : tie.Need-returns
 unfolding readyBy
 returns c = simp (ne-eqb _ _ (c .if1 .taken))
-
-mul-wide16 : tie.Need-mul-wide16
-mul-wide16 c = search needs
-
-shared-slice-read-wide16 : tie.Need-shared-slice-read-wide16
-shared-slice-read-wide16 c = search needs
-
-wide16-requires : tie.Need-wide16-requires
-wide16-requires c κs = search needs
-
-is-there-requires : tie.Need-is-there-requires
-is-there-requires c κs = search needs
-
-mul-wide16-2 : tie.Need-mul-wide16-2
-mul-wide16-2 c = search needs
-
-shared-slice-read-wide16-2 : tie.Need-shared-slice-read-wide16-2
-shared-slice-read-wide16-2 c = search needs
-
-wide16-requires-2 : tie.Need-wide16-requires-2
-wide16-requires-2 c κs = search needs
-
-is-there-requires-2 : tie.Need-is-there-requires-2
-is-there-requires-2 c κs = search needs
 
 returns-2 : tie.Need-returns-2
 unfolding readyBy
@@ -55,15 +28,15 @@ pub is-ready-spec : {M : Type 1} → statement M
 is-ready-spec =
     tie.close
     (tie.spec
-    shared-slice-read-if1
+    (λ c. search needs)
     returns
-    mul-wide16
-    shared-slice-read-wide16
-    wide16-requires
-    is-there-requires
-    mul-wide16-2
-    shared-slice-read-wide16-2
-    wide16-requires-2
-    is-there-requires-2
+    (λ c. search needs)
+    (λ c. search needs)
+    (λ c κs. search needs)
+    (λ c κs. search needs)
+    (λ c. search needs)
+    (λ c. search needs)
+    (λ c κs. search needs)
+    (λ c κs. search needs)
     returns-2
     returns-3)

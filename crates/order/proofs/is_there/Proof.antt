@@ -10,12 +10,9 @@ returns : tie.Need-returns
 unfolding thereBy
 returns c = simp (le-leb _ _ (c .if1 .taken))
 
-shared-slice-read-result : tie.Need-shared-slice-read-result
-shared-slice-read-result c = search needs
-
 returns-2 : tie.Need-returns-2
 unfolding thereBy
 returns-2 c = simp (lt-leb _ _ (c .before .if1 .left))
 
 pub is-there-spec : {M : Type 1} → statement M
-is-there-spec = tie.close (tie.spec returns shared-slice-read-result returns-2)
+is-there-spec = tie.close (tie.spec returns (λ c. search needs) returns-2)

@@ -7,18 +7,6 @@ use borrow.Author.Needs.{needs}
 use Rattle.order.proofs.note.Statement.{statement}
 use Rattle.order.proofs.note.Tie as tie
 
-narrow-requires : tie.Need-narrow-requires
-narrow-requires c κs = search needs
-
-mul-reader : tie.Need-mul-reader
-mul-reader c = search needs
-
-slice-write-reader : tie.Need-slice-write-reader
-slice-write-reader c = search needs
-
-same-length : tie.Need-same-length
-same-length c = search needs
-
 returns : tie.Need-returns
 returns c = rw (c .narrow .ensures)
 
@@ -28,4 +16,4 @@ returns-2 c = sym (set-out _ _ _ (omega arith))
 pub note-spec : {M : Type 1} → statement M
 note-spec =
     tie.close
-    (tie.spec narrow-requires mul-reader slice-write-reader same-length returns returns-2)
+    (tie.spec (λ c κs. search needs) (λ c. search needs) (λ c. search needs) (λ c. search needs) returns returns-2)

@@ -19,12 +19,6 @@ loop-holds c = start (c .before .before .before .before .before .pre)
 is-ready-requires : tie.Need-is-ready-requires Inv-loop μ-loop
 is-ready-requires c κs = (omega arith, omega arith, omega arith)
 
-slice-write-placed : tie.Need-slice-write-placed Inv-loop μ-loop
-slice-write-placed c = omega arith
-
-narrow-requires : tie.Need-narrow-requires Inv-loop μ-loop
-narrow-requires c κs = omega arith
-
 slice-write-order : tie.Need-slice-write-order Inv-loop μ-loop
 slice-write-order c =
     let s = c .before .before .before .before .before in
@@ -35,9 +29,6 @@ mul-order c = omega (arith, slice-write-order c)
 
 add-n : tie.Need-add-n Inv-loop μ-loop
 add-n c = omega (arith, slice-write-order c)
-
-back-requires : tie.Need-back-requires Inv-loop μ-loop
-back-requires c κs = omega arith
 
 loop-less : tie.Need-loop-less Inv-loop μ-loop
 loop-less c =
@@ -53,12 +44,6 @@ loop-again c =
     (f .args .reader .now) (f .pre .back) (c .back .result) (omega arith) (omega arith)
     )
 
-add-c : tie.Need-add-c Inv-loop μ-loop
-add-c c = omega arith
-
-loop-less-2 : tie.Need-loop-less-2 Inv-loop μ-loop
-loop-less-2 c = omega arith
-
 loop-again-2 : tie.Need-loop-again-2 Inv-loop μ-loop
 loop-again-2 c = skipped (c .before .before .before .before .loop .inv) (omega arith) (sym (c .before .is-ready .ensures) ∙ c .if1 .left)
 
@@ -66,9 +51,6 @@ same-length : tie.Need-same-length Inv-loop μ-loop
 same-length c =
     let f = c .before .before .before .before .before .before .before in
     omega (arith, ap length (f .pre .unmarked) ∙ length-replicate (length (f .args .a .now)) 0)
-
-same-length-2 : tie.Need-same-length-2 Inv-loop μ-loop
-same-length-2 c = omega arith
 
 returns : tie.Need-returns Inv-loop μ-loop
 returns c = finished (c .before .loop .inv) (omega arith)
@@ -81,17 +63,17 @@ place-spec =
     μ-loop
     loop-holds
     is-ready-requires
-    slice-write-placed
-    narrow-requires
+    (λ c. omega arith)
+    (λ c κs. omega arith)
     mul-order
     slice-write-order
     add-n
-    back-requires
+    (λ c κs. omega arith)
     loop-less
     loop-again
-    add-c
-    loop-less-2
+    (λ c. omega arith)
+    (λ c. omega arith)
     loop-again-2
     same-length
-    same-length-2
+    (λ c. omega arith)
     returns)

@@ -17,36 +17,6 @@ abbrev μ-loop : tie.MeasureT-loop
 loop-holds : tie.Need-loop-holds Inv-loop μ-loop
 loop-holds c = (omega arith, start (omega arith))
 
-sub-h : tie.Need-sub-h Inv-loop μ-loop
-sub-h c = omega arith
-
-mul-wide16 : tie.Need-mul-wide16 Inv-loop μ-loop
-mul-wide16 c = omega arith
-
-shared-slice-read-wide16 : tie.Need-shared-slice-read-wide16 Inv-loop μ-loop
-shared-slice-read-wide16 c = omega arith
-
-wide16-requires : tie.Need-wide16-requires Inv-loop μ-loop
-wide16-requires c κs = search needs
-
-note-requires : tie.Need-note-requires Inv-loop μ-loop
-note-requires c κs = omega arith
-
-mul-wide16-2 : tie.Need-mul-wide16-2 Inv-loop μ-loop
-mul-wide16-2 c = omega arith
-
-shared-slice-read-wide16-2 : tie.Need-shared-slice-read-wide16-2 Inv-loop μ-loop
-shared-slice-read-wide16-2 c = omega arith
-
-wide16-requires-2 : tie.Need-wide16-requires-2 Inv-loop μ-loop
-wide16-requires-2 c κs = search needs
-
-note-requires-2 : tie.Need-note-requires-2 Inv-loop μ-loop
-note-requires-2 c κs = omega arith
-
-loop-less : tie.Need-loop-less Inv-loop μ-loop
-loop-less c = omega arith
-
 loop-again : tie.Need-loop-again Inv-loop μ-loop
 loop-again c =
     let second = c .before .before in
@@ -56,9 +26,6 @@ loop-again c =
       rw (second .note2 .ensures, second .before .wide162 .ensures .0, first .note .ensures, first .before .wide16 .ensures .0)
           (more (s .loop .inv .1) (omega arith)),
     )
-
-same-length : tie.Need-same-length Inv-loop μ-loop
-same-length c = omega arith
 
 returns : tie.Need-returns Inv-loop μ-loop
 returns c = finished (c .before .loop .inv .1) (omega arith)
@@ -70,16 +37,16 @@ readers-spec =
     Inv-loop
     μ-loop
     loop-holds
-    sub-h
-    mul-wide16
-    shared-slice-read-wide16
-    wide16-requires
-    note-requires
-    mul-wide16-2
-    shared-slice-read-wide16-2
-    wide16-requires-2
-    note-requires-2
-    loop-less
+    (λ c. omega arith)
+    (λ c. omega arith)
+    (λ c. omega arith)
+    (λ c κs. search needs)
+    (λ c κs. omega arith)
+    (λ c. omega arith)
+    (λ c. omega arith)
+    (λ c κs. search needs)
+    (λ c κs. omega arith)
+    (λ c. omega arith)
     loop-again
-    same-length
+    (λ c. omega arith)
     returns)

@@ -6,9 +6,6 @@ use Rattle.answers.specs.Rules.{said}
 use Rattle.order.proofs.rule_placed.Statement.{statement}
 use Rattle.order.proofs.rule_placed.Tie as tie
 
-first-left-requires : tie.Need-first-left-requires
-first-left-requires c κs = search needs
-
 returns : tie.Need-returns
 unfolding said
 returns c = rw (← (c .before .first-left .ensures), lt-ltb _ _ (c .if1 .taken))
@@ -18,4 +15,4 @@ unfolding said
 returns-2 c = rw (← (c .before .first-left .ensures), le-ltb _ _ (c .if1 .left))
 
 pub rule-placed-spec : {M : Type 1} → statement M
-rule-placed-spec = tie.close (tie.spec first-left-requires returns returns-2)
+rule-placed-spec = tie.close (tie.spec (λ c κs. search needs) returns returns-2)

@@ -7,24 +7,9 @@ use Rattle.records.specs.Owed.{lineBy}
 use Rattle.records.proofs.line_of.Statement.{statement}
 use Rattle.records.proofs.line_of.Tie as tie
 
-wide16-requires : tie.Need-wide16-requires
-wide16-requires c κs = search needs
-
-mul-result : tie.Need-mul-result
-mul-result c = search needs
-
-shared-slice-read-result : tie.Need-shared-slice-read-result
-shared-slice-read-result c = search needs
-
 returns : tie.Need-returns
 unfolding lineBy
 returns c = simp (sym (c .before .before .wide16 .ensures .0), lt-ltb _ _ (c .before .if1 .taken))
-
-sub-narrow : tie.Need-sub-narrow
-sub-narrow c = search needs
-
-narrow-requires : tie.Need-narrow-requires
-narrow-requires c κs = search needs
 
 returns-2 : tie.Need-returns-2
 unfolding lineBy
@@ -34,10 +19,10 @@ pub line-of-spec : {M : Type 1} → statement M
 line-of-spec =
     tie.close
     (tie.spec
-    wide16-requires
-    mul-result
-    shared-slice-read-result
+    (λ c κs. search needs)
+    (λ c. search needs)
+    (λ c. search needs)
     returns
-    sub-narrow
-    narrow-requires
+    (λ c. search needs)
+    (λ c κs. search needs)
     returns-2)

@@ -16,35 +16,11 @@ abbrev μ-loop : tie.MeasureT-loop
 loop-holds : tie.Need-loop-holds Inv-loop μ-loop
 loop-holds c = from-none _ _ _
 
-sub-i : tie.Need-sub-i Inv-loop μ-loop
-sub-i c = omega arith
-
-mul-wide16 : tie.Need-mul-wide16 Inv-loop μ-loop
-mul-wide16 c = omega arith
-
-shared-slice-read-wide16 : tie.Need-shared-slice-read-wide16 Inv-loop μ-loop
-shared-slice-read-wide16 c = omega arith
-
-wide16-requires : tie.Need-wide16-requires Inv-loop μ-loop
-wide16-requires c κs = search needs
-
-add-narrow : tie.Need-add-narrow Inv-loop μ-loop
-add-narrow c = omega arith
-
-narrow-requires : tie.Need-narrow-requires Inv-loop μ-loop
-narrow-requires c κs = omega arith
-
-mul-line : tie.Need-mul-line Inv-loop μ-loop
-mul-line c = omega arith
-
 slice-write-line : tie.Need-slice-write-line Inv-loop μ-loop
 slice-write-line c =
     let at-loop = c .before .before .before .before in
     let l = at-loop .loop in
     rw (c .before .wide16 .ensures .0) (omega (arith, at-loop .before .before .before .pre .gates (l .i - 1) (omega arith), l .inv .long))
-
-loop-less : tie.Need-loop-less Inv-loop μ-loop
-loop-less c = omega arith
 
 loop-again : tie.Need-loop-again Inv-loop μ-loop
 loop-again c =
@@ -53,9 +29,6 @@ loop-again c =
     rw (c .narrow .ensures)
     (from-more (l .inv) (omega arith) (c .before .wide16 .ensures .0)
     (rw (c .before .wide16 .ensures .0) (at-loop .before .before .before .pre .gates (l .i - 1) (omega arith))))
-
-same-length : tie.Need-same-length Inv-loop μ-loop
-same-length c = omega arith
 
 returns : tie.Need-returns Inv-loop μ-loop
 returns c = from-all (c .before .loop .inv) (omega arith)
@@ -67,15 +40,15 @@ number-lines-spec =
     Inv-loop
     μ-loop
     loop-holds
-    sub-i
-    mul-wide16
-    shared-slice-read-wide16
-    wide16-requires
-    add-narrow
-    narrow-requires
-    mul-line
+    (λ c. omega arith)
+    (λ c. omega arith)
+    (λ c. omega arith)
+    (λ c κs. search needs)
+    (λ c. omega arith)
+    (λ c κs. omega arith)
+    (λ c. omega arith)
     slice-write-line
-    loop-less
+    (λ c. omega arith)
     loop-again
-    same-length
+    (λ c. omega arith)
     returns)

@@ -3,7 +3,7 @@
 use Prim.Native.Nat.{_-_}
 use native.Mathlib.Omega.{arith}
 use Rattle.ground.proofs.Put.{put-long}
-use Rattle.records.specs.Owed.{linedOf, linesIn}
+use Rattle.records.specs.Owed.{linedOf, lineCount}
 use Rattle.records.proofs.Lines.{SoFar, so-far-none, line-room, so-far-more, so-far-all}
 use Rattle.records.proofs.put_lines.Statement.{statement}
 use Rattle.records.proofs.put_lines.Tie as tie
@@ -12,10 +12,7 @@ abbrev Inv-loop : tie.InvT-loop
 Inv-loop inputs kinds firsts seconds order line flag records₀ size at₀ k₀ records at k = SoFar (linedOf inputs kinds firsts seconds order line flag) records₀ records at k
 
 abbrev μ-loop : tie.MeasureT-loop
-μ-loop inputs kinds firsts seconds order line flag records₀ size at₀ k₀ records at k = linesIn (linedOf inputs kinds firsts seconds order line flag) - k
-
-add-size : tie.Need-add-size Inv-loop μ-loop
-add-size c = omega arith
+μ-loop inputs kinds firsts seconds order line flag records₀ size at₀ k₀ records at k = lineCount (linedOf inputs kinds firsts seconds order line flag) - k
 
 loop-holds : tie.Need-loop-holds Inv-loop μ-loop
 loop-holds c = so-far-none _ _
@@ -24,12 +21,6 @@ put-line-requires : tie.Need-put-line-requires Inv-loop μ-loop
 put-line-requires c κs =
     line-room (c .before .before .loop .inv) (c .before .before .before .before .before .before .before .before .before .before .pre .0)
     (c .before .before .before .before .before .before .before .before .before .before .pre .1) (c .before .loop-test .taken)
-
-add-k : tie.Need-add-k Inv-loop μ-loop
-add-k c = omega arith
-
-loop-less : tie.Need-loop-less Inv-loop μ-loop
-loop-less c = omega arith
 
 loop-again : tie.Need-loop-again Inv-loop μ-loop
 loop-again c = so-far-more (c .before .before .before .before .before .loop .inv) (c .before .before .before .before .loop-test .taken) (c .before .before .put-line .ensures)
@@ -46,11 +37,11 @@ put-lines-spec =
     (tie.spec
     Inv-loop
     μ-loop
-    add-size
+    (λ c. omega arith)
     loop-holds
     put-line-requires
-    add-k
-    loop-less
+    (λ c. omega arith)
+    (λ c. omega arith)
     loop-again
     same-length
     returns)

@@ -8,12 +8,6 @@ use Rattle.records.specs.Owed.{recordOf}
 use Rattle.records.proofs.put_record.Statement.{statement}
 use Rattle.records.proofs.put_record.Tie as tie
 
-put-pair-requires : tie.Need-put-pair-requires
-put-pair-requires c κs = search needs
-
-put-two-requires : tie.Need-put-two-requires
-put-two-requires c κs = search needs
-
 put-two-requires-2 : tie.Need-put-two-requires-2
 put-two-requires-2 c κs = omega (arith, le-length 2 (c .before .before .before .before .before .before .before .before .before .before .args .first))
 
@@ -21,9 +15,6 @@ put-two-requires-3 : tie.Need-put-two-requires-3
 put-two-requires-3 c κs =
     let start = c .before .before .before .before .before .before .before .before .before .before .before .before .before .before in
     omega (arith, le-length 2 (start .args .first), le-length 2 (start .args .second))
-
-same-length : tie.Need-same-length
-same-length c = search needs
 
 returns : tie.Need-returns
 unfolding recordOf
@@ -36,9 +27,9 @@ pub put-record-spec : {M : Type 1} → statement M
 put-record-spec =
     tie.close
     (tie.spec
-    put-pair-requires
-    put-two-requires
+    (λ c κs. search needs)
+    (λ c κs. search needs)
     put-two-requires-2
     put-two-requires-3
-    same-length
+    (λ c. search needs)
     returns)

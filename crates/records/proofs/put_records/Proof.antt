@@ -10,17 +10,8 @@ use Rattle.ground.proofs.Filled.{take-replicate, filled-at}
 use Rattle.records.proofs.put_records.Statement.{statement}
 use Rattle.records.proofs.put_records.Tie as tie
 
-add-size : tie.Need-add-size
-add-size c = omega arith
-
-array-borrow-prefix-line : tie.Need-array-borrow-prefix-line
-array-borrow-prefix-line c = omega arith
-
 slice-aggregate-put-records-in : tie.Need-slice-aggregate-put-records-in
 slice-aggregate-put-records-in c = sym (length-take-le _ _ (omega arith))
-
-array-borrow-prefix-flag : tie.Need-array-borrow-prefix-flag
-array-borrow-prefix-flag c = omega arith
 
 slice-aggregate-put-records-in-2 : tie.Need-slice-aggregate-put-records-in-2
 slice-aggregate-put-records-in-2 c = sym (length-take-le _ _ (omega arith))
@@ -37,9 +28,6 @@ put-records-in-requires c κs =
           (filled-at (s .args .inputs + length (s .args .firsts .now)) 0 x);
     }
 
-same-length : tie.Need-same-length
-same-length c = search needs
-
 returns : tie.Need-returns
 returns c = c .before .before .before .before .put-records-in .ensures
 
@@ -47,11 +35,11 @@ pub put-records-spec : {M : Type 1} → statement M
 put-records-spec =
     tie.close
     (tie.spec
-    add-size
-    array-borrow-prefix-line
+    (λ c. omega arith)
+    (λ c. omega arith)
     slice-aggregate-put-records-in
-    array-borrow-prefix-flag
+    (λ c. omega arith)
     slice-aggregate-put-records-in-2
     put-records-in-requires
-    same-length
+    (λ c. search needs)
     returns)

@@ -18,15 +18,6 @@ put-lines-requires c κs =
     let start = numbered .before .before .before .before .before .before .before .before .before .before in
     (has-lines (start .pre) (numbered .number-lines .kept .1 .1 .0) (marked .mark-outputs .kept .1 .0), room-is (start .pre))
 
-same-length : tie.Need-same-length
-same-length c = search needs
-
-same-length-2 : tie.Need-same-length-2
-same-length-2 c = search needs
-
-same-length-3 : tie.Need-same-length-3
-same-length-3 c = search needs
-
 returns : tie.Need-returns
 returns c =
     let marked = c .before .before .before .before .before .before .before .before in
@@ -43,7 +34,7 @@ put-records-in-spec =
     number-lines-requires
     mark-outputs-requires
     put-lines-requires
-    same-length
-    same-length-2
-    same-length-3
+    (λ c. search needs)
+    (λ c. search needs)
+    (λ c. search needs)
     returns)

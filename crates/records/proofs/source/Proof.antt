@@ -6,12 +6,6 @@ use Rattle.records.specs.Owed.{sourceBy}
 use Rattle.records.proofs.source.Statement.{statement}
 use Rattle.records.proofs.source.Tie as tie
 
-pins-requires : tie.Need-pins-requires
-pins-requires c κs = search needs
-
-line-of-requires : tie.Need-line-of-requires
-line-of-requires c κs = search needs
-
 returns : tie.Need-returns
 unfolding sourceBy
 returns c = simp (le-leb _ _ (rw (c .before .before .pins .ensures) at (c .before .if1 .taken))) (c .line-of .ensures)
@@ -21,4 +15,4 @@ unfolding sourceBy
 returns-2 c = simp (lt-leb _ _ (rw (c .before .pins .ensures) at (c .if1 .left)))
 
 pub source-spec : {M : Type 1} → statement M
-source-spec = tie.close (tie.spec pins-requires line-of-requires returns returns-2)
+source-spec = tie.close (tie.spec (λ c κs. search needs) (λ c κs. search needs) returns returns-2)

@@ -42,12 +42,6 @@ fault-entry-requires c κs = let s = c .before .before .before .before .before .
 slice-write-row : tie.Need-slice-write-row Inv-loop μ-loop
 slice-write-row c = omega (arith, c .before .before .before .before .before .before .loop .inv .long)
 
-add-j : tie.Need-add-j Inv-loop μ-loop
-add-j c = omega arith
-
-loop-less : tie.Need-loop-less Inv-loop μ-loop
-loop-less c = omega arith
-
 loop-again : tie.Need-loop-again Inv-loop μ-loop
 loop-again c =
     more (c .before .before .before .before .before .before .loop .inv)
@@ -77,8 +71,8 @@ fill-row-spec =
     read-fault-requires
     fault-entry-requires
     slice-write-row
-    add-j
-    loop-less
+    (λ c. omega arith)
+    (λ c. omega arith)
     loop-again
     same-length
     same-length-2

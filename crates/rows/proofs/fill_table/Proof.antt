@@ -14,21 +14,12 @@ Inv-loop circuit n inputs faults patterns table₀ work₀ count i₀ table work
 abbrev μ-loop : tie.MeasureT-loop
 μ-loop circuit n inputs faults patterns table₀ work₀ count i₀ table work i = patternCount inputs patterns - i
 
-div-count : tie.Need-div-count Inv-loop μ-loop
-div-count c = omega arith
-
 loop-holds : tie.Need-loop-holds Inv-loop μ-loop
 loop-holds c = (refl, start _ _ (c .before .before .before .before .before .pre))
 
 put-row-requires : tie.Need-put-row-requires Inv-loop μ-loop
 put-row-requires c κs =
     (still (c .before .before .before .loop .inv .1) (c .before .before .before .before .before .before .before .before .before .pre), omega arith)
-
-add-i : tie.Need-add-i Inv-loop μ-loop
-add-i c = omega arith
-
-loop-less : tie.Need-loop-less Inv-loop μ-loop
-loop-less c = omega arith
 
 loop-again : tie.Need-loop-again Inv-loop μ-loop
 loop-again c = let so = c .before .before .before .before .before .before .before .before .loop .inv .1 in (
@@ -53,11 +44,11 @@ fill-table-spec =
     (tie.spec
     Inv-loop
     μ-loop
-    div-count
+    (λ c. omega arith)
     loop-holds
     put-row-requires
-    add-i
-    loop-less
+    (λ c. omega arith)
+    (λ c. omega arith)
     loop-again
     same-length
     same-length-2

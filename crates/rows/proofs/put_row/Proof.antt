@@ -23,22 +23,10 @@ mul-at c = let s = c .before .before .before .before .before in omega (arith, ro
 add-to : tie.Need-add-to
 add-to c = let s = c .before .before .before .before .before in omega (arith, row-fits (s .pre .0) (s .pre .1))
 
-sub-pattern : tie.Need-sub-pattern
-sub-pattern c = search needs
-
-part-pattern-start : tie.Need-part-pattern-start
-part-pattern-start c = search needs
-
 part-pattern-end : tie.Need-part-pattern-end
 part-pattern-end c =
     let s = c .before .before .before .before .before in
     omega (arith, pattern-fits (s .args .patterns .now) (s .pre .0 .patterns) (s .pre .1))
-
-sub-fill-row : tie.Need-sub-fill-row
-sub-fill-row c = search needs
-
-part-fill-row-start : tie.Need-part-fill-row-start
-part-fill-row-start c = search needs
 
 part-fill-row-end : tie.Need-part-fill-row-end
 part-fill-row-end c = let s = c .before .before .before .before .before .before in omega (arith, row-fits (s .pre .0) (s .pre .1))
@@ -47,12 +35,6 @@ fill-row-requires : tie.Need-fill-row-requires
 fill-row-requires c κs = let s = c .before .before .before .before .before .before .before .before in
     row-ready (s .args .circuit .now) (s .args .n) (s .args .inputs) (s .args .faults .now) (s .args .patterns .now) (s .args .table .now)
     (s .args .i) (s .pre .0) (s .pre .1)
-
-same-length : tie.Need-same-length
-same-length c = search needs
-
-same-length-2 : tie.Need-same-length-2
-same-length-2 c = search needs
 
 returns : tie.Need-returns
 returns c = let s = c .before .before .before .before .before .before .before .before .before .before .before .before .before in
@@ -67,13 +49,13 @@ put-row-spec =
     add-next
     mul-at
     add-to
-    sub-pattern
-    part-pattern-start
+    (λ c. search needs)
+    (λ c. search needs)
     part-pattern-end
-    sub-fill-row
-    part-fill-row-start
+    (λ c. search needs)
+    (λ c. search needs)
     part-fill-row-end
     fill-row-requires
-    same-length
-    same-length-2
+    (λ c. search needs)
+    (λ c. search needs)
     returns)

@@ -5,7 +5,7 @@ use borrow.Author.Needs.{needs}
 use lib.ListN.{length}
 use Rattle.answers.specs.declared.Ruling.the-variants.{Fine}
 use Rattle.answers.specs.Rules.{refusal}
-use Rattle.search.specs.Promise.{restRules}
+use Rattle.search.specs.Promise.{searchRestRules}
 use Rattle.search.proofs.Answer.{fault-inside, runs, rest-refused, rest-fine}
 use Rattle.search.proofs.accepted.Statement.{statement}
 use Rattle.search.proofs.accepted.Tie as tie
@@ -20,17 +20,8 @@ checked c = c .before .before
 
 fine : (c : tie.After-enum-told)
     → let a = entry (checked c) .args in
-    refusal (restRules (a .circuit .now) (a .fault .now) (a .inputs) (a .n) (length (a .test .now)) (length (a .work .now))) ≡ Fine
+    refusal (searchRestRules (a .circuit .now) (a .fault .now) (a .inputs) (a .n) (length (a .test .now)) (length (a .work .now))) ≡ Fine
 fine c = sym (checked c .check-rest .ensures) ∙ c .enum-told .given .1
-
-check-rest-requires : tie.Need-check-rest-requires
-check-rest-requires c κs = search needs
-
-enum-known-v : tie.Need-enum-known-v
-enum-known-v c = search needs
-
-enum-told : tie.Need-enum-told
-enum-told c = search needs
 
 read-fault-requires : tie.Need-read-fault-requires
 read-fault-requires c κs = fault-inside _ _ _ _ _ _ (fine c)
@@ -44,12 +35,6 @@ run-all-x-requires c κs =
 returns : tie.Need-returns
 returns c = rest-refused (sym (c .before .before .before .check-rest .ensures) ∙ c .before .v .given .1)
 
-same-length : tie.Need-same-length
-same-length c = search needs
-
-same-length-2 : tie.Need-same-length-2
-same-length-2 c = search needs
-
 returns-2 : tie.Need-returns-2
 returns-2 c =
     let ran = c .before .before .before .before in
@@ -61,12 +46,12 @@ pub accepted-spec : {M : Type 1} → statement M
 accepted-spec =
     tie.close
     (tie.spec
-    check-rest-requires
-    enum-known-v
-    enum-told
+    (λ c κs. search needs)
+    (λ c. search needs)
+    (λ c. search needs)
     read-fault-requires
     run-all-x-requires
     returns
-    same-length
-    same-length-2
+    (λ c. search needs)
+    (λ c. search needs)
     returns-2)

@@ -7,21 +7,6 @@ use Rattle.answers.proofs.Rules.{after-refused, after-fine}
 use Rattle.search.proofs.check_rest.Statement.{statement}
 use Rattle.search.proofs.check_rest.Tie as tie
 
-check-faults-requires : tie.Need-check-faults-requires
-check-faults-requires c κs = search needs
-
-enum-known-v : tie.Need-enum-known-v
-enum-known-v c = search needs
-
-enum-told : tie.Need-enum-told
-enum-told c = search needs
-
-mul-check-lent : tie.Need-mul-check-lent
-mul-check-lent c = search needs
-
-check-lent-requires : tie.Need-check-lent-requires
-check-lent-requires c κs = search needs
-
 returns : tie.Need-returns
 returns c = sym (after-refused (faultRules 1 _ _) _ (sym (c .before .before .before .check-faults .ensures) ∙ c .before .v .given .1))
 
@@ -32,10 +17,10 @@ pub check-rest-spec : {M : Type 1} → statement M
 check-rest-spec =
     tie.close
     (tie.spec
-    check-faults-requires
-    enum-known-v
-    enum-told
-    mul-check-lent
-    check-lent-requires
+    (λ c κs. search needs)
+    (λ c. search needs)
+    (λ c. search needs)
+    (λ c. search needs)
+    (λ c κs. search needs)
     returns
     returns-2)

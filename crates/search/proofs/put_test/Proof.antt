@@ -16,42 +16,21 @@ use Rattle.search.proofs.put_test.Tie as tie
 whole : (s d : List ℕ) → length s ≡ length d → take (length s) s ++ drop (length s) d ≡ s
 whole s d e = rw (take-length s, drop-of-length-le d {i = length s} (omega arith)) (append-nil s)
 
-enum-told : tie.Need-enum-told
-enum-told c = search needs
-
-copy-requires : tie.Need-copy-requires
-copy-requires c κs = search needs
-
-enum-told-2 : tie.Need-enum-told-2
-enum-told-2 c = search needs
-
-enum-told-3 : tie.Need-enum-told-3
-enum-told-3 c = search needs
-
-same-length : tie.Need-same-length
-same-length c = search needs
-
 returns : tie.Need-returns
 returns c =
     let a = c .before .before .before .before .before .before .before .before .args in
     c .before .before .copy .ensures .1 ∙ whole (a .node .now) (a .test .now) (search needs)
     ∙ sym (ap (λ (v : Verdict). testBy v (a .test .now) (a .node .now)) (c .before .before .before .before .enum-told .given .1))
 
-returns-2 : tie.Need-returns-2
-returns-2 c = search needs
-
-returns-3 : tie.Need-returns-3
-returns-3 c = search needs
-
 pub put-test-spec : {M : Type 1} → statement M
 put-test-spec =
     tie.close
     (tie.spec
-    enum-told
-    copy-requires
-    enum-told-2
-    enum-told-3
-    same-length
+    (λ c. search needs)
+    (λ c κs. search needs)
+    (λ c. search needs)
+    (λ c. search needs)
+    (λ c. search needs)
     returns
-    returns-2
-    returns-3)
+    (λ c. search needs)
+    (λ c. search needs))

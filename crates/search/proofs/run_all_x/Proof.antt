@@ -11,21 +11,18 @@ use Rattle.nodes.specs.declared.Verdict.{Verdict}
 use Rattle.nodes.specs.Node.{Node}
 use Rattle.nodes.specs.Order.{Look}
 use Rattle.nodes.proofs.Node.{start-part}
-use Rattle.search.specs.Owed.{Runs, Ran}
+use Rattle.search.specs.Owed.{RunReady, RunDone}
 use Rattle.search.proofs.run_all_x.Statement.{statement}
 use Rattle.search.proofs.run_all_x.Tie as tie
 
 -- the same of an equal node
-runs-of : {c : List ℕ} {fault : Fault} {n : ℕ} {s s2 : Node} {test room : ℕ} → s ≡ s2 → Runs c fault n s test room → Runs c fault n s2 test room
+runs-of : {c : List ℕ} {fault : Fault} {n : ℕ} {s s2 : Node} {test room : ℕ} → s ≡ s2 → RunReady c fault n s test room → RunReady c fault n s2 test room
 runs-of e p = rw (← e) p
 
 ran-of : {look : Look} {after : Node → List ℕ} {s s2 : Node} {b : ℕ} {t w : List ℕ} {r : Verdict} {t′ w′ : List ℕ}
     → s ≡ s2
-    → Ran look after s b t w r t′ w′ → Ran look after s2 b t w r t′ w′
+    → RunDone look after s b t w r t′ w′ → RunDone look after s2 b t w r t′ w′
 ran-of e p = rw (← e) p
-
-array-borrow-prefix-node : tie.Need-array-borrow-prefix-node
-array-borrow-prefix-node c = search needs
 
 slice-aggregate-run : tie.Need-slice-aggregate-run
 slice-aggregate-run c =
@@ -37,12 +34,6 @@ run-requires c κs =
     let s = c .before .before .before .before .before .before in
     runs-of (sym (start-part (s .args .inputs) 64 (omega arith))) (s .pre .1)
 
-same-length : tie.Need-same-length
-same-length c = search needs
-
-same-length-2 : tie.Need-same-length-2
-same-length-2 c = search needs
-
 returns : tie.Need-returns
 returns c =
     let ran = c .before .before .before .before .before in
@@ -53,9 +44,9 @@ pub run-all-x-spec : {M : Type 1} → statement M
 run-all-x-spec =
     tie.close
     (tie.spec
-    array-borrow-prefix-node
+    (λ c. search needs)
     slice-aggregate-run
     run-requires
-    same-length
-    same-length-2
+    (λ c. search needs)
+    (λ c. search needs)
     returns)

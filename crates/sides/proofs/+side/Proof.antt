@@ -13,11 +13,11 @@ use Rattle.nodes.specs.declared.Verdict.{Verdict}
 use Rattle.nodes.specs.declared.Verdict.the-variants.{Redundant}
 use Rattle.nodes.specs.Node.{Node, IsNode, countX}
 use Rattle.nodes.specs.Order.{Look}
-use Rattle.nodes.specs.Owed.{Sided}
+use Rattle.nodes.specs.Owed.{SideDone}
 use Rattle.nodes.proofs.Node.{found-first, fewer, set-again, restored, set-is}
 use Rattle.nodes.proofs.Ways.{Open, from-node, fits, spent, failed, passed, first-test, first-spent, second-test, second-none, second-spent}
-use Rattle.sides.specs.Look.{lookOf, workOf}
-use Rattle.sides.specs.Owed.{Prepared}
+use Rattle.sides.specs.Look.{lookOf, lookWork}
+use Rattle.sides.specs.Owed.{SideReady}
 use Rattle.sides.proofs.side.Reads as side
 use Rattle.sides.proofs.side.Kinds as side-kinds
 use Rattle.sides.proofs.+side.Lts-side as side-lts
@@ -127,13 +127,13 @@ module _ (t : ℕ) where
   look-at c = lookOf (c .args .fault) (c .args .circuit .now) (c .args .n)
 
   abbrev work-at : Entry → Node → List ℕ
-  work-at c = workOf (c .args .fault) (c .args .circuit .now) (c .args .n)
+  work-at c = lookWork (c .args .fault) (c .args .circuit .now) (c .args .n)
 
-  ready : (c : Entry) → Prepared (c .args .circuit .now) (c .args .fault) (c .args .n) (length (work c))
+  ready : (c : Entry) → SideReady (c .args .circuit .now) (c .args .fault) (c .args .n) (length (work c))
   ready c = c .pre .1 .0
 
   -- the same once the work memory is another of that length
-  ready-with : (c : Entry) {room : ℕ} → room ≡ length (work c) → Prepared (c .args .circuit .now) (c .args .fault) (c .args .n) room
+  ready-with : (c : Entry) {room : ℕ} → room ≡ length (work c) → SideReady (c .args .circuit .now) (c .args .fault) (c .args .n) room
   ready-with c same = let r = ready c in record { shaped = r .shaped; line = r .line; looks = r .looks; two = same ∙ r .two }
 
   node-at : (c : Entry) → IsNode (inputsBefore (c .args .circuit .now) (c .args .n)) (node c)
@@ -154,7 +154,7 @@ module _ (t : ℕ) where
   First c r =
       let x = x-of c in
       let e = entry x in
-      Sided (look-at e) (work-at e) (e .args .left - 1) (set (node e) (place x) 0) (work-at e (node e)) r (node1 c) (work1 c)
+      SideDone (look-at e) (work-at e) (e .args .left - 1) (set (node e) (place x) 0) (work-at e (node e)) r (node1 c) (work1 c)
 
   first : (c : AtFirst) → First c (c .side .result)
   first c = rw (visit-of (x-of c) .visit .ensures .work) at (c .side .ensures)
@@ -172,7 +172,7 @@ module _ (t : ℕ) where
       let n = none-of c in
       let x = x1 n in
       let e = entry x in
-      Sided (look-at e) (work-at e) (e .args .left - 1 - looked n) (set (node e) (place x) 1) (work1 (first-of n)) r (node2 c) (work2 c)
+      SideDone (look-at e) (work-at e) (e .args .left - 1 - looked n) (set (node e) (place x) 1) (work1 (first-of n)) r (node2 c) (work2 c)
 
   -- its node is the entry's with a 1
   again : (c : AtNone) → set (node1 (first-of c)) (place (x1 c)) 1 ≡ set (node (entry (x1 c))) (place (x1 c)) 1

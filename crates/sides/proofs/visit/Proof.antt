@@ -5,7 +5,7 @@ use mathlib.Core.List.{List}
 use Prim.Native.Nat.{ℕ}
 use borrow.Author.Needs.{needs}
 use Rattle.simulate.specs.Owed.{Shaped}
-use Rattle.sides.specs.Look.{workOf}
+use Rattle.sides.specs.Look.{lookWork}
 use Rattle.sides.proofs.Look.{entry-is-look}
 use Rattle.sides.proofs.visit.Statement.{statement}
 use Rattle.sides.proofs.visit.Tie as tie
@@ -18,12 +18,9 @@ look-requires c κs =
     let p = c .before .before .before .before .pre in
     record { room = record { shaped = sized (p .1 .size) (p .0 .shaped); two = p .0 .two }; line = p .0 .line }
 
-same-length : tie.Need-same-length
-same-length c = search needs
-
 returns : tie.Need-returns
-unfolding workOf
+unfolding lookWork
 returns c = record { says = c .before .before .look .ensures .entry-is ∙ entry-is-look _ _ _ _; work = c .before .before .look .ensures .work-is }
 
 pub visit-spec : {M : Type 1} → statement M
-visit-spec = tie.close (tie.spec look-requires same-length returns)
+visit-spec = tie.close (tie.spec look-requires (λ c. search needs) returns)

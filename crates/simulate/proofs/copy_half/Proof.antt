@@ -19,17 +19,8 @@ loop-holds c = start _ _ (c .pre)
 slice-read-work : tie.Need-slice-read-work Inv-loop μ-loop
 slice-read-work c = omega (arith, c .before .before .loop .inv .long)
 
-add-work : tie.Need-add-work Inv-loop μ-loop
-add-work c = omega arith
-
 slice-write-work : tie.Need-slice-write-work Inv-loop μ-loop
 slice-write-work c = omega (arith, c .before .before .loop .inv .long)
-
-add-k : tie.Need-add-k Inv-loop μ-loop
-add-k c = omega arith
-
-loop-less : tie.Need-loop-less Inv-loop μ-loop
-loop-less c = omega arith
 
 loop-again : tie.Need-loop-again Inv-loop μ-loop
 loop-again c = more (c .before .before .before .pre) (c .before .before .loop .inv) (omega arith)
@@ -48,10 +39,10 @@ copy-half-spec =
     μ-loop
     loop-holds
     slice-read-work
-    add-work
+    (λ c. omega arith)
     slice-write-work
-    add-k
-    loop-less
+    (λ c. omega arith)
+    (λ c. omega arith)
     loop-again
     same-length
     returns)

@@ -6,25 +6,10 @@ use Rattle.simulate.proofs.Halves.{lent-long, adds-faulty}
 use Rattle.simulate.proofs.faulty_values.Statement.{statement}
 use Rattle.simulate.proofs.faulty_values.Tie as tie
 
-copy-half-requires : tie.Need-copy-half-requires
-copy-half-requires c κs = search needs
-
-sub-simulate-fault : tie.Need-sub-simulate-fault
-sub-simulate-fault c = search needs
-
-part-simulate-fault-start : tie.Need-part-simulate-fault-start
-part-simulate-fault-start c = search needs
-
-part-simulate-fault-end : tie.Need-part-simulate-fault-end
-part-simulate-fault-end c = search needs
-
 simulate-fault-requires : tie.Need-simulate-fault-requires
 simulate-fault-requires c κs = let s = c .before .before .before .before .before .before .before in
     let w = c .before .before .before .copy-half .last .0 in
     rw (lent-long (s .args .n) w (c .before .before .before .copy-half .kept .0 ∙ s .pre .two)) (s .pre .ordered, s .pre .line)
-
-same-length : tie.Need-same-length
-same-length c = search needs
 
 returns : tie.Need-returns
 returns c = let s = c .before .before .before .before .before .before .before .before .before .before in
@@ -36,10 +21,10 @@ pub faulty-values-spec : {M : Type 1} → statement M
 faulty-values-spec =
     tie.close
     (tie.spec
-    copy-half-requires
-    sub-simulate-fault
-    part-simulate-fault-start
-    part-simulate-fault-end
+    (λ c κs. search needs)
+    (λ c. search needs)
+    (λ c. search needs)
+    (λ c. search needs)
     simulate-fault-requires
-    same-length
+    (λ c. search needs)
     returns)

@@ -11,9 +11,6 @@ use Rattle.simulate.specs.Work.{goodOf}
 use Rattle.simulate.proofs.good_values.Statement.{statement}
 use Rattle.simulate.proofs.good_values.Tie as tie
 
-slice-relend-prefix-simulate : tie.Need-slice-relend-prefix-simulate
-slice-relend-prefix-simulate c = search needs
-
 slice-aggregate-simulate : tie.Need-slice-aggregate-simulate
 slice-aggregate-simulate c = sym (length-take-le _ _ (omega arith))
 
@@ -21,9 +18,6 @@ simulate-requires : tie.Need-simulate-requires
 simulate-requires c κs =
     let s = c .before .before .before .before in
     rw (length-take-le (s .args .n) (s .args .work .now) (omega arith)) (s .pre .shaped)
-
-same-length : tie.Need-same-length
-same-length c = search needs
 
 returns : tie.Need-returns
 returns c = let s = c .before .before .before .before .before .before .before in
@@ -35,8 +29,8 @@ pub good-values-spec : {M : Type 1} → statement M
 good-values-spec =
     tie.close
     (tie.spec
-    slice-relend-prefix-simulate
+    (λ c. search needs)
     slice-aggregate-simulate
     simulate-requires
-    same-length
+    (λ c. search needs)
     returns)

@@ -6,12 +6,6 @@ use Rattle.simulate.specs.Owed.{inputOr}
 use Rattle.simulate.proofs.input_or.Statement.{statement}
 use Rattle.simulate.proofs.input_or.Tie as tie
 
-mul-if1 : tie.Need-mul-if1
-mul-if1 c = search needs
-
-shared-slice-read-if1 : tie.Need-shared-slice-read-if1
-shared-slice-read-if1 c = search needs
-
 shared-slice-read-result : tie.Need-shared-slice-read-result
 shared-slice-read-result c = c .before .before .before .pre .1 (c .before .if1 .taken)
 
@@ -25,4 +19,4 @@ returns-2 c = simp (ne-eqb _ _ (c .if1 .left))
 
 pub input-or-spec : {M : Type 1} → statement M
 input-or-spec =
-    tie.close (tie.spec mul-if1 shared-slice-read-if1 shared-slice-read-result returns returns-2)
+    tie.close (tie.spec (λ c. search needs) (λ c. search needs) shared-slice-read-result returns returns-2)

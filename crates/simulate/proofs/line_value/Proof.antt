@@ -8,23 +8,8 @@ use Rattle.simulate.specs.Simulate.{unforced}
 use Rattle.simulate.proofs.line_value.Statement.{statement}
 use Rattle.simulate.proofs.line_value.Tie as tie
 
-mul-kind : tie.Need-mul-kind
-mul-kind c = search needs
-
-shared-slice-read-kind : tie.Need-shared-slice-read-kind
-shared-slice-read-kind c = search needs
-
-shared-slice-read-result : tie.Need-shared-slice-read-result
-shared-slice-read-result c = search needs
-
 returns : tie.Need-returns
 returns c = input-in unforced _ _ _ (c .before .if1 .taken)
-
-source-requires : tie.Need-source-requires
-source-requires c κs = search needs
-
-source-requires-2 : tie.Need-source-requires-2
-source-requires-2 c κs = search needs
 
 shared-slice-read-gate : tie.Need-shared-slice-read-gate
 shared-slice-read-gate c =
@@ -38,9 +23,6 @@ shared-slice-read-gate-2 c =
     rw (c .before .before .source2 .ensures)
     (source-inside (s .pre .0) (s .pre .1) (c .before .before .before .before .if1 .left) 2 (omega arith) (omega arith))
 
-gate-requires : tie.Need-gate-requires
-gate-requires c κs = search needs
-
 returns-2 : tie.Need-returns-2
 returns-2 c =
     gate-in unforced _ _ _ (c .before .before .before .before .before .if1 .left) (rw (c .before .before .before .before .source .ensures) refl)
@@ -50,13 +32,13 @@ pub line-value-spec : {M : Type 1} → statement M
 line-value-spec =
     tie.close
     (tie.spec
-    mul-kind
-    shared-slice-read-kind
-    shared-slice-read-result
+    (λ c. search needs)
+    (λ c. search needs)
+    (λ c. search needs)
     returns
-    source-requires
-    source-requires-2
+    (λ c κs. search needs)
+    (λ c κs. search needs)
     shared-slice-read-gate
     shared-slice-read-gate-2
-    gate-requires
+    (λ c κs. search needs)
     returns-2)

@@ -25,23 +25,8 @@ input-or-requires c κs =
 slice-write-values : tie.Need-slice-write-values Inv-loop μ-loop
 slice-write-values c = omega (arith, c .before .before .loop .inv .long)
 
-mul-equal : tie.Need-mul-equal Inv-loop μ-loop
-mul-equal c = omega arith
-
-shared-slice-read-equal : tie.Need-shared-slice-read-equal Inv-loop μ-loop
-shared-slice-read-equal c = omega arith
-
-equal-requires : tie.Need-equal-requires Inv-loop μ-loop
-equal-requires c κs = search needs
-
 add-used : tie.Need-add-used Inv-loop μ-loop
 add-used c = omega (arith, used-small (c .before .before .before .before .loop .inv))
-
-add-k : tie.Need-add-k Inv-loop μ-loop
-add-k c = omega arith
-
-loop-less : tie.Need-loop-less Inv-loop μ-loop
-loop-less c = omega arith
 
 loop-again : tie.Need-loop-again Inv-loop μ-loop
 loop-again c = more (c .before .before .before .before .loop .inv) (omega arith) (c .before .before .input-or .ensures) (c .equal .ensures .0)
@@ -61,12 +46,12 @@ put-inputs-spec =
     loop-holds
     input-or-requires
     slice-write-values
-    mul-equal
-    shared-slice-read-equal
-    equal-requires
+    (λ c. omega arith)
+    (λ c. omega arith)
+    (λ c κs. search needs)
     add-used
-    add-k
-    loop-less
+    (λ c. omega arith)
+    (λ c. omega arith)
     loop-again
     same-length
     returns)

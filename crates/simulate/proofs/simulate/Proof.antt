@@ -6,16 +6,10 @@ use Rattle.simulate.proofs.Settled.{ordered, all-good}
 use Rattle.simulate.proofs.simulate.Statement.{statement}
 use Rattle.simulate.proofs.simulate.Tie as tie
 
-put-inputs-requires : tie.Need-put-inputs-requires
-put-inputs-requires c κs = search needs
-
 simulate-from-requires : tie.Need-simulate-from-requires
 simulate-from-requires c κs =
     let s = c .before .before .before .before .before .before .before .before in
     rw (c .before .before .before .put-inputs .kept .1 .1 .0) (s .pre .ordered, omega arith)
-
-same-length : tie.Need-same-length
-same-length c = search needs
 
 returns : tie.Need-returns
 returns c =
@@ -24,4 +18,4 @@ returns c =
     (c .before .before .before .before .before .before .put-inputs .ensures) (c .before .before .simulate-from .ensures)
 
 pub simulate-spec : {M : Type 1} → statement M
-simulate-spec = tie.close (tie.spec put-inputs-requires simulate-from-requires same-length returns)
+simulate-spec = tie.close (tie.spec (λ c κs. search needs) simulate-from-requires (λ c. search needs) returns)

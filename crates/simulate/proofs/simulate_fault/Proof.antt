@@ -8,15 +8,6 @@ use Rattle.simulate.proofs.Below.{makes-faulty}
 use Rattle.simulate.proofs.simulate_fault.Statement.{statement}
 use Rattle.simulate.proofs.simulate_fault.Tie as tie
 
-stuck-value-requires : tie.Need-stuck-value-requires
-stuck-value-requires c κs = search needs
-
-slice-write-values : tie.Need-slice-write-values
-slice-write-values c = search needs
-
-add-simulate-from : tie.Need-add-simulate-from
-add-simulate-from c = search needs
-
 simulate-from-requires : tie.Need-simulate-from-requires
 simulate-from-requires c κs = let s = c .before .before .before .before .before in simp length-set (s .pre .0, omega arith)
 
@@ -33,9 +24,9 @@ pub simulate-fault-spec : {M : Type 1} → statement M
 simulate-fault-spec =
     tie.close
     (tie.spec
-    stuck-value-requires
-    slice-write-values
-    add-simulate-from
+    (λ c κs. search needs)
+    (λ c. search needs)
+    (λ c. search needs)
     simulate-from-requires
     same-length
     returns)

@@ -24,12 +24,6 @@ line-value-requires c κs =
 slice-write-values : tie.Need-slice-write-values Inv-loop μ-loop
 slice-write-values c = omega (arith, c .before .before .before .loop .inv .long)
 
-add-k : tie.Need-add-k Inv-loop μ-loop
-add-k c = omega arith
-
-loop-less : tie.Need-loop-less Inv-loop μ-loop
-loop-less c = omega arith
-
 loop-again : tie.Need-loop-again Inv-loop μ-loop
 loop-again c =
     more (c .before .before .before .loop .inv) (c .before .before .before .before .before .before .pre .0) (omega arith) (c .line-value .ensures)
@@ -49,8 +43,8 @@ simulate-from-spec =
     loop-holds
     line-value-requires
     slice-write-values
-    add-k
-    loop-less
+    (λ c. omega arith)
+    (λ c. omega arith)
     loop-again
     same-length
     returns)

@@ -15,15 +15,6 @@ use borrow.Author.Needs.{needs}
 use Rattle.statements.proofs.form_of.Statement.{statement}
 use Rattle.statements.proofs.form_of.Tie as tie
 
-size-of-requires : tie.Need-size-of-requires
-size-of-requires c κs = search needs
-
-word-in-requires : tie.Need-word-in-requires
-word-in-requires c κs = search needs
-
-slice-aggregate-is-name : tie.Need-slice-aggregate-is-name
-slice-aggregate-is-name c = search needs
-
 is-name-requires : tie.Need-is-name-requires
 unfolding allWord wordByte within
 is-name-requires c κs = record { letters = refl; short = omega arith; inside = omega arith }
@@ -76,9 +67,9 @@ pub form-of-spec : {M : Type 1} → statement M
 form-of-spec =
     tie.close
     (tie.spec
-    size-of-requires
-    word-in-requires
-    slice-aggregate-is-name
+    (λ c κs. search needs)
+    (λ c κs. search needs)
+    (λ c. search needs)
     is-name-requires
     returns
     returns-2

@@ -5,9 +5,6 @@ use borrow.Author.Needs.{needs}
 use Rattle.statements.proofs.kind_if.Statement.{statement}
 use Rattle.statements.proofs.kind_if.Tie as tie
 
-is-name-requires : tie.Need-is-name-requires
-is-name-requires c κs = search needs
-
 returns : tie.Need-returns
 returns c = simp (sym (c .before .is-name .ensures) ∙ c .if1 .taken)
 
@@ -15,4 +12,4 @@ returns-2 : tie.Need-returns-2
 returns-2 c = simp (sym (c .before .is-name .ensures) ∙ c .if1 .left)
 
 pub kind-if-spec : {M : Type 1} → statement M
-kind-if-spec = tie.close (tie.spec is-name-requires returns returns-2)
+kind-if-spec = tie.close (tie.spec (λ c κs. search needs) returns returns-2)

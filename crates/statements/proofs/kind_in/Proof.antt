@@ -9,12 +9,6 @@ use borrow.Author.Needs.{needs}
 use Rattle.statements.proofs.kind_in.Statement.{statement}
 use Rattle.statements.proofs.kind_in.Tie as tie
 
-word-in-requires : tie.Need-word-in-requires
-word-in-requires c κs = search needs
-
-kind-of-requires : tie.Need-kind-of-requires
-kind-of-requires c κs = search needs
-
 returns : tie.Need-returns
 returns c =
     simp (le-leb 3 _ (c .before .before .if1 .taken))
@@ -24,4 +18,4 @@ returns-2 : tie.Need-returns-2
 returns-2 c = simp (lt-leb 3 _ (c .if1 .left))
 
 pub kind-in-spec : {M : Type 1} → statement M
-kind-in-spec = tie.close (tie.spec word-in-requires kind-of-requires returns returns-2)
+kind-in-spec = tie.close (tie.spec (λ c κs. search needs) (λ c κs. search needs) returns returns-2)

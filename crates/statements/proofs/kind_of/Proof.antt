@@ -1,7 +1,7 @@
 -- `statements::kind_of` meets its contract: the keywords are tried from the last to the first.
 -- Assumes nothing.
 use Rattle.syntax.specs.Kinds.{kinds, kindOf}
-use Rattle.words.specs.Owed.{allWord, Keyword}
+use Rattle.words.specs.Owed.{allWord, KeywordReady}
 use Rattle.words.specs.Words.{wordByte, within}
 use mathlib.Core.Path.{_≡_, refl}
 use mathlib.Core.Bool.{true}
@@ -13,7 +13,7 @@ use borrow.Author.Needs.{needs}
 use Rattle.statements.proofs.kind_of.Statement.{statement}
 use Rattle.statements.proofs.kind_of.Tie as tie
 
-keyword : {name : List ℕ} {at : ℕ} → allWord name ≡ true → length name < 20 → at < 65536 → Keyword name at
+keyword : {name : List ℕ} {at : ℕ} → allWord name ≡ true → length name < 20 → at < 65536 → KeywordReady name at
 keyword letters short inside = record { letters = letters; short = short; inside = inside }
 
 returns : tie.Need-returns

@@ -20,63 +20,6 @@ abbrev μ-loop : tie.MeasureT-loop
 loop-holds : tie.Need-loop-holds Inv-loop μ-loop
 loop-holds c = start (c .before .before .before .before .before .pre)
 
-shared-slice-read-form : tie.Need-shared-slice-read-form Inv-loop μ-loop
-shared-slice-read-form c = omega arith
-
-def-word-requires : tie.Need-def-word-requires Inv-loop μ-loop
-def-word-requires c κs = search needs
-
-word-in-requires : tie.Need-word-in-requires Inv-loop μ-loop
-word-in-requires c κs = omega arith
-
-narrow-requires : tie.Need-narrow-requires Inv-loop μ-loop
-narrow-requires c κs = omega arith
-
-mul-defs : tie.Need-mul-defs Inv-loop μ-loop
-mul-defs c = omega arith
-
-slice-write-defs : tie.Need-slice-write-defs Inv-loop μ-loop
-slice-write-defs c = omega arith
-
-number-requires : tie.Need-number-requires Inv-loop μ-loop
-number-requires c κs = search needs
-
-narrow-requires-2 : tie.Need-narrow-requires-2 Inv-loop μ-loop
-narrow-requires-2 c κs = omega arith
-
-mul-numbers : tie.Need-mul-numbers Inv-loop μ-loop
-mul-numbers c = omega arith
-
-slice-write-numbers : tie.Need-slice-write-numbers Inv-loop μ-loop
-slice-write-numbers c = omega arith
-
-bit-requires : tie.Need-bit-requires Inv-loop μ-loop
-bit-requires c κs = search needs
-
-add-g : tie.Need-add-g Inv-loop μ-loop
-add-g c = omega arith
-
-bit-requires-2 : tie.Need-bit-requires-2 Inv-loop μ-loop
-bit-requires-2 c κs = search needs
-
-add-n : tie.Need-add-n Inv-loop μ-loop
-add-n c = omega arith
-
-is-def-requires : tie.Need-is-def-requires Inv-loop μ-loop
-is-def-requires c κs = search needs
-
-bit-requires-3 : tie.Need-bit-requires-3 Inv-loop μ-loop
-bit-requires-3 c κs = search needs
-
-add-d : tie.Need-add-d Inv-loop μ-loop
-add-d c = omega arith
-
-add-k : tie.Need-add-k Inv-loop μ-loop
-add-k c = omega arith
-
-loop-less : tie.Need-loop-less Inv-loop μ-loop
-loop-less c = omega arith
-
 loop-again : tie.Need-loop-again Inv-loop μ-loop
 loop-again c =
     let n = c .before .before .before .before in
@@ -89,12 +32,6 @@ loop-again c =
     (c .before .before .bit2 .ensures .0)
     (c .bit3 .ensures .0 ∙ ap one (c .before .is-def .ensures))
 
-same-length : tie.Need-same-length Inv-loop μ-loop
-same-length c = omega arith
-
-same-length-2 : tie.Need-same-length-2 Inv-loop μ-loop
-same-length-2 c = omega arith
-
 returns : tie.Need-returns Inv-loop μ-loop
 returns c = finished (c .before .loop .inv) (omega arith)
 
@@ -105,26 +42,26 @@ put-defs-spec =
     Inv-loop
     μ-loop
     loop-holds
-    shared-slice-read-form
-    def-word-requires
-    word-in-requires
-    narrow-requires
-    mul-defs
-    slice-write-defs
-    number-requires
-    narrow-requires-2
-    mul-numbers
-    slice-write-numbers
-    bit-requires
-    add-g
-    bit-requires-2
-    add-n
-    is-def-requires
-    bit-requires-3
-    add-d
-    add-k
-    loop-less
+    (λ c. omega arith)
+    (λ c κs. search needs)
+    (λ c κs. omega arith)
+    (λ c κs. omega arith)
+    (λ c. omega arith)
+    (λ c. omega arith)
+    (λ c κs. search needs)
+    (λ c κs. omega arith)
+    (λ c. omega arith)
+    (λ c. omega arith)
+    (λ c κs. search needs)
+    (λ c. omega arith)
+    (λ c κs. search needs)
+    (λ c. omega arith)
+    (λ c κs. search needs)
+    (λ c κs. search needs)
+    (λ c. omega arith)
+    (λ c. omega arith)
+    (λ c. omega arith)
     loop-again
-    same-length
-    same-length-2
+    (λ c. omega arith)
+    (λ c. omega arith)
     returns)

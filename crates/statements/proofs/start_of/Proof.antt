@@ -10,18 +10,6 @@ use Rattle.statements.proofs.start_of.Tie as tie
 returns : tie.Need-returns
 returns c = (first-line _ _ (c .if1 .taken), omega arith)
 
-sub-wide16 : tie.Need-sub-wide16
-sub-wide16 c = search needs
-
-mul-wide16 : tie.Need-mul-wide16
-mul-wide16 c = search needs
-
-shared-slice-read-wide16 : tie.Need-shared-slice-read-wide16
-shared-slice-read-wide16 c = search needs
-
-wide16-requires : tie.Need-wide16-requires
-wide16-requires c κs = search needs
-
 returns-2 : tie.Need-returns-2
 returns-2 c = (
   c .wide16 .ensures .0 ∙ later-line (c .before .before .before .before .args .ends .now) (c .before .before .before .before .args .k) (c .before .before .if1 .left),
@@ -31,4 +19,4 @@ returns-2 c = (
 pub start-of-spec : {M : Type 1} → statement M
 start-of-spec =
     tie.close
-    (tie.spec returns sub-wide16 mul-wide16 shared-slice-read-wide16 wide16-requires returns-2)
+    (tie.spec returns (λ c. search needs) (λ c. search needs) (λ c. search needs) (λ c κs. search needs) returns-2)

@@ -9,21 +9,6 @@ use borrow.Author.Needs.{needs}
 use Rattle.statements.proofs.word_in.Statement.{statement}
 use Rattle.statements.proofs.word_in.Tie as tie
 
-start-of-requires : tie.Need-start-of-requires
-start-of-requires c κs = search needs
-
-add-i : tie.Need-add-i
-add-i c = search needs
-
-mul-wide16 : tie.Need-mul-wide16
-mul-wide16 c = search needs
-
-shared-slice-read-wide16 : tie.Need-shared-slice-read-wide16
-shared-slice-read-wide16 c = search needs
-
-wide16-requires : tie.Need-wide16-requires
-wide16-requires c κs = search needs
-
 returns : tie.Need-returns
 unfolding wordIn
 returns c =
@@ -46,10 +31,10 @@ pub word-in-spec : {M : Type 1} → statement M
 word-in-spec =
     tie.close
     (tie.spec
-    start-of-requires
-    add-i
-    mul-wide16
-    shared-slice-read-wide16
-    wide16-requires
+    (λ c κs. search needs)
+    (λ c. search needs)
+    (λ c. search needs)
+    (λ c. search needs)
+    (λ c κs. search needs)
     returns
     returns-2)

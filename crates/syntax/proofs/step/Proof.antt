@@ -12,14 +12,8 @@ add-wide16 c = omega (arith, c .before .pre .1 .begins, c .before .pre .1 .insid
 add-wide16-2 : tie.Need-add-wide16-2
 add-wide16-2 c = omega (arith, c .before .pre .1 .begins, c .before .pre .1 .inside)
 
-mul-wide16 : tie.Need-mul-wide16
-mul-wide16 c = search needs
-
 shared-slice-read-wide16 : tie.Need-shared-slice-read-wide16
 shared-slice-read-wide16 c = omega (arith, c .before .before .pre .0 .long, c .before .before .pre .1 .begins, c .before .before .pre .1 .inside)
-
-wide16-requires : tie.Need-wide16-requires
-wide16-requires c κs = search needs
 
 returns : tie.Need-returns
 returns c = let f = step-from (c .before .before .before .pre .0) (c .before .before .before .pre .1) (c .before .before .before .pre .2) in rw (c .wide16 .ensures .0) (f .state, f .row)
@@ -27,4 +21,4 @@ returns c = let f = step-from (c .before .before .before .pre .0) (c .before .be
 pub step-spec : {M : Type 1} → statement M
 step-spec =
     tie.close
-    (tie.spec add-wide16 add-wide16-2 mul-wide16 shared-slice-read-wide16 wide16-requires returns)
+    (tie.spec add-wide16 add-wide16-2 (λ c. search needs) shared-slice-read-wide16 (λ c κs. search needs) returns)

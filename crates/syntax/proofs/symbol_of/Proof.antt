@@ -8,17 +8,8 @@ use Rattle.syntax.proofs.Table.{symbol-at, symbol-small}
 use Rattle.syntax.proofs.symbol_of.Statement.{statement}
 use Rattle.syntax.proofs.symbol_of.Tie as tie
 
-wide-requires : tie.Need-wide-requires
-wide-requires c κs = search needs
-
-element-copy-out-wide : tie.Need-element-copy-out-wide
-element-copy-out-wide c = search needs
-
 sub-wide : tie.Need-sub-wide
 sub-wide c = omega (arith, symbol-at _ (c .before .before .pre) _ (c .before .wide .ensures .1))
-
-wide-requires-2 : tie.Need-wide-requires-2
-wide-requires-2 c κs = search needs
 
 returns : tie.Need-returns
 returns c =
@@ -29,4 +20,4 @@ returns c =
 
 pub symbol-of-spec : {M : Type 1} → statement M
 symbol-of-spec =
-    tie.close (tie.spec wide-requires element-copy-out-wide sub-wide wide-requires-2 returns)
+    tie.close (tie.spec (λ c κs. search needs) (λ c. search needs) sub-wide (λ c κs. search needs) returns)

@@ -23,9 +23,6 @@ loop-holds c = (start _, first-row)
 returns : tie.Need-returns Inv-loop μ-loop
 returns c = full (c .before .before .loop .inv .0) (omega arith) (c .if1 .taken)
 
-shared-slice-read-symbol-of : tie.Need-shared-slice-read-symbol-of Inv-loop μ-loop
-shared-slice-read-symbol-of c = omega arith
-
 symbol-of-requires : tie.Need-symbol-of-requires Inv-loop μ-loop
 symbol-of-requires c κs = c .before .before .before .before .before .before .pre .0
 
@@ -39,12 +36,6 @@ returns-2 c =
     let turn = symbol .before .before .before .before in
     let next-is = step .step .ensures .0 ∙ ap (next _) (symbol .symbol-of .ensures .0) in
     stops (turn .loop .inv .0) (omega arith) next-is (step .step .ensures .1 .inside) (omega arith) (omega (arith, c .if2 .taken))
-
-add-i : tie.Need-add-i Inv-loop μ-loop
-add-i c = omega arith
-
-loop-less : tie.Need-loop-less Inv-loop μ-loop
-loop-less c = omega arith
 
 loop-again : tie.Need-loop-again Inv-loop μ-loop
 loop-again c =
@@ -69,12 +60,12 @@ walk-spec =
     μ-loop
     loop-holds
     returns
-    shared-slice-read-symbol-of
+    (λ c. omega arith)
     symbol-of-requires
     step-requires
     returns-2
-    add-i
-    loop-less
+    (λ c. omega arith)
+    (λ c. omega arith)
     loop-again
     returns-3
     returns-4)

@@ -8,15 +8,9 @@ use Rattle.tables.specs.Table.{tableRules}
 use Rattle.tables.proofs.check_table.Statement.{statement}
 use Rattle.tables.proofs.check_table.Tie as tie
 
-sizes-ok-requires : tie.Need-sizes-ok-requires
-sizes-ok-requires c κs = search needs
-
 returns : tie.Need-returns
 unfolding tableRules
 returns c = whole-broken _ refl (sym (c .before .sizes-ok .ensures) ∙ not-true _ (c .if1 .taken))
-
-first-big-requires : tie.Need-first-big-requires
-first-big-requires c κs = search needs
 
 returns-2 : tie.Need-returns-2
 unfolding tableRules
@@ -28,4 +22,4 @@ returns-3 c = none-broken _ refl (sym (c .before .before .before .sizes-ok .ensu
 
 pub check-table-spec : {M : Type 1} → statement M
 check-table-spec =
-    tie.close (tie.spec sizes-ok-requires returns first-big-requires returns-2 returns-3)
+    tie.close (tie.spec (λ c κs. search needs) returns (λ c κs. search needs) returns-2 returns-3)

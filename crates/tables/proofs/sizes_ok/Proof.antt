@@ -10,15 +10,9 @@ use borrow.Author.Tests.{not-true, not-false}
 use Rattle.tables.proofs.sizes_ok.Statement.{statement}
 use Rattle.tables.proofs.sizes_ok.Tie as tie
 
-in-range-requires : tie.Need-in-range-requires
-in-range-requires c κs = search needs
-
 returns : tie.Need-returns
 unfolding sizesOk
 returns c = simp (sym (c .before .in-range .ensures) ∙ not-true _ (c .if1 .taken))
-
-in-range-requires-2 : tie.Need-in-range-requires-2
-in-range-requires-2 c κs = search needs
 
 returns-2 : tie.Need-returns-2
 unfolding sizesOk
@@ -38,4 +32,4 @@ returns-3 c = simp (sym (c .before .before .before .in-range .ensures) ∙ not-f
 pub sizes-ok-spec : {M : Type 1} → statement M
 sizes-ok-spec =
     tie.close
-    (tie.spec in-range-requires returns in-range-requires-2 returns-2 mul-result returns-3)
+    (tie.spec (λ c κs. search needs) returns (λ c κs. search needs) returns-2 mul-result returns-3)

@@ -24,41 +24,11 @@ word-table-requires c κs = tt
 loop-holds : tie.Need-loop-holds Inv-loop μ-loop
 loop-holds c = start (c .before .before .before .before .pre)
 
-shared-slice-read-b : tie.Need-shared-slice-read-b Inv-loop μ-loop
-shared-slice-read-b c = omega arith
-
 in-word-requires : tie.Need-in-word-requires Inv-loop μ-loop
 in-word-requires c κs = c .before .before .before .before .word-table .ensures
 
-end-line-requires : tie.Need-end-line-requires Inv-loop μ-loop
-end-line-requires c κs = omega arith
-
-narrow-requires : tie.Need-narrow-requires Inv-loop μ-loop
-narrow-requires c κs = omega arith
-
-mul-words : tie.Need-mul-words Inv-loop μ-loop
-mul-words c = omega arith
-
-slice-write-words : tie.Need-slice-write-words Inv-loop μ-loop
-slice-write-words c = omega arith
-
-begun-requires : tie.Need-begun-requires Inv-loop μ-loop
-begun-requires c κs = search needs
-
-bit-requires : tie.Need-bit-requires Inv-loop μ-loop
-bit-requires c κs = search needs
-
-add-w : tie.Need-add-w Inv-loop μ-loop
-add-w c = omega arith
-
 lead-requires : tie.Need-lead-requires Inv-loop μ-loop
 lead-requires c κs = c .before .before .before .before .before .before .before .in-word .ensures
-
-add-i : tie.Need-add-i Inv-loop μ-loop
-add-i c = omega arith
-
-loop-less : tie.Need-loop-less Inv-loop μ-loop
-loop-less c = omega arith
 
 loop-again : tie.Need-loop-again Inv-loop μ-loop
 loop-again c =
@@ -72,21 +42,6 @@ loop-again c =
     let counted = bit .bit .ensures .0 ∙ ap one starts in
     rw (narrow .narrow .ensures)
     (more (turn .inv) (omega arith) (bit .bit .result) (c .lead .result) (line .end-line .ensures) counted (c .lead .ensures))
-
-narrow-requires-2 : tie.Need-narrow-requires-2 Inv-loop μ-loop
-narrow-requires-2 c κs = omega arith
-
-mul-ends : tie.Need-mul-ends Inv-loop μ-loop
-mul-ends c = omega arith
-
-slice-write-ends : tie.Need-slice-write-ends Inv-loop μ-loop
-slice-write-ends c = omega arith
-
-add-t22 : tie.Need-add-t22 Inv-loop μ-loop
-add-t22 c = omega arith
-
-same-length : tie.Need-same-length Inv-loop μ-loop
-same-length c = omega arith
 
 same-length-2 : tie.Need-same-length-2 Inv-loop μ-loop
 same-length-2 c = simp length-set (omega arith)
@@ -102,23 +57,23 @@ cut-spec =
     μ-loop
     word-table-requires
     loop-holds
-    shared-slice-read-b
+    (λ c. omega arith)
     in-word-requires
-    end-line-requires
-    narrow-requires
-    mul-words
-    slice-write-words
-    begun-requires
-    bit-requires
-    add-w
+    (λ c κs. omega arith)
+    (λ c κs. omega arith)
+    (λ c. omega arith)
+    (λ c. omega arith)
+    (λ c κs. search needs)
+    (λ c κs. search needs)
+    (λ c. omega arith)
     lead-requires
-    add-i
-    loop-less
+    (λ c. omega arith)
+    (λ c. omega arith)
     loop-again
-    narrow-requires-2
-    mul-ends
-    slice-write-ends
-    add-t22
-    same-length
+    (λ c κs. omega arith)
+    (λ c. omega arith)
+    (λ c. omega arith)
+    (λ c. omega arith)
+    (λ c. omega arith)
     same-length-2
     returns)

@@ -21,15 +21,6 @@ abbrev μ-loop : tie.MeasureT-loop
 loop-holds : tie.Need-loop-holds Inv-loop μ-loop
 loop-holds c = let z : c .before .before .args .at + 0 ≡ c .before .before .args .at = omega arith in (omega arith, rw z)
 
-add-byte : tie.Need-add-byte Inv-loop μ-loop
-add-byte c = omega arith
-
-byte-requires : tie.Need-byte-requires Inv-loop μ-loop
-byte-requires c κs = search needs
-
-shared-slice-read-if1 : tie.Need-shared-slice-read-if1 Inv-loop μ-loop
-shared-slice-read-if1 c = omega arith
-
 returns : tie.Need-returns Inv-loop μ-loop
 returns c =
     let s = c .before .before .before .before in
@@ -38,12 +29,6 @@ returns c =
     (s .loop .inv .1
     ∙ name-not (a .args .text .now) (a .args .at) (a .args .name .now) (a .pre .letters) (s .loop .k) (omega arith)
     (λ e. c .if1 .taken (c .before .before .byte .ensures ∙ e)))
-
-add-k : tie.Need-add-k Inv-loop μ-loop
-add-k c = omega arith
-
-loop-less : tie.Need-loop-less Inv-loop μ-loop
-loop-less c = omega arith
 
 loop-again : tie.Need-loop-again Inv-loop μ-loop
 loop-again c =
@@ -54,15 +39,6 @@ loop-again c =
           ∙ name-more (a .args .text .now) (a .args .at) (a .args .name .now) (a .pre .letters) (s .loop .k) (omega arith)
           (sym (c .before .before .byte .ensures) ∙ c .if1 .left),
     )
-
-add-byte-2 : tie.Need-add-byte-2 Inv-loop μ-loop
-add-byte-2 c = omega arith
-
-byte-requires-2 : tie.Need-byte-requires-2 Inv-loop μ-loop
-byte-requires-2 c κs = search needs
-
-is-word-requires : tie.Need-is-word-requires Inv-loop μ-loop
-is-word-requires c κs = search needs
 
 returns-2 : tie.Need-returns-2 Inv-loop μ-loop
 returns-2 c =
@@ -80,14 +56,14 @@ is-name-spec =
     Inv-loop
     μ-loop
     loop-holds
-    add-byte
-    byte-requires
-    shared-slice-read-if1
+    (λ c. omega arith)
+    (λ c κs. search needs)
+    (λ c. omega arith)
     returns
-    add-k
-    loop-less
+    (λ c. omega arith)
+    (λ c. omega arith)
     loop-again
-    add-byte-2
-    byte-requires-2
-    is-word-requires
+    (λ c. omega arith)
+    (λ c κs. search needs)
+    (λ c κs. search needs)
     returns-2)

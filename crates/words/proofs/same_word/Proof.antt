@@ -20,18 +20,6 @@ abbrev μ-loop : tie.MeasureT-loop
 loop-holds : tie.Need-loop-holds Inv-loop μ-loop
 loop-holds c = refl
 
-byte-requires : tie.Need-byte-requires Inv-loop μ-loop
-byte-requires c κs = search needs
-
-is-word-requires : tie.Need-is-word-requires Inv-loop μ-loop
-is-word-requires c κs = search needs
-
-byte-requires-2 : tie.Need-byte-requires-2 Inv-loop μ-loop
-byte-requires-2 c κs = search needs
-
-byte-requires-3 : tie.Need-byte-requires-3 Inv-loop μ-loop
-byte-requires-3 c κs = search needs
-
 returns : tie.Need-returns Inv-loop μ-loop
 returns c =
     let b = c .before .before .before in
@@ -70,12 +58,6 @@ loop-again c =
     ∙ same-more (s .before .before .args .text .now) (s .loop .x) (s .loop .y) (read-byte (b .before .before .byte .ensures) (b .before .is-word .ensures) (b .if1 .taken))
     (sym (c .before .before .byte2 .ensures) ∙ c .if2 .left ∙ c .before .byte3 .ensures)
 
-byte-requires-4 : tie.Need-byte-requires-4 Inv-loop μ-loop
-byte-requires-4 c κs = search needs
-
-is-word-requires-2 : tie.Need-is-word-requires-2 Inv-loop μ-loop
-is-word-requires-2 c κs = search needs
-
 returns-2 : tie.Need-returns-2 Inv-loop μ-loop
 returns-2 c =
     let b = c .before .before in
@@ -91,15 +73,15 @@ same-word-spec =
     Inv-loop
     μ-loop
     loop-holds
-    byte-requires
-    is-word-requires
-    byte-requires-2
-    byte-requires-3
+    (λ c κs. search needs)
+    (λ c κs. search needs)
+    (λ c κs. search needs)
+    (λ c κs. search needs)
     returns
     add-x
     add-y
     loop-less
     loop-again
-    byte-requires-4
-    is-word-requires-2
+    (λ c κs. search needs)
+    (λ c κs. search needs)
     returns-2)

@@ -7,23 +7,11 @@ use borrow.Author.Needs.{needs}
 use Rattle.bench.proofs.net.hand_over.Statement.{statement}
 use Rattle.bench.proofs.net.hand_over.Tie as tie
 
-check-requires : tie.Need-check-requires
-check-requires c κs = search needs
-
-enum-known-v : tie.Need-enum-known-v
-enum-known-v c = search needs
-
-enum-known-v-2 : tie.Need-enum-known-v-2
-enum-known-v-2 c = search needs
-
 lay-requires : tie.Need-lay-requires
 lay-requires c κs = whole (accepts _ _ _ _ (sym (c .before .before .v2 .given .1) ∙ c .before .before .before .before .check .ensures .answer))
 
 returns : tie.Need-returns
 returns c = first-refused _ _ (refuses _ _ _ (sym (c .before .v .given .1) ∙ c .before .before .before .check .ensures .answer))
-
-same-length : tie.Need-same-length
-same-length c = search needs
 
 returns-2 : tie.Need-returns-2
 returns-2 c =
@@ -37,10 +25,10 @@ pub hand-over-spec : {M : Type 1} → statement M
 hand-over-spec =
     tie.close
     (tie.spec
-    check-requires
-    enum-known-v
-    enum-known-v-2
+    (λ c κs. search needs)
+    (λ c. search needs)
+    (λ c. search needs)
     lay-requires
     returns
-    same-length
+    (λ c. search needs)
     returns-2)

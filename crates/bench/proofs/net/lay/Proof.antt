@@ -12,11 +12,8 @@ returns c = other-size (c .if1 .taken)
 copy-requires : tie.Need-copy-requires
 copy-requires c κs = omega (arith, c .before .before .before .before .pre .fits)
 
-same-length : tie.Need-same-length
-same-length c = search needs
-
 returns-2 : tie.Need-returns-2
 returns-2 c = laid (c .before .before .before .before .if1 .left) (c .before .before .before .before .before .before .before .pre) (c .before .before .copy .ensures .1)
 
 pub lay-spec : {M : Type 1} → statement M
-lay-spec = tie.close (tie.spec returns copy-requires same-length returns-2)
+lay-spec = tie.close (tie.spec returns copy-requires (λ c. search needs) returns-2)

@@ -8,27 +8,18 @@ use borrow.Author.Needs.{needs}
 use Rattle.bench.proofs.net.read_net.Statement.{statement}
 use Rattle.bench.proofs.net.read_net.Tie as tie
 
-array-borrow-prefix-order : tie.Need-array-borrow-prefix-order
-array-borrow-prefix-order c = search needs
-
 slice-aggregate-read-net-in : tie.Need-slice-aggregate-read-net-in
 slice-aggregate-read-net-in c = sym (length-take-le _ _ (omega arith))
 
 read-net-in-requires : tie.Need-read-net-in-requires
 read-net-in-requires c κs = let s = c .before .before .before .before .before .before .before in (s .pre, length-take-le (length (s .args .firsts .now)) (replicate 8192 0) (omega arith))
 
-same-length : tie.Need-same-length
-same-length c = search needs
-
-returns : tie.Need-returns
-returns c = search needs
-
 pub read-net-spec : {M : Type 1} → statement M
 read-net-spec =
     tie.close
     (tie.spec
-    array-borrow-prefix-order
+    (λ c. search needs)
     slice-aggregate-read-net-in
     read-net-in-requires
-    same-length
-    returns)
+    (λ c. search needs)
+    (λ c. search needs))

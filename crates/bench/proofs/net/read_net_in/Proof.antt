@@ -7,31 +7,13 @@ use borrow.Author.Needs.{needs}
 use Rattle.bench.proofs.net.read_net_in.Statement.{statement}
 use Rattle.bench.proofs.net.read_net_in.Tie as tie
 
-arrange-requires : tie.Need-arrange-requires
-arrange-requires c κs = search needs
-
-enum-known-v : tie.Need-enum-known-v
-enum-known-v c = search needs
-
-enum-told : tie.Need-enum-told
-enum-told c = search needs
-
 read-order-requires : tie.Need-read-order-requires
 read-order-requires c κs =
     ordered (c .before .before .before .before .before .before .before .before .before .before .before .before .before .before .pre .0)
     (c .before .before .before .before .before .before .arrange .ensures) (c .before .before .enum-told .given .1)
 
-same-length : tie.Need-same-length
-same-length c = search needs
-
 returns : tie.Need-returns
 returns c = first-refused _ _ (sym (c .before .before .before .before .before .arrange .ensures .ruling) ∙ c .before .v .given .1)
-
-same-length-2 : tie.Need-same-length-2
-same-length-2 c = search needs
-
-same-length-3 : tie.Need-same-length-3
-same-length-3 c = search needs
 
 returns-2 : tie.Need-returns-2
 returns-2 c =
@@ -43,12 +25,12 @@ pub read-net-in-spec : {M : Type 1} → statement M
 read-net-in-spec =
     tie.close
     (tie.spec
-    arrange-requires
-    enum-known-v
-    enum-told
+    (λ c κs. search needs)
+    (λ c. search needs)
+    (λ c. search needs)
     read-order-requires
-    same-length
+    (λ c. search needs)
     returns
-    same-length-2
-    same-length-3
+    (λ c. search needs)
+    (λ c. search needs)
     returns-2)

@@ -10,17 +10,8 @@ use borrow.Author.Needs.{needs}
 use Rattle.bench.proofs.net.read_order.Statement.{statement}
 use Rattle.bench.proofs.net.read_order.Tie as tie
 
-add-n : tie.Need-add-n
-add-n c = search needs
-
 returns : tie.Need-returns
 returns c = too-many _ (c .if1 .taken)
-
-mul-records : tie.Need-mul-records
-mul-records c = search needs
-
-array-borrow-prefix-records : tie.Need-array-borrow-prefix-records
-array-borrow-prefix-records c = search needs
 
 slice-aggregate-read-order-in : tie.Need-slice-aggregate-read-order-in
 slice-aggregate-read-order-in c = sym (length-take-le _ _ (omega arith))
@@ -30,21 +21,15 @@ read-order-in-requires c κs =
     let s = c .before .before .before .before .before .before .before .before .before in
     fits (s .pre) (omega arith) (length-take-le (8 * (s .args .inputs + length (s .args .firsts .now))) (replicate 16384 0) (omega arith))
 
-same-length : tie.Need-same-length
-same-length c = search needs
-
-returns-2 : tie.Need-returns-2
-returns-2 c = search needs
-
 pub read-order-spec : {M : Type 1} → statement M
 read-order-spec =
     tie.close
     (tie.spec
-    add-n
+    (λ c. search needs)
     returns
-    mul-records
-    array-borrow-prefix-records
+    (λ c. search needs)
+    (λ c. search needs)
     slice-aggregate-read-order-in
     read-order-in-requires
-    same-length
-    returns-2)
+    (λ c. search needs)
+    (λ c. search needs))
