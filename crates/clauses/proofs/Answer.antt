@@ -11,8 +11,8 @@ use lib.ListN.{length}
 use borrow.Author.Tests.{le-leb, lt-leb}
 use Rattle.ground.proofs.Counting.{count-most}
 use Rattle.answers.specs.declared.Ruling.{Ruling}
-use Rattle.answers.specs.Rules.{Rule, said, refusal, Applies, AllHold, AllSay}
-use Rattle.answers.proofs.Rules.{fine, after-refused, after-fine, both-say}
+use Rattle.answers.specs.Rules.{Rule, said, refusal, Applies, AllSay}
+use Rattle.answers.proofs.Rules.{after-refused, after-fine, both-say}
 use Rattle.answers.proofs.Answer as answer
 use Rattle.answers.proofs.Answer.{numbers-told, Ruled}
 use Rattle.answers.proofs.Records.{one-record}
@@ -122,9 +122,3 @@ module _ {c fs : List ℕ} {w w′ : List ℤ} {r : Written} (p : Writes c fs w 
   pub applies-refused : Applies (clauseRules c fs (length w)) number place → r ≡ Refused number place
   unfolding writtenOf
   applies-refused = answer.applies-refused (ruled _ _ _) (clauseRules c fs (length w)) (clause-says c fs (length w)) (p .answer) number place
-
--- where all that is asked holds, the list is written
-pub holds-success : {c fs : List ℕ} {w w′ : List ℤ} {r : Written} → Writes c fs w w′ r → AllHold (clauseRules c fs (length w))
-    → r ≡ Success (length (wordsFor c (faultAt fs 0))) (length (clausesFor c (faultAt fs 0))) (variablesOf c (linesOf c))
-unfolding writtenOf
-holds-success {c} {fs} {w} p a = p .answer ∙ rw (fine (clauseRules c fs (length w)) (clause-says c fs (length w)) a)

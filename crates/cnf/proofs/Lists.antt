@@ -63,7 +63,3 @@ module _ {A B : Type 0} (t : B → Bool) (f : A → B) where
   pub all-map : (l : List A) → allOf t (map f l) ≡ allOf (λ x. t (f x)) l
   all-map [] = refl
   all-map (x ∷ l) = rw (all-map l)
-
-  pub any-map : (l : List A) → anyOf t (map f l) ≡ anyOf (λ x. t (f x)) l
-  any-map [] = refl
-  any-map (x ∷ l) = rw (any-map l)

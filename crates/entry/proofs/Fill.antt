@@ -1,14 +1,11 @@
 -- What an entry says of the patterns that fill its X's: fail stays fail, pass stays pass; and without X no entry is unknown.
 -- Assumes nothing.
-use mathlib.Core.Path.{_≡_, refl, sym, _∙_}
-use mathlib.Core.Logic.{_⊎_, inl, inr}
-use mathlib.Core.Bool.{Bool, true, false}
+use mathlib.Core.Path.{_≡_}
 use mathlib.Core.List.{List}
 use Prim.Native.Nat.{ℕ, _<_}
 use native.Mathlib.Decide.{ℕ-discrete}
 use native.Mathlib.Omega.{arith}
 use lib.ListN.{length, getD}
-use Rattle.ground.specs.Choose.{choose}
 use Rattle.answers.specs.Rules.{Same}
 use Rattle.gates.specs.Gate.{Refines}
 use Rattle.circuit.specs.Record.{outAt}
@@ -20,7 +17,7 @@ use Rattle.simulate.specs.Work.{goodOf, faultyOf}
 use Rattle.simulate.proofs.Mono.{RefinesAll, unforced-mono, stuck-mono, values-mono}
 use Rattle.simulate.proofs.Known.{unforced-keeps, stuck-keeps, values-known}
 use Rattle.tables.specs.Entries.{pass, fail, unknown}
-use Rattle.entry.specs.Entry.{Test, agree, differ, someOutput, everyOutput, entryBy, entryOf, entryAt}
+use Rattle.entry.specs.Entry.{Test, agree, differ, entryBy, entryOf, entryAt}
 use Rattle.entry.specs.Words.{Differ, Agree, SomeOutput, EntryBy}
 use Rattle.entry.proofs.Words.{agree-says, fail-some, pass-every, entry-words, entry-says}
 
@@ -47,33 +44,15 @@ module _ (t : Test) (P : ℕ → ℕ → Type 0) (says : (a b : ℕ) → Same (t
           (k, record { inside = l; output = out; holds = record { good-known = known k l .0; faulty-known = known k l .1; differ = d } }) in
           absurd (omega (arith, words .is-fail there))
 
-module _ (c g f : List ℕ) (n : ℕ) where
-  -- a choice is one of three
-  entry-cases : (entryOf c g f n ≡ fail) ⊎ ((entryOf c g f n ≡ pass) ⊎ (entryOf c g f n ≡ unknown))
-  unfolding entryBy
-  entry-cases = go (someOutput differ c g f n) (everyOutput agree c g f n)
-    where
-      go : (d p : Bool)
-          → (choose d fail (choose p pass unknown) ≡ fail) ⊎ ((choose d fail (choose p pass unknown) ≡ pass) ⊎ (choose d fail (choose p pass unknown) ≡ unknown))
-      go true p = inl refl
-      go false true = inr (inl refl)
-      go false false = inr (inr refl)
+module _ (c g f : List ℕ) (n : ℕ) (g′ f′ : List ℕ) (rg : RefinesAll g g′) (rf : RefinesAll f f′) where
+  fail-stays : entryOf c g f n ≡ fail → entryOf c g′ f′ n ≡ fail
+  fail-stays e =
+      let w = fail-some agree Agree agree-says c g f n e in
+      entry-says c g′ f′ n .is-fail
+      (w .0, record { inside = w .1 .inside; output = w .1 .output; holds = differ-stays (rg (w .0)) (rf (w .0)) (w .1 .holds) })
 
-  module _ (g′ f′ : List ℕ) (rg : RefinesAll g g′) (rf : RefinesAll f f′) where
-    fail-stays : entryOf c g f n ≡ fail → entryOf c g′ f′ n ≡ fail
-    fail-stays e =
-        let w = fail-some agree Agree agree-says c g f n e in
-        entry-says c g′ f′ n .is-fail
-        (w .0, record { inside = w .1 .inside; output = w .1 .output; holds = differ-stays (rg (w .0)) (rf (w .0)) (w .1 .holds) })
-
-    pass-stays : entryOf c g f n ≡ pass → entryOf c g′ f′ n ≡ pass
-    pass-stays e = entry-says c g′ f′ n .is-pass (λ k l out. agree-stays (rg k) (rf k) (pass-every agree Agree agree-says c g f n e k l out))
-
--- what is decided stays
-decided-stays : {e e′ : ℕ} → (e ≡ fail → e′ ≡ fail) → (e ≡ pass → e′ ≡ pass) → (e ≡ fail) ⊎ ((e ≡ pass) ⊎ (e ≡ unknown)) → (e′ ≡ e) ⊎ (e ≡ unknown)
-decided-stays f p (inl e) = inl (f e ∙ sym e)
-decided-stays f p (inr (inl e)) = inl (p e ∙ sym e)
-decided-stays f p (inr (inr e)) = inr e
+  pass-stays : entryOf c g f n ≡ pass → entryOf c g′ f′ n ≡ pass
+  pass-stays e = entry-says c g′ f′ n .is-pass (λ k l out. agree-stays (rg k) (rf k) (pass-every agree Agree agree-says c g f n e k l out))
 
 -- ---- of a pattern and a fault
 
@@ -86,10 +65,6 @@ module _ (fault : Fault) (c p : List ℕ) (n : ℕ) where
     pub entry-pass : entryAt fault c p n ≡ pass → entryAt fault c q n ≡ pass
     unfolding entryAt
     entry-pass = pass-stays c _ _ n _ _ (values-mono unforced unforced-mono c p q finer n) (values-mono (stuckAt fault) (stuck-mono fault) c p q finer n)
-
-    pub entry-stays : (entryAt fault c q n ≡ entryAt fault c p n) ⊎ (entryAt fault c p n ≡ unknown)
-    unfolding entryAt
-    entry-stays = decided-stays entry-fail entry-pass (entry-cases c (goodOf c p n) (faultyOf fault c p n) n)
 
   -- without X no entry is unknown
   pub entry-decided : fault .value < 2 → WellFormed c (length p) n → NoX p → entryAt fault c p n ≡ unknown → ⊥

@@ -1,16 +1,16 @@
 -- Of a net's records the check refuses what the sizes of the net say, and nothing else.
 -- Assumes nothing.
-use mathlib.Core.Path.{_≡_, sym, _∙_}
-use Prim.Native.Nat.{ℕ, _≤_}
+use mathlib.Core.Path.{_≡_, _∙_}
+use Prim.Native.Nat.{_≤_}
 use native.Mathlib.Omega.{arith}
 use lib.Dec.{leb}
 use lib.ListN.{length}
 use borrow.Author.Tests.{leb-true, le-leb}
 use Rattle.ground.proofs.Tests.{some, same-test}
-use Rattle.answers.specs.Rules.{refusal, Applies, AllSay, AllHold}
+use Rattle.answers.specs.Rules.{refusal, AllSay, AllHold}
 use Rattle.answers.specs.Answer.{answered}
 use Rattle.answers.specs.declared.Ruling.{Ruling}
-use Rattle.answers.proofs.Rules.{applies, refused, fine}
+use Rattle.answers.proofs.Rules.{fine}
 use Rattle.circuit.specs.declared.Checked.the-variants.{Accepted, Refused}
 use Rattle.circuit.specs.Record.{outputsOf}
 use Rattle.circuit.specs.Promise.{circuitRules, checkOf}
@@ -37,13 +37,6 @@ module _ (net : Net) (r : Right net) where
 
   pub net-says : AllSay (netSizes net)
   net-says = sizes-say (netSize net) (net .inputs) (length (net .outputs))
-
-  -- in words: what is refused is the first that applies, and the first that applies is refused
-  pub refused-size : (m k : ℕ) → refusal (circuitRules (recordsOf net)) ≡ Ruling.Refused m k → Applies (netSizes net) m k
-  refused-size m k e = applies (netSizes net) net-says m k (sym net-refusal ∙ e)
-
-  pub size-refused : (m k : ℕ) → Applies (netSizes net) m k → refusal (circuitRules (recordsOf net)) ≡ Ruling.Refused m k
-  size-refused m k a = net-refusal ∙ refused (netSizes net) net-says m k a
 
   -- the answer of the check
   pub net-check : checkOf (recordsOf net) ≡ answered Refused (refusal (netSizes net)) (Accepted (netSize net) (net .inputs) (outputsOf (recordsOf net)))

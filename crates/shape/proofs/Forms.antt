@@ -8,7 +8,7 @@ use Prim.Native.Nat.{ℕ, _+_, _≤_, _<_}
 use native.Mathlib.Omega.{arith}
 use lib.Dec.{leb}
 use lib.ListN.{length, getD, List·getD-eq-default}
-use borrow.Author.Tests.{ne-eqb, eqb-true, leb-true}
+use borrow.Author.Tests.{ne-eqb, leb-true}
 use Rattle.ground.specs.Choose.{choose}
 use Rattle.ground.proofs.Tests.{either}
 use Rattle.gates.specs.Gate.{pinsOf}
@@ -19,7 +19,7 @@ use Rattle.syntax.proofs.KindTable.{Named, kind-named}
 use Rattle.syntax.specs.Syntax.{Formed}
 use Rattle.statements.specs.Lines.{sizeAt, formOf, formsOf}
 use Rattle.statements.proofs.Forms.{forms-length, forms-get}
-use Rattle.statements.specs.Tables.{saysOutput, saysGate}
+use Rattle.statements.specs.Tables.{saysGate}
 use Rattle.shape.specs.Shape.{wordOn, GateLine}
 use Rattle.shape.proofs.Statements.{line-told}
 
@@ -93,18 +93,8 @@ gate-from (gate n e m) l = (
   sym e,
 )
 
-output-from : {t : List ℕ} {k n : ℕ} → Says t k n → n ≡ 2 → wordOn t k 0 ≡ outputWord
-output-from (nothing e) l = absurd (omega arith)
-output-from (input e w) l = absurd (omega arith)
-output-from (output e w) l = w
-output-from (gate n e m) l = let p = one-or-two _ (m .some) in absurd (⊎-elim (λ i. omega (arith, m .pins)) (λ i. omega (arith, m .pins)) p)
-
 module _ (t : List ℕ) (f : Formed t) (k : ℕ) where
   -- a gate's line has as many sources as its kind has pins, and its form is the number of its words
   pub gate-sources : saysGate (formsOf t (wordsIn t) (endsIn t)) k ≡ true
       → GateLine t k × (getD (formsOf t (wordsIn t) (endsIn t)) k 0 ≡ sizeAt (endsIn t) k)
   gate-sources e = let l = leb-true 3 (getD (formsOf t (wordsIn t) (endsIn t)) k 0) e in gate-from (form-says t f k (omega arith)) l
-
-  -- an output's first word is OUTPUT
-  pub output-word : saysOutput (formsOf t (wordsIn t) (endsIn t)) k ≡ true → wordOn t k 0 ≡ outputWord
-  output-word e = let l = eqb-true (getD (formsOf t (wordsIn t) (endsIn t)) k 0) 2 e in output-from (form-says t f k (omega arith)) l
