@@ -1,6 +1,5 @@
 -- `names::add` meets its contract: definition n stands before those of its hash.
 -- Assumes nothing.
-use native.Mathlib.Omega.{arith}
 use borrow.Author.Needs.{needs}
 use Rattle.names.proofs.Entry.{entered}
 use Rattle.names.proofs.add.Statement.{statement}
