@@ -13,7 +13,7 @@ use Rattle.sides.proofs.+side.Lts-side as side-lts
 use Rattle.sides.proofs.+side.{statement}
 use Rattle.sides.proofs.+side.Tie.{close}
 use Rattle.sides.proofs.+side.Proof.Places.{μ-side, here, calls, entry, x-of, matched, first-of, none-of, matched2, x1, x2, node, place, node2}
-use Rattle.sides.proofs.+side.Proof.Places.{ready, ready-with, node-at, opened, first, began, none, again, ended, opened2, visit-length, node1-length, work1-length, node2-length, work2-length}
+use Rattle.sides.proofs.+side.Proof.Places.{ready, ready-with, node-at, opened, began, none, again, ended, opened2, visit-length, node1-length, work1-length, node2-length, work2-length}
 mod Places
 
 module _ (t : ℕ) where
@@ -61,7 +61,7 @@ module _ (t : ℕ) where
   side-sub-side-3 : side-lts.Need-sub-side-3 (calls t) (here t) side.Post
   side-sub-side-3 c = fits (none t (c .before .before))
 
-  -- the node t is first t known as the first t side left it: `again t` says that this is the entry's with a 1
+  -- the node is first known as the first side left it: `again` says that this is the entry's with a 1
   side-side-requires-2 : side-lts.Need-side-requires-2 (calls t) (here t) side.Post
   side-side-requires-2 c κs =
       let n = c .before .before in

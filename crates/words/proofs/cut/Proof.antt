@@ -18,9 +18,6 @@ Inv-loop text words₀ ends₀ table m₀ w₀ k₀ i₀ words ends m w k i = So
 abbrev μ-loop : tie.MeasureT-loop
 μ-loop text words₀ ends₀ table m₀ w₀ k₀ i₀ words ends m w k i = length text - i
 
-word-table-requires : tie.Need-word-table-requires Inv-loop μ-loop
-word-table-requires c κs = tt
-
 loop-holds : tie.Need-loop-holds Inv-loop μ-loop
 loop-holds c = start (c .before .before .before .before .pre)
 
@@ -55,7 +52,7 @@ cut-spec =
     (tie.spec
     Inv-loop
     μ-loop
-    word-table-requires
+    (λ c κs. tt)
     loop-holds
     (λ c. omega arith)
     in-word-requires

@@ -17,9 +17,6 @@ Inv-loop text i j x₀ y₀ x y = same (wordAt text i) (wordAt text j) ≡ same 
 abbrev μ-loop : tie.MeasureT-loop
 μ-loop text i j x₀ y₀ x y = length text - x
 
-loop-holds : tie.Need-loop-holds Inv-loop μ-loop
-loop-holds c = refl
-
 returns : tie.Need-returns Inv-loop μ-loop
 returns c =
     let b = c .before .before .before in
@@ -72,7 +69,7 @@ same-word-spec =
     (tie.spec
     Inv-loop
     μ-loop
-    loop-holds
+    (λ c. refl)
     (λ c κs. search needs)
     (λ c κs. search needs)
     (λ c κs. search needs)
