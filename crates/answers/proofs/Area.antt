@@ -1,33 +1,16 @@
--- Laws of the answer area: a word laid byte by byte, and words laid one behind the other.
+-- Laws of the answer area: numbers laid one behind the other.
 -- Assumes nothing.
-use Prim.Native.Nat.{ℕ, zero, suc, _+_, _-_, _/_, _%_, _≤_, _<_}
+use Prim.Native.Nat.{ℕ, _+_, _-_, _≤_}
 use mathlib.Core.Path.{_≡_, refl, sym, ap, _∙_}
 use mathlib.Core.List.{List, [], _++_, append-nil}
 use native.Mathlib.Omega.{arith}
-use lib.ListN.{length, drop, set, drop-of-length-le, length-append, length-drop}
+use lib.ListN.{length, drop, drop-of-length-le, length-append, length-drop}
 use lib.Seq.{sets, sets-eq, take-at, drop-append-add, drop-drop}
-use Rattle.answers.specs.Area.{le, Four, areaOf}
+use Rattle.little.specs.Little.{le}
+use Rattle.little.proofs.Little.{le-length}
+use Rattle.answers.specs.Area.{Four, areaOf}
 
-pub le-length : (n w : ℕ) → length (le n w) ≡ n
-unfolding le
-le-length zero w = refl
-le-length (suc n) w = ap suc (le-length n (w / 256))
-
--- what is left to lay from position i on: one byte, and the rest
-pub next-byte : (a : List ℕ) (at i w : ℕ) → i < 8 → sets a (at + i) (le (8 - i) w) ≡ sets (set a (at + i) (w % 256)) (at + (i + 1)) (le (8 - (i + 1)) (w / 256))
-unfolding le
-next-byte a at i w h =
-    let e : 8 - i ≡ suc (8 - (i + 1)) = omega arith in
-    let f : at + (i + 1) ≡ suc (at + i) = omega arith in
-    rw (e, f)
-
-pub all-laid : (a : List ℕ) (at i w : ℕ) → 8 ≤ i → sets a (at + i) (le (8 - i) w) ≡ a
-unfolding le
-all-laid a at i w h =
-    let e : 8 - i ≡ 0 = omega arith in
-    rw e
-
--- a word laid behind p, in an area that held s
+-- a number laid behind p, in an area that held s
 pub next-number : (p s : List ℕ) (n w : ℕ) → length p ≡ n → n + 8 ≤ length s → sets (p ++ drop n s) n (le 8 w) ≡ p ++ le 8 w ++ drop (n + 8) s
 next-number p s n w e h =
     let l : length (le 8 w) ≡ 8 = le-length 8 w in
@@ -36,7 +19,7 @@ next-number p s n w e h =
     ap (λ (k : ℕ). drop (k + 8) (p ++ drop n s)) (sym e) ∙ drop-append-add p (drop n s) 8 ∙ drop-drop 8 n s in
     sets-eq (le 8 w) (p ++ drop n s) n (omega arith) ∙ rw (l, take-at p (drop n s) n e, past)
 
--- four words, one behind the other, in an area of 32 bytes
+-- four numbers, one behind the other, in an area of 32 bytes
 pub four-numbers : (a b c d : List ℕ) {e : List ℕ} (w : Four) → length a ≡ 32
     → b ≡ sets a 0 (le 8 (w .first)) → c ≡ sets b 8 (le 8 (w .second)) → d ≡ sets c 16 (le 8 (w .third)) → e ≡ sets d 24 (le 8 (w .fourth))
     → e ≡ areaOf w

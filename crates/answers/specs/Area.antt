@@ -1,18 +1,14 @@
 -- An answer in numbers, and the 32 bytes of the answer area: four numbers, eight little-endian bytes each.
 -- Assumes nothing.
 use mathlib.Core.Path.{_≡_}
-use mathlib.Core.List.{List, [], _∷_, _++_}
-use Prim.Native.Nat.{ℕ, zero, suc, _/_, _%_}
+use mathlib.Core.List.{List, _++_}
+use Prim.Native.Nat.{ℕ}
 use lib.Dec.{eqb}
 use lib.ListN.{length}
 use Rattle.ground.specs.Choose.{choose}
+use Rattle.little.specs.Little.{le}
 use Rattle.answers.specs.declared.Ruling.{Ruling}
 use Rattle.answers.specs.declared.Ruling.the-variants.{Fine, Refused}
-
--- the n lowest bytes of w, the lowest first
-unfoldable pub le : ℕ → ℕ → List ℕ
-le zero w = []
-le (suc n) w = (w % 256) ∷ le n (w / 256)
 
 pub record Four : Type 0 where
   pub first : ℕ

@@ -1,14 +1,14 @@
 // What a part answers: fine, or refused with a number and a place; and the 32 bytes in which C reads an answer.
+use little::put_eight;
 ghost use mathlib.Core.Path.{_≡_};
-ghost use Prim.Native.Nat.{_+_, _≤_, _<_};
+ghost use Prim.Native.Nat.{_<_};
 ghost use lib.ListN.{length};
-ghost use lib.Seq.{sets};
 ghost use Rattle.ground.specs.Below.{firstNot};
 ghost use Rattle.answers.specs.Rules.{refusal};
 ghost use Rattle.answers.specs.Small.{smallOk};
 ghost use Rattle.answers.specs.Lent.{lentRules};
 ghost use Rattle.answers.specs.Records.{recordsOk};
-ghost use Rattle.answers.specs.Area.{le, areaOf};
+ghost use Rattle.answers.specs.Area.{areaOf};
 
 // What a list of rules says.
 pub enum Ruling {
@@ -59,27 +59,13 @@ pub fn check_lent(size: usize, lent: usize, size2: usize, lent2: usize) -> Rulin
     Ruling::Fine
 }
 
-// Writes w as eight little-endian bytes from byte `at` on.
-fn put_number(area: &mut [u8], at: usize, w: u64)
-    requires { ⌜ at + 8 ≤ length (now area) ⌝ }
-    ensures { λ _. ⌜ now (area .exit) ≡ sets (now (area .entry)) at (le 8 w) ⌝ }
-{
-    let mut rest = w;
-    let mut i = 0;
-    while i < 8 {
-        area[at + i] = (rest % 256) as u8;
-        rest = rest / 256;
-        i += 1;
-    }
-}
-
 // Writes the four numbers of an answer.
 pub fn put_numbers(area: &mut [u8], a: u64, b: u64, c: u64, d: u64)
     requires { ⌜ length (now area) ≡ 32 ⌝ }
     ensures { λ _. ⌜ now (area .exit) ≡ areaOf (record { first = a; second = b; third = c; fourth = d }) ⌝ }
 {
-    put_number(area, 0, a);
-    put_number(area, 8, b);
-    put_number(area, 16, c);
-    put_number(area, 24, d);
+    put_eight(area, 0, a);
+    put_eight(area, 8, b);
+    put_eight(area, 16, c);
+    put_eight(area, 24, d);
 }

@@ -6,10 +6,7 @@ use Prim.Native.Nat.{ℕ, _+_, _*_, _≤_, _/_}
 use lib.Dec.{eqb}
 use lib.ListN.{length, getD}
 use Rattle.ground.specs.Below.{countBelow}
-
--- the little-endian number in the two bytes from at on
-unfoldable pub wordAt : List ℕ → ℕ → ℕ
-wordAt s at = getD s at 0 + 256 * getD s (at + 1) 0
+use Rattle.little.specs.Little.{pairAt}
 
 abbrev pub linesOf : List ℕ → ℕ
 linesOf c = length c / 8
@@ -24,7 +21,7 @@ outAt c k = getD c (8 * k + 1) 0
 
 -- the source of pin s of line k: bytes 2 and 3 of pin 1, 4 and 5 of pin 2, 6 and 7 of pin 3
 abbrev pub pinAt : List ℕ → ℕ → ℕ → ℕ
-pinAt c k s = wordAt c (8 * k + 2 * s)
+pinAt c k s = pairAt c (8 * k + 2 * s)
 
 abbrev pub isInput : List ℕ → ℕ → Bool
 isInput c k = eqb (kindAt c k) 0

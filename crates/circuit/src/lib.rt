@@ -3,7 +3,7 @@ use answers::Ruling;
 use answers::records_ok;
 use gates::LAST_KIND;
 use gates::pins;
-use ground::wide;
+use little::pair_at;
 ghost use mathlib.Core.Path.{_≡_};
 ghost use Prim.Native.Nat.{_+_, _*_, _<_, _≤_};
 ghost use lib.Dec.{eqb};
@@ -11,7 +11,7 @@ ghost use lib.ListN.{length};
 ghost use Rattle.ground.specs.Choose.{one};
 ghost use Rattle.ground.specs.Below.{countBelow, firstNot};
 ghost use Rattle.answers.specs.Rules.{refusal};
-ghost use Rattle.circuit.specs.Record.{wordAt, pinAt, byteIs, Inside};
+ghost use Rattle.circuit.specs.Record.{pinAt, byteIs, Inside};
 ghost use Rattle.circuit.specs.Layout.{pinOk, lineOk};
 ghost use Rattle.circuit.specs.Owed.{limitOf};
 ghost use Rattle.circuit.specs.Promise.{layoutRules, countRules, countedOf, Checks};
@@ -24,22 +24,12 @@ pub enum Checked {
     Refused(u32, usize),
 }
 
-// The little-endian number in the two bytes from `at` on.
-pub fn word(s: &[u8], at: usize) -> usize
-    requires { ⌜ at + 1 < length (now s) ⌝ }
-    ensures { λ r. ⌜ r ≡ wordAt (now (s .entry)) at ⌝ }
-{
-    let low = wide(s[at]);
-    let high = wide(s[at + 1]);
-    low + 256 * high
-}
-
 // The source of pin s of line k.
 pub fn source(circuit: &[u8], k: usize, s: usize) -> usize
     requires { ⌜ Inside (now circuit) k × (s ≤ 3) ⌝ }
     ensures { λ r. ⌜ r ≡ pinAt (now (circuit .entry)) k s ⌝ }
 {
-    word(circuit, 8 * k + 2 * s)
+    pair_at(circuit, 8 * k + 2 * s)
 }
 
 // What a source must be below: the line, or 1 where the kind lacks the pin.

@@ -15,7 +15,8 @@ use Rattle.answers.proofs.Rules as rules
 use Rattle.answers.proofs.Rules.{all-hold}
 use Rattle.answers.proofs.Records.{records-same}
 use Rattle.gates.specs.Gate.{pinsOf}
-use Rattle.circuit.specs.Record.{wordAt, linesOf, kindAt}
+use Rattle.little.specs.Little.{pairAt}
+use Rattle.circuit.specs.Record.{linesOf, kindAt}
 use Rattle.lists.specs.Faults.{faultLine, faultSite, faultValue, faultOk, FaultLayout, faultRules, GoodFaults}
 
 module _ (c fs : List ℕ) (j : ℕ) where
@@ -25,7 +26,7 @@ module _ (c fs : List ℕ) (j : ℕ) where
       let p = both (ltb (faultLine fs j) (linesOf c)) _ e in
       let q = both (leb (faultSite fs j) (pinsOf (kindAt c (faultLine fs j)))) _ (p .1) in
       let r = both (leb (faultValue fs j) 1) _ (q .1) in
-      let t = both (eqb (wordAt fs (8 * j + 4)) 0) _ (r .1) in
+      let t = both (eqb (pairAt fs (8 * j + 4)) 0) _ (r .1) in
       record {
         line = ltb-true _ _ (p .0);
         site = leb-true _ _ (q .0);

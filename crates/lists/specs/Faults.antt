@@ -10,7 +10,8 @@ use Rattle.answers.specs.Rules.{Rule}
 use Rattle.answers.specs.Rules.Rule.{whole, each}
 use Rattle.answers.specs.Records.{recordsOk, Records}
 use Rattle.gates.specs.Gate.{pinsOf}
-use Rattle.circuit.specs.Record.{wordAt, linesOf, kindAt}
+use Rattle.little.specs.Little.{pairAt}
+use Rattle.circuit.specs.Record.{linesOf, kindAt}
 use Rattle.lists.specs.declared.Fault.{Fault}
 
 abbrev pub faultCount : List ℕ → ℕ
@@ -18,7 +19,7 @@ faultCount fs = length fs / 8
 
 -- bytes 0 and 1 the line, byte 2 the site, byte 3 the stuck value
 abbrev pub faultLine : List ℕ → ℕ → ℕ
-faultLine fs j = wordAt fs (8 * j)
+faultLine fs j = pairAt fs (8 * j)
 
 abbrev pub faultSite : List ℕ → ℕ → ℕ
 faultSite fs j = getD fs (8 * j + 2) 0
@@ -38,15 +39,15 @@ unfoldable pub faultOk : List ℕ → List ℕ → ℕ → Bool
 faultOk c fs j =
     ltb (faultLine fs j) (linesOf c)
     && (leb (faultSite fs j) (pinsOf (kindAt c (faultLine fs j)))
-    && (leb (faultValue fs j) 1 && (eqb (wordAt fs (8 * j + 4)) 0 && eqb (wordAt fs (8 * j + 6)) 0)))
+    && (leb (faultValue fs j) 1 && (eqb (pairAt fs (8 * j + 4)) 0 && eqb (pairAt fs (8 * j + 6)) 0)))
 
 -- and in words: the line is there, the pin exists on that kind, the stuck value is 0 or 1, bytes 4 to 7 are zero
 pub record FaultLayout (c fs : List ℕ) (j : ℕ) : Type 0 where
   pub line : faultLine fs j < linesOf c
   pub site : faultSite fs j ≤ pinsOf (kindAt c (faultLine fs j))
   pub value : faultValue fs j ≤ 1
-  pub low : wordAt fs (8 * j + 4) ≡ 0
-  pub high : wordAt fs (8 * j + 6) ≡ 0
+  pub low : pairAt fs (8 * j + 4) ≡ 0
+  pub high : pairAt fs (8 * j + 6) ≡ 0
 
 -- at most so many faults: 256, or 1 for search and clauses
 unfoldable pub faultRules : ℕ → List ℕ → List ℕ → List Rule

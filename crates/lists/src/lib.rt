@@ -2,7 +2,7 @@
 use answers::Ruling;
 use answers::first_big;
 use answers::records_ok;
-use circuit::word;
+use little::pair_at;
 use gates::pins;
 use ground::wide;
 ghost use mathlib.Core.Path.{_≡_};
@@ -27,7 +27,7 @@ pub fn read_fault(faults: &[u8], j: usize) -> Fault
     requires { ⌜ Inside (now faults) j ⌝ }
     ensures { λ r. ⌜ r ≡ faultAt (now (faults .entry)) j ⌝ }
 {
-    let line = word(faults, 8 * j);
+    let line = pair_at(faults, 8 * j);
     let site = faults[8 * j + 2];
     let value = faults[8 * j + 3];
     Fault { line, site, value }
@@ -38,7 +38,7 @@ fn fault_ok(circuit: &[u8], faults: &[u8], j: usize) -> bool
     requires { ⌜ Inside (now faults) j ⌝ }
     ensures { λ r. ⌜ r ≡ faultOk (now (circuit .entry)) (now (faults .entry)) j ⌝ }
 {
-    let line = word(faults, 8 * j);
+    let line = pair_at(faults, 8 * j);
     let n = circuit.len() / 8;
     if n <= line {
         return false;
@@ -49,10 +49,10 @@ fn fault_ok(circuit: &[u8], faults: &[u8], j: usize) -> bool
     if 1 < faults[8 * j + 3] {
         return false;
     }
-    if word(faults, 8 * j + 4) != 0 {
+    if pair_at(faults, 8 * j + 4) != 0 {
         return false;
     }
-    word(faults, 8 * j + 6) == 0
+    pair_at(faults, 8 * j + 6) == 0
 }
 
 // The first of n fault records that is bad, or n.

@@ -2,25 +2,20 @@
 -- Assumes nothing.
 use mathlib.Core.Path.{_≡_}
 use Prim.Native.Nat.{ℕ, _+_, _*_, _≤_, _<_, _/_, _%_}
-use native.Mathlib.Nat.{add-zero, mul-comm, div-add-mod, mod-eq-of-lt, mul-div-right}
+use native.Mathlib.Nat.{add-zero, mul-comm, mul-div-right}
 use native.Mathlib.Omega.{arith}
 use lib.ListN.{length, getD}
 use Rattle.ground.specs.Choose.{one}
 use Rattle.ground.specs.Lists.{elem}
 use Rattle.ground.proofs.Gather.{gather-at}
-use Rattle.answers.specs.Area.{le}
-use Rattle.circuit.specs.Record.{wordAt, linesOf, kindAt, outAt, pinAt}
+use Rattle.little.specs.Little.{le, pairAt}
+use Rattle.little.proofs.Little.{read-back}
+use Rattle.circuit.specs.Record.{linesOf, kindAt, outAt, pinAt}
 use Rattle.circuit.proofs.Lines.{three}
 use Rattle.records.specs.Net.{Net, netSize, numberOn, netKind, netSource, recordOn, recordsTo, recordsOf}
 use Rattle.records.proofs.Size.{record-length, records-length}
 use Rattle.netlist.specs.Solved.{Right}
 use Rattle.netlist.proofs.Sources.{source-inside}
-
--- a number in two bytes
-word : (w : ℕ) → w < 65536 → w % 256 + 256 * (w / 256 % 256) ≡ w
-word w l =
-    let high : w / 256 % 256 ≡ w / 256 = mod-eq-of-lt (omega (arith, div-add-mod w 256)) in
-    omega (arith, div-add-mod w 256)
 
 module _ (net : Net) where
   -- byte i of the record on line k
@@ -46,16 +41,16 @@ module _ (net : Net) where
     module _ (r : Right net) (few : netSize net ≤ 65536) where
       -- bytes 2 and 3 have the source at pin 1, the next two that at pin 2, and the last that at pin 3
       words : (s : ℕ) → 1 ≤ s → s ≤ 3 → getD (recordOn net k) (2 * s) 0 + 256 * getD (recordOn net k) (2 * s + 1) 0 ≡ netSource net k s
-      unfolding recordOn le
+      unfolding recordOn le pairAt
       words =
           three (λ s. getD (recordOn net k) (2 * s) 0 + 256 * getD (recordOn net k) (2 * s + 1) 0 ≡ netSource net k s)
           (source 1 (omega arith)) (source 2 (omega arith)) (source 3 (omega arith))
         where
           source : (s : ℕ) → 1 ≤ s → netSource net k s % 256 + 256 * (netSource net k s / 256 % 256) ≡ netSource net k s
-          source s h = word (netSource net k s) (omega (arith, source-inside net r k s l h))
+          source s h = read-back (netSource net k s) (omega (arith, source-inside net r k s l h))
 
       pub net-pin : (s : ℕ) → 1 ≤ s → s ≤ 3 → pinAt (recordsOf net) k s ≡ netSource net k s
-      unfolding wordAt
+      unfolding pairAt
       net-pin s a b =
           let next : (8 * k + 2 * s) + 1 ≡ 8 * k + (2 * s + 1) = omega arith in
           rw (next, byte k (2 * s) l (omega arith), byte k (2 * s + 1) l (omega arith)) (words s a b)

@@ -2,21 +2,16 @@
 -- Assumes nothing.
 use mathlib.Core.Path.{_≡_, refl}
 use mathlib.Core.Bool.{Bool, true, false}
-use mathlib.Core.List.{List, [], _∷_}
-use Prim.Native.Nat.{ℕ, _*_, _/_, _%_, _<_}
+use mathlib.Core.List.{List}
+use Prim.Native.Nat.{ℕ, _*_}
 use native.Mathlib.Omega.{arith}
 use lib.Dec.{ltb}
 use lib.ListN.{length}
 use Rattle.ground.specs.Choose.{choose}
 use Rattle.ground.proofs.Gather.{gather-length}
-use Rattle.answers.specs.Area.{le}
+use Rattle.little.specs.Little.{le}
 use Rattle.records.specs.Net.{Net, recordOn, recordsTo}
 use Rattle.records.specs.Owed.{Lined, recordOf, gateRecord, recordBy, recordsBy}
-
--- a number below 65,536 has two bytes
-pub two-bytes : {x : ℕ} → x < 65536 → x % 256 ∷ x / 256 ∷ [] ≡ le 2 x
-unfolding le
-two-bytes {x} l = let e : x / 256 % 256 ≡ x / 256 = omega arith in rw e
 
 pub record-length : (net : Net) (k : ℕ) → length (recordOn net k) ≡ 8
 unfolding recordOn le

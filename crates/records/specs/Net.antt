@@ -7,7 +7,7 @@ use lib.Dec.{eqb, ltb, leb}
 use lib.ListN.{length, getD}
 use Rattle.ground.specs.Choose.{choose, one}
 use Rattle.ground.specs.Lists.{elem, indexIn, gather}
-use Rattle.answers.specs.Area.{le}
+use Rattle.little.specs.Little.{le}
 use Rattle.gates.specs.Gate.{pinsOf}
 use Rattle.order.specs.Order.{orderOf}
 

@@ -8,7 +8,7 @@ use lib.Dec.{ltb, leb}
 use lib.ListN.{length, getD}
 use Rattle.ground.specs.Choose.{choose, one}
 use Rattle.ground.specs.Lists.{elem, indexIn, gather}
-use Rattle.answers.specs.Area.{le}
+use Rattle.little.specs.Little.{le}
 use Rattle.gates.specs.Gate.{pinsOf}
 use Rattle.records.specs.Net.{Net, gatesOf, netSize, placedOf}
 

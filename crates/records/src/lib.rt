@@ -2,12 +2,12 @@
 use gates::pins;
 use ground::narrow;
 use ground::wide16;
+use little::put_pair;
+use little::put_two;
 ghost use mathlib.Core.Path.{_≡_};
-ghost use mathlib.Core.List.{[], _∷_};
 ghost use Prim.Native.Nat.{_+_, _*_, _≤_, _<_};
 ghost use lib.ListN.{length};
 ghost use Rattle.ground.specs.Put.{Put};
-ghost use Rattle.answers.specs.Area.{le};
 ghost use Rattle.records.specs.Net.{recordsOf};
 ghost use Rattle.records.specs.Owed.{netOf, PutRecordsReady, PutRecordsInReady, NumberLinesReady, NumberLinesDone, MarkOutputsReady, MarkOutputsDone, lineBy, sourceBy, recordOf, gateRecord, linedOf, recordBy, recordsBy, PutGateReady, PutLinesReady, PutLineReady};
 
@@ -61,24 +61,6 @@ fn source(line: &[u16], kind: u8, pin: usize, number: u16) -> u16
 }
 
 // ---- writing: each writer answers the place after what it wrote
-
-// Two bytes.
-fn put_pair(records: &mut [u8], at: usize, a: u8, b: u8) -> usize
-    requires { ⌜ at + 2 ≤ length (now records) ⌝ }
-    ensures { λ r. ⌜ Put (now (records .entry)) (now (records .exit)) at (a ∷ b ∷ []) r ⌝ }
-{
-    records[at] = a;
-    records[at + 1] = b;
-    at + 2
-}
-
-// A number in two little-endian bytes.
-fn put_two(records: &mut [u8], at: usize, x: u16) -> usize
-    requires { ⌜ at + 2 ≤ length (now records) ⌝ }
-    ensures { λ r. ⌜ Put (now (records .entry)) (now (records .exit)) at (le 2 x) r ⌝ }
-{
-    put_pair(records, at, (x % 256) as u8, (x / 256) as u8)
-}
 
 // A record; no kind has a third source.
 fn put_record(records: &mut [u8], at: usize, kind: u8, flag: u8, first: u16, second: u16) -> usize

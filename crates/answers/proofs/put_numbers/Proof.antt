@@ -12,8 +12,8 @@ returns c =
     let k1 = k2 .before .before .before .before in
     let k0 = k1 .before .before .before .before in
     let s = k0 .before .before .before in
-    four-numbers (s .args .area .now) (k0 .put-number .last .0) (k1 .put-number2 .last .0) (k2 .put-number3 .last .0) _ (s .pre)
-    (k0 .put-number .ensures) (k1 .put-number2 .ensures) (k2 .put-number3 .ensures) (k3 .put-number4 .ensures)
+    four-numbers (s .args .area .now) (k0 .put-eight .last .0) (k1 .put-eight2 .last .0) (k2 .put-eight3 .last .0) _ (s .pre)
+    (k0 .put-eight .ensures) (k1 .put-eight2 .ensures) (k2 .put-eight3 .ensures) (k3 .put-eight4 .ensures)
 
 pub put-numbers-spec : {M : Type 1} → statement M
 put-numbers-spec = tie.close (tie.spec (λ c κs. search needs) (λ c κs. search needs) (λ c κs. search needs) (λ c κs. search needs) (λ c. search needs) returns)

@@ -13,7 +13,7 @@ use Rattle.lists.proofs.fault_ok.Tie as tie
 
 -- ---- the places: the entry, and behind the test of the line
 
-abbrev entry : tie.After-word → tie.Start
+abbrev entry : tie.After-pair-at → tie.Start
 entry c = c .before .before .before
 
 abbrev line-of : tie.After-wide → tie.Else1
@@ -30,21 +30,21 @@ Site s =
     leb (faultSite fs (s .args .j)) (pinsOf (kindAt (s .args .circuit .now) (faultLine fs (s .args .j))))
 
 line-kept : (c : tie.Else1) → Line (entry (c .before)) ≡ true
-line-kept c = lt-ltb _ _ (rw (c .before .word .ensures) at (c .if1 .left))
+line-kept c = lt-ltb _ _ (rw (c .before .pair-at .ensures) at (c .if1 .left))
 
 site-lost : (c : tie.Then2) → Site (entry (line-of (c .before) .before)) ≡ false
 site-lost c =
     let wide = c .before in
-    lt-leb _ _ (rw (wide .wide .ensures .0, wide .before .before .pins .ensures, line-of wide .before .word .ensures) at (c .if2 .taken))
+    lt-leb _ _ (rw (wide .wide .ensures .0, wide .before .before .pins .ensures, line-of wide .before .pair-at .ensures) at (c .if2 .taken))
 
 site-kept : (c : tie.Else2) → Site (entry (line-of (c .before) .before)) ≡ true
 site-kept c =
     let wide = c .before in
-    le-leb _ _ (rw (wide .wide .ensures .0, wide .before .before .pins .ensures, line-of wide .before .word .ensures) at (c .if2 .left))
+    le-leb _ _ (rw (wide .wide .ensures .0, wide .before .before .pins .ensures, line-of wide .before .pair-at .ensures) at (c .if2 .left))
 
 returns : tie.Need-returns
 unfolding faultOk
-returns c = simp (le-ltb _ _ (rw (c .before .word .ensures) at (c .if1 .taken)))
+returns c = simp (le-ltb _ _ (rw (c .before .pair-at .ensures) at (c .if1 .taken)))
 
 returns-2 : tie.Need-returns-2
 unfolding faultOk
@@ -61,7 +61,7 @@ unfolding faultOk
 returns-4 c =
     let value = c .before .before in
     let site = value .before .before in
-    let low-lost = ne-eqb _ _ (rw (c .before .word2 .ensures) at (c .if4 .taken)) in
+    let low-lost = ne-eqb _ _ (rw (c .before .pair-at2 .ensures) at (c .if4 .taken)) in
     simp (line-kept (line-of (site .before)), site-kept site, le-leb _ _ (value .if3 .left), low-lost)
 
 returns-5 : tie.Need-returns-5
@@ -70,7 +70,7 @@ returns-5 c =
     let low = c .before in
     let value = low .before .before in
     let site = value .before .before in
-    let low-kept = eq-eqb _ _ (rw (low .before .word2 .ensures) at (low .if4 .left)) in
+    let low-kept = eq-eqb _ _ (rw (low .before .pair-at2 .ensures) at (low .if4 .left)) in
     simp (line-kept (line-of (site .before)), site-kept site, le-leb _ _ (value .if3 .left), low-kept) (cc)
 
 pub fault-ok-spec : {M : Type 1} → statement M

@@ -5,7 +5,7 @@ use Rattle.lists.proofs.read_fault.Statement.{statement}
 use Rattle.lists.proofs.read_fault.Tie as tie
 
 returns : tie.Need-returns
-returns c = rw (c .before .before .word .ensures)
+returns c = rw (c .before .before .pair-at .ensures)
 
 pub read-fault-spec : {M : Type 1} → statement M
 read-fault-spec =

@@ -3,7 +3,7 @@
 use native.Mathlib.Omega.{arith}
 use borrow.Author.Needs.{needs}
 use Rattle.ground.proofs.Put.{put-then}
-use Rattle.answers.proofs.Area.{le-length}
+use Rattle.little.proofs.Little.{le-length}
 use Rattle.records.specs.Owed.{recordOf}
 use Rattle.records.proofs.put_record.Statement.{statement}
 use Rattle.records.proofs.put_record.Tie as tie

@@ -1,17 +1,17 @@
--- `circuit::word` meets its contract: a sum of two bytes.
+-- `little::pair_at` meets its contract: a sum of two bytes.
 -- Assumes nothing.
 use native.Mathlib.Omega.{arith}
-use Rattle.circuit.specs.Record.{wordAt}
+use Rattle.little.specs.Little.{pairAt}
 use borrow.Author.Needs.{needs}
-use Rattle.circuit.proofs.word.Statement.{statement}
-use Rattle.circuit.proofs.word.Tie as tie
+use Rattle.little.proofs.pair_at.Statement.{statement}
+use Rattle.little.proofs.pair_at.Tie as tie
 
 returns : tie.Need-returns
-unfolding wordAt
+unfolding pairAt
 returns c = omega arith
 
-pub word-spec : {M : Type 1} → statement M
-word-spec =
+pub pair-at-spec : {M : Type 1} → statement M
+pair-at-spec =
     tie.close
     (tie.spec
     (λ c. search needs)

@@ -1,10 +1,10 @@
--- `records::put_two` meets its contract: the lower byte, then the upper.
+-- `little::put_two` meets its contract: the lower byte, then the upper.
 -- Assumes nothing.
 use borrow.Author.Needs.{needs}
 use Rattle.ground.proofs.Put.{put-as}
-use Rattle.records.proofs.Size.{two-bytes}
-use Rattle.records.proofs.put_two.Statement.{statement}
-use Rattle.records.proofs.put_two.Tie as tie
+use Rattle.little.proofs.Little.{two-bytes}
+use Rattle.little.proofs.put_two.Statement.{statement}
+use Rattle.little.proofs.put_two.Tie as tie
 
 returns : tie.Need-returns
 returns c = put-as (two-bytes (c .before .before .before .before .before .fits .x .fits)) (c .before .before .put-pair .ensures)
