@@ -2,9 +2,9 @@
 use answers::Ruling;
 use answers::first_big;
 use answers::records_ok;
-use little::pair_at;
 use gates::pins;
 use ground::wide;
+use little::pair_at;
 ghost use mathlib.Core.Path.{_≡_};
 ghost use Prim.Native.Nat.{_*_, _<_, _≤_};
 ghost use lib.ListN.{length};

@@ -1,7 +1,7 @@
 -- The fields of a net's records: kind, output byte and sources of each line are those of the number that stands there.
 -- Assumes nothing.
 use mathlib.Core.Path.{_≡_}
-use Prim.Native.Nat.{ℕ, _+_, _*_, _≤_, _<_, _/_, _%_}
+use Prim.Native.Nat.{ℕ, _+_, _*_, _≤_, _<_}
 use native.Mathlib.Nat.{add-zero, mul-comm, mul-div-right}
 use native.Mathlib.Omega.{arith}
 use lib.ListN.{length, getD}
@@ -40,13 +40,13 @@ module _ (net : Net) where
 
     module _ (r : Right net) (few : netSize net ≤ 65536) where
       -- bytes 2 and 3 have the source at pin 1, the next two that at pin 2, and the last that at pin 3
-      words : (s : ℕ) → 1 ≤ s → s ≤ 3 → getD (recordOn net k) (2 * s) 0 + 256 * getD (recordOn net k) (2 * s + 1) 0 ≡ netSource net k s
+      words : (s : ℕ) → 1 ≤ s → s ≤ 3 → pairAt (recordOn net k) (2 * s) ≡ netSource net k s
       unfolding recordOn le pairAt
       words =
-          three (λ s. getD (recordOn net k) (2 * s) 0 + 256 * getD (recordOn net k) (2 * s + 1) 0 ≡ netSource net k s)
+          three (λ s. pairAt (recordOn net k) (2 * s) ≡ netSource net k s)
           (source 1 (omega arith)) (source 2 (omega arith)) (source 3 (omega arith))
         where
-          source : (s : ℕ) → 1 ≤ s → netSource net k s % 256 + 256 * (netSource net k s / 256 % 256) ≡ netSource net k s
+          source : (s : ℕ) → 1 ≤ s → pairAt (le 2 (netSource net k s)) 0 ≡ netSource net k s
           source s h = read-back (netSource net k s) (omega (arith, source-inside net r k s l h))
 
       pub net-pin : (s : ℕ) → 1 ≤ s → s ≤ 3 → pinAt (recordsOf net) k s ≡ netSource net k s
