@@ -1,23 +1,25 @@
--- The promise of the check: reached from the two rulings, read in the paper's words, and met by one answer only.
+-- The promise of the check: reached from the counts, read in the paper's words, and met by one answer only.
 -- Assumes nothing.
-use mathlib.Core.Path.{_≡_, refl, ap, _∙_}
+use mathlib.Core.Path.{_≡_, refl, sym, ap, _∙_}
+use mathlib.Core.Bool.{true, false}
 use mathlib.Core.List.{List}
-use Prim.Native.Nat.{ℕ, _*_}
-use native.Mathlib.Nat.{add-zero}
+use Prim.Native.Nat.{ℕ, _≤_, _<_}
 use native.Mathlib.Omega.{arith}
 use lib.ListN.{length}
-use Rattle.ground.specs.Below.{countBelow}
-use Rattle.ground.proofs.Counting.{count-same}
 use Rattle.answers.specs.declared.Ruling.{Ruling}
 use Rattle.answers.specs.Rules.{refusal, Applies, AllSay}
+use Rattle.answers.specs.Records.{recordsOk}
 use Rattle.answers.proofs.Rules.{after-refused, after-fine, both-say}
 use Rattle.answers.proofs.Answer as answer
 use Rattle.answers.proofs.Answer.{numbers-told, Ruled}
 use Rattle.answers.proofs.Same.{le-same}
 use Rattle.answers.proofs.Records.{records-same}
+use Rattle.answers.proofs.Places.{whole-broken, place-broken, none-broken}
 use Rattle.circuit.specs.declared.Checked.{Checked}
 use Rattle.circuit.specs.declared.Checked.the-variants.{Accepted, Refused}
-use Rattle.circuit.specs.Record.{linesOf, isInput, inputsOf, outputsOf, byteIs}
+use Rattle.circuit.specs.declared.LineCounts.{LineCounts}
+use Rattle.circuit.specs.Record.{linesOf, inputsOf, outputsOf}
+use Rattle.circuit.specs.Owed.{CountLinesDone}
 use Rattle.circuit.specs.Promise.{layoutRules, countRules, circuitRules, countedOf, checkOf, checkedNumbers, Checks}
 use Rattle.circuit.proofs.Lines.{layout-same}
 
@@ -28,22 +30,27 @@ checks c e = record {
   numbers = ap checkedNumbers e ∙ numbers-told checkedNumbers (λ m k. refl) (refusal (circuitRules c)) (Accepted (linesOf c) (inputsOf c) (outputsOf c));
 }
 
-pub layout-refused : (c : List ℕ) (x y : ℕ) → refusal (layoutRules c) ≡ Ruling.Refused x y → Refused x y ≡ checkOf c
-unfolding checkOf
-layout-refused c x y e = rw (after-refused (layoutRules c) (countRules (inputsOf c) (outputsOf c)) e)
+module _ (c : List ℕ) where
+  layout-refused : (x y : ℕ) → Ruling.Refused x y ≡ refusal (layoutRules c) → Refused x y ≡ checkOf c
+  unfolding checkOf
+  layout-refused x y e = rw (after-refused (layoutRules c) (countRules (inputsOf c) (outputsOf c)) (sym e))
 
--- byte 0 is the kind
-inputs-are : (c : List ℕ) → countBelow (linesOf c) (byteIs c 0 0) ≡ inputsOf c
-inputs-are c = count-same (linesOf c) (byteIs c 0 0) (isInput c) (λ k l. rw (add-zero (8 * k)))
+  pub size-refused : recordsOk 8 2048 (length c) ≡ false → Refused 1 0 ≡ checkOf c
+  unfolding layoutRules
+  size-refused e = layout-refused 1 0 (whole-broken (layoutRules c) refl e)
 
-pub layout-fine : (c : List ℕ) {r : Checked} {m o : ℕ}
-    → refusal (layoutRules c) ≡ Ruling.Fine
-    → m ≡ countBelow (linesOf c) (byteIs c 0 0)
-    → o ≡ countBelow (linesOf c) (byteIs c 1 1)
-    → r ≡ countedOf (linesOf c) m o
-    → r ≡ checkOf c
-unfolding checkOf
-layout-fine c e p q h = h ∙ rw (p, q, inputs-are c, after-fine (layoutRules c) (countRules (inputsOf c) (outputsOf c)) e)
+  module _ {counts : LineCounts} (whole : recordsOk 8 2048 (length c) ≡ true) (p : CountLinesDone c (linesOf c) counts) where
+    pub line-refused : counts .lines < linesOf c → Refused 2 (counts .lines) ≡ checkOf c
+    unfolding layoutRules
+    line-refused l = layout-refused 2 (counts .lines) (place-broken (layoutRules c) refl whole (p .lines) l)
+
+    -- the counts decide
+    pub layout-fine : {r : Checked} → linesOf c ≤ counts .lines → r ≡ countedOf (linesOf c) (counts .inputs) (counts .outputs) → r ≡ checkOf c
+    unfolding checkOf layoutRules
+    layout-fine l h =
+        let all : counts .lines ≡ linesOf c = omega (arith, p .at-most) in
+        let fine = none-broken (layoutRules c) refl whole (p .lines) l in
+        h ∙ rw (p .inputs, p .outputs, all, after-fine (layoutRules c) (countRules (inputsOf c) (outputsOf c)) (sym fine))
 
 -- two allowed answers are equal
 pub one-answer : (c : List ℕ) {r s : Checked} → Checks c r → Checks c s → r ≡ s

@@ -42,10 +42,6 @@ inputsOf c = inputsBefore c (linesOf c)
 abbrev pub outputsOf : List ℕ → ℕ
 outputsOf c = outputsBefore c (linesOf c)
 
--- byte i of line k's record is v
-abbrev pub byteIs : List ℕ → ℕ → ℕ → ℕ → Bool
-byteIs c i v k = eqb (getD c (8 * k + i) 0) v
-
 -- a whole record stands at place k of these bytes
 pub record Inside (s : List ℕ) (k : ℕ) : Type 0 where
   pub inside : 8 * k + 8 ≤ length s

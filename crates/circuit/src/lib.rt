@@ -3,18 +3,18 @@ use answers::Ruling;
 use answers::records_ok;
 use gates::LAST_KIND;
 use gates::pins;
+use ground::wide;
 use little::pair_at;
 ghost use mathlib.Core.Path.{_≡_};
-ghost use Prim.Native.Nat.{_+_, _*_, _<_, _≤_};
+ghost use Prim.Native.Nat.{_*_, _≤_};
 ghost use lib.Dec.{eqb};
 ghost use lib.ListN.{length};
 ghost use Rattle.ground.specs.Choose.{one};
-ghost use Rattle.ground.specs.Below.{countBelow, firstNot};
 ghost use Rattle.answers.specs.Rules.{refusal};
-ghost use Rattle.circuit.specs.Record.{pinAt, byteIs, Inside};
+ghost use Rattle.circuit.specs.Record.{pinAt, Inside};
 ghost use Rattle.circuit.specs.Layout.{pinOk, lineOk};
-ghost use Rattle.circuit.specs.Owed.{limitOf};
-ghost use Rattle.circuit.specs.Promise.{layoutRules, countRules, countedOf, Checks};
+ghost use Rattle.circuit.specs.Owed.{limitOf, CountLinesDone};
+ghost use Rattle.circuit.specs.Promise.{countRules, countedOf, Checks};
 
 // What the check answers.
 pub enum Checked {
@@ -22,6 +22,13 @@ pub enum Checked {
     Accepted(usize, usize, usize),
     // number, place
     Refused(u32, usize),
+}
+
+// Lines, and the inputs and outputs among them.
+struct LineCounts {
+    lines: usize,
+    inputs: usize,
+    outputs: usize,
 }
 
 // The source of pin s of line k.
@@ -73,21 +80,6 @@ fn line_ok(circuit: &[u8], k: usize) -> bool
     pin_ok(circuit, k, 3)
 }
 
-// The first of n lines that breaks its layout, or n.
-fn first_bad_line(circuit: &[u8], n: usize) -> usize
-    requires { ⌜ 8 * n ≤ length (now circuit) ⌝ }
-    ensures { λ r. ⌜ r ≡ firstNot n (lineOk (now (circuit .entry))) ⌝ }
-{
-    let mut k = 0;
-    while k < n {
-        if !line_ok(circuit, k) {
-            return k;
-        }
-        k += 1;
-    }
-    n
-}
-
 // 1 where two bytes are equal, else 0.
 pub fn equal(a: u8, b: u8) -> usize
     ensures { λ r. ⌜ (r ≡ one (eqb a b)) × (r ≤ 1) ⌝ }
@@ -95,34 +87,31 @@ pub fn equal(a: u8, b: u8) -> usize
     if a == b { 1 } else { 0 }
 }
 
-// How many of n lines have the value v in byte i of their record.
-fn count_lines(circuit: &[u8], n: usize, i: usize, v: u8) -> usize
-    requires { ⌜ (8 * n ≤ length (now circuit)) × (i < 8) ⌝ }
-    ensures { λ r. ⌜ r ≡ countBelow n (byteIs (now (circuit .entry)) i v) ⌝ }
+// The lines before the first of n that breaks its layout, counted in one pass. The output byte of a line that keeps its layout is 0 or 1.
+fn count_lines(circuit: &[u8], n: usize) -> LineCounts
+    requires { ⌜ 8 * n ≤ length (now circuit) ⌝ }
+    ensures { λ r. ⌜ CountLinesDone (now (circuit .entry)) n r ⌝ }
 {
+    let mut inputs = 0;
+    let mut outputs = 0;
     let mut k = 0;
-    let mut r = 0;
     while k < n {
-        let x = equal(circuit[8 * k + i], v);
-        r += x;
+        if !line_ok(circuit, k) {
+            return LineCounts {
+                lines: k,
+                inputs,
+                outputs,
+            };
+        }
+        inputs += equal(circuit[8 * k], 0);
+        outputs += wide(circuit[8 * k + 1]);
         k += 1;
     }
-    r
-}
-
-// Refusals 1 and 2.
-fn check_layout(circuit: &[u8]) -> Ruling
-    ensures { λ r. ⌜ r ≡ refusal (layoutRules (now (circuit .entry))) ⌝ }
-{
-    if !records_ok(circuit.len(), 8, 2048) {
-        return Ruling::Refused(1, 0);
+    LineCounts {
+        lines: n,
+        inputs,
+        outputs,
     }
-    let n = circuit.len() / 8;
-    let bad = first_bad_line(circuit, n);
-    if bad < n {
-        return Ruling::Refused(2, bad);
-    }
-    Ruling::Fine
 }
 
 // Refusals 3 to 5.
@@ -156,14 +145,14 @@ fn counted(n: usize, inputs: usize, outputs: usize) -> Checked
 pub fn check(circuit: &[u8]) -> Checked
     ensures { λ r. ⌜ Checks (now (circuit .entry)) r ⌝ }
 {
-    let v = check_layout(circuit);
-    match v {
-        Ruling::Refused(number, place) => Checked::Refused(number, place),
-        Ruling::Fine => {
-            let n = circuit.len() / 8;
-            let inputs = count_lines(circuit, n, 0, 0);
-            let outputs = count_lines(circuit, n, 1, 1);
-            counted(n, inputs, outputs)
-        }
+    if !records_ok(circuit.len(), 8, 2048) {
+        return Checked::Refused(1, 0);
     }
+    let n = circuit.len() / 8;
+    let counts = count_lines(circuit, n);
+    let bad = counts.lines;
+    if bad < n {
+        return Checked::Refused(2, bad);
+    }
+    counted(n, counts.inputs, counts.outputs)
 }

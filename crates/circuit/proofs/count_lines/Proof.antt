@@ -1,30 +1,63 @@
--- `circuit::count_lines` meets its contract. The invariant: r counts the lines passed.
+-- `circuit::count_lines` meets its contract. The invariant: every line passed keeps its layout, and those that are inputs and outputs are counted.
 -- Assumes nothing.
+use borrow.Author.Tests.{not-true, not-false}
 use borrow.Author.Needs.{needs}
+use mathlib.Core.Path.{sym, _∙_}
 use native.Mathlib.Omega.{arith}
 use Prim.Native.Nat.{_-_}
-use Rattle.circuit.specs.Record.{byteIs}
+use Rattle.ground.proofs.First.{Every, every-none, every-next, stopped, passed}
 use Rattle.ground.proofs.Counting.{Sum, no-sum, sum-small, sum-more, sum-all}
+use Rattle.circuit.specs.Record.{isInput, isOutput}
+use Rattle.circuit.specs.Layout.{lineOk}
+use Rattle.circuit.proofs.Lines.{out-one}
 use Rattle.circuit.proofs.count_lines.Statement.{statement}
 use Rattle.circuit.proofs.count_lines.Tie as tie
 
 abbrev Inv-loop : tie.InvT-loop
-Inv-loop circuit n i v k₀ r₀ k r = Sum (byteIs circuit i v) n k r
+Inv-loop circuit n inputs₀ outputs₀ k₀ inputs outputs k = Every (lineOk circuit) 0 k × Sum (isInput circuit) n k inputs × Sum (isOutput circuit) n k outputs
 
 abbrev μ-loop : tie.MeasureT-loop
-μ-loop circuit n i v k₀ r₀ k r = n - k
+μ-loop circuit n inputs₀ outputs₀ k₀ inputs outputs k = n - k
 
 loop-holds : tie.Need-loop-holds Inv-loop μ-loop
-loop-holds c = no-sum _ _
+loop-holds c = (every-none _, no-sum _ _, no-sum _ _)
 
-add-r : tie.Need-add-r Inv-loop μ-loop
-add-r c = omega (arith, sum-small (c .before .before .before .loop .inv))
-
-loop-again : tie.Need-loop-again Inv-loop μ-loop
-loop-again c = sum-more (c .before .before .before .loop .inv) (omega arith) (c .equal .ensures .0)
+line-ok-requires : tie.Need-line-ok-requires Inv-loop μ-loop
+line-ok-requires c κs = record { inside = omega arith }
 
 returns : tie.Need-returns Inv-loop μ-loop
-returns c = sum-all (c .before .loop .inv) (omega arith)
+returns c =
+    let so = c .before .before .before .loop .inv in
+    record {
+      lines = stopped (omega arith) (so .0) (sym (c .before .line-ok .ensures) ∙ not-true _ (c .if1 .taken));
+      at-most = so .1 .at-most;
+      inputs = so .1 .sum;
+      outputs = so .2 .sum;
+    }
+
+add-inputs : tie.Need-add-inputs Inv-loop μ-loop
+add-inputs c = omega (arith, sum-small (c .before .before .before .before .before .loop .inv .1))
+
+add-outputs : tie.Need-add-outputs Inv-loop μ-loop
+add-outputs c = omega (arith, sum-small (c .before .before .before .before .before .before .before .loop .inv .2))
+
+loop-again : tie.Need-loop-again Inv-loop μ-loop
+loop-again c =
+    let kind = c .before .before in
+    let line = kind .before .before in
+    let so = line .before .before .before .loop .inv in
+    let kept = sym (line .before .line-ok .ensures) ∙ not-false _ (line .if1 .left) in
+    (every-next (so .0) kept, sum-more (so .1) (omega arith) (kind .equal .ensures .0), sum-more (so .2) (omega arith) (c .wide .ensures .0 ∙ out-one _ _ kept))
+
+returns-2 : tie.Need-returns-2 Inv-loop μ-loop
+returns-2 c =
+    let so = c .before .loop .inv in
+    record {
+      lines = passed (omega arith) (so .0);
+      at-most = omega arith;
+      inputs = sum-all (so .1) (omega arith);
+      outputs = sum-all (so .2) (omega arith);
+    }
 
 pub count-lines-spec : {M : Type 1} → statement M
 count-lines-spec =
@@ -33,12 +66,18 @@ count-lines-spec =
     Inv-loop
     μ-loop
     loop-holds
+    line-ok-requires
+    returns
+    (λ c. omega arith)
+    (λ c. omega arith)
+    (λ c κs. search needs)
+    add-inputs
     (λ c. omega arith)
     (λ c. omega arith)
     (λ c. omega arith)
     (λ c κs. search needs)
-    add-r
+    add-outputs
     (λ c. omega arith)
     (λ c. omega arith)
     loop-again
-    returns)
+    returns-2)

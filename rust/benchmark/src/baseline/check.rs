@@ -19,11 +19,14 @@ pub fn check(circuit: &[u8]) -> Result<[usize; 3], (u32, usize)> {
         return Err((1, 0));
     }
     let n = circuit.len() / 8;
-    if let Some(bad) = (0..n).find(|&k| !line_ok(circuit, k)) {
-        return Err((2, bad));
+    let (mut inputs, mut outputs) = (0, 0);
+    for k in 0..n {
+        if !line_ok(circuit, k) {
+            return Err((2, k));
+        }
+        inputs += usize::from(circuit[8 * k] == 0);
+        outputs += usize::from(circuit[8 * k + 1]);
     }
-    let inputs = (0..n).filter(|&k| circuit[8 * k] == 0).count();
-    let outputs = (0..n).filter(|&k| circuit[8 * k + 1] == 1).count();
     match (inputs, outputs) {
         (0, _) => Err((3, 0)),
         (65.., _) => Err((4, 0)),
