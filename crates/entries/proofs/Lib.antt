@@ -1,1 +1,1 @@
-pub mod Entered
+pub mod OneResult

@@ -12,7 +12,6 @@ use Rattle.circuit.specs.Record.{linesOf, inputsOf, outputsOf}
 use Rattle.circuit.specs.Promise.{circuitRules}
 use Rattle.rows.specs.Table.{tableOf, tableWork}
 use Rattle.dictionary.specs.Promise.{dictionaryRules}
-use Rattle.entries.specs.declared.Reply.{Reply}
 use Rattle.tables.specs.Entries.{entriesOf}
 use Rattle.lists.specs.Faults.{faultAt}
 use Rattle.needs.specs.Needs as needs
@@ -22,10 +21,6 @@ use Rattle.line_clauses.specs.Clauses.{variablesOf}
 use Rattle.bench.specs.Promise.{benchRules, recordsIn}
 use Rattle.bench.specs.Promise as reading
 use Rattle.clauses.specs.Promise.{clauseRules, clausesFor, wordsFor, laidOn}
-
--- a reply in the paper's numbers
-abbrev pub numbersIn : Reply → Numbers
-numbersIn r = record { number = r .number; values = record { first = r .first; second = r .second; third = r .third; fourth = 0 } }
 
 -- the circuit check: lines, inputs, outputs
 abbrev pub checkNumbers : List ℕ → Numbers
@@ -52,7 +47,8 @@ pub record SearchEntered (c f : List ℕ) (b : ℕ) (t w a : List ℕ) (r : ℕ)
 pub record ClausesEntered (c f : List ℕ) (w : List ℤ) (a : List ℕ) (r : ℕ) (w′ : List ℤ) (a′ : List ℕ) : Type 0 where
   pub answer :
       Entered a
-      (told (refusal (clauseRules c f (length w))) (success (length (wordsFor c (faultAt f 0))) (length (clausesFor c (faultAt f 0))) (variablesOf c (linesOf c))))
+      (told (refusal (clauseRules c f (length w)))
+      (success (length (wordsFor c (faultAt f 0))) (length (clausesFor c (faultAt f 0))) (variablesOf c (linesOf c))))
       r a′
   pub words : w′ ≡ entered a w (unless (refusal (clauseRules c f (length w))) w (laidOn w (wordsFor c (faultAt f 0))))
 

@@ -1,20 +1,27 @@
 -- `entries::ullimaqsu_bench` meets its contract: an area of another size first, else the answer and the buffer of the part.
 -- Assumes nothing.
 use borrow.Author.Tests.{eq-eqb, ne-eqb}
-use mathlib.Core.Path.{_∙_}
 use borrow.Author.Needs.{needs}
-use Rattle.entries.proofs.Entered.{other-size, entered-as}
+use Rattle.replies.proofs.Entered.{other-size, stays, reported, becomes}
 use Rattle.entries.proofs.ullimaqsu_bench.Statement.{statement}
 use Rattle.entries.proofs.ullimaqsu_bench.Tie as tie
 
 returns : tie.Need-returns
-returns c = let e = ne-eqb _ _ (c .if1 .taken) in record { answer = other-size _ e; circuit = rw e }
+returns c = let other = ne-eqb _ _ (c .if1 .taken) in record { answer = other-size _ other; circuit = stays _ other }
 
+-- the places, the last first: the report, the answer in numbers, the part, the test of the size
 returns-2 : tie.Need-returns-2
 returns-2 c =
-    let e = eq-eqb _ _ (c .before .before .before .before .before .before .before .before .before .if1 .left) in
-    let k = c .before .before .before .before .before .before .before .bench .ensures in
-    record { answer = entered-as (c .before .before .before .before .of-read .ensures ∙ k .numbers) (c .before .before .report .ensures); circuit = rw e (k .circuit) }
+    let told = c .before .before in
+    let reply = told .before .before in
+    let called = reply .before .before .before in
+    let sized = called .before .before in
+    let right = eq-eqb _ _ (sized .if1 .left) in
+    let done = called .bench .ensures in
+    record {
+      answer = reported (told .report .ensures) (reply .of-read .ensures) (done .numbers);
+      circuit = becomes _ right (done .circuit);
+    }
 
 pub ullimaqsu-bench-spec : {M : Type 1} → statement M
 ullimaqsu-bench-spec =

@@ -1,19 +1,27 @@
 -- `entries::ullimaqsu_clauses` meets its contract: an area of another size first, else the answer and the words of the part.
 -- Assumes nothing.
 use borrow.Author.Tests.{eq-eqb, ne-eqb}
-use mathlib.Core.Path.{_∙_}
 use borrow.Author.Needs.{needs}
-use Rattle.entries.proofs.Entered.{other-size, entered-as}
+use Rattle.replies.proofs.Entered.{other-size, stays, reported, becomes}
 use Rattle.entries.proofs.ullimaqsu_clauses.Statement.{statement}
 use Rattle.entries.proofs.ullimaqsu_clauses.Tie as tie
 
 returns : tie.Need-returns
-returns c = let e = ne-eqb _ _ (c .if1 .taken) in record { answer = other-size _ e; words = rw e }
+returns c = let other = ne-eqb _ _ (c .if1 .taken) in record { answer = other-size _ other; words = stays _ other }
 
+-- the places, the last first: the report, the answer in numbers, the part, the test of the size
 returns-2 : tie.Need-returns-2
-returns-2 c = let e = eq-eqb _ _ (c .before .before .before .before .before .before .before .before .if1 .left) in
-    let k = c .before .before .before .before .before .before .clauses .ensures in
-    record { answer = entered-as (c .before .before .before .before .of-written .ensures ∙ k .numbers) (c .before .before .report .ensures); words = rw e (k .words) }
+returns-2 c =
+    let told = c .before .before in
+    let reply = told .before .before in
+    let called = reply .before .before in
+    let sized = called .before .before in
+    let right = eq-eqb _ _ (sized .if1 .left) in
+    let done = called .clauses .ensures in
+    record {
+      answer = reported (told .report .ensures) (reply .of-written .ensures) (done .numbers);
+      words = becomes _ right (done .words);
+    }
 
 pub ullimaqsu-clauses-spec : {M : Type 1} → statement M
 ullimaqsu-clauses-spec =

@@ -1,21 +1,27 @@
 -- `entries::ullimaqsu_compact` meets its contract: an area of another size first, else the answer and the marks of the part.
 -- Assumes nothing.
-use mathlib.Core.Path.{ap, _∙_}
 use borrow.Author.Tests.{eq-eqb, ne-eqb}
 use borrow.Author.Needs.{needs}
-use Rattle.answers.specs.Area.{told, done}
-use Rattle.answers.specs.declared.Ruling.{Ruling}
-use Rattle.entries.proofs.Entered.{other-size, entered-as}
+use Rattle.replies.proofs.Entered.{other-size, stays, reported, becomes}
 use Rattle.entries.proofs.ullimaqsu_compact.Statement.{statement}
 use Rattle.entries.proofs.ullimaqsu_compact.Tie as tie
 
 returns : tie.Need-returns
-returns c = let e = ne-eqb _ _ (c .if1 .taken) in record { answer = other-size _ e; marks = rw e }
+returns c = let other = ne-eqb _ _ (c .if1 .taken) in record { answer = other-size _ other; marks = stays _ other }
 
+-- the places, the last first: the report, the answer in numbers, the part, the test of the size
 returns-2 : tie.Need-returns-2
-returns-2 c = let e = eq-eqb _ _ (c .before .before .before .before .before .before .before .before .before .if1 .left) in
-    let k = c .before .before .before .before .before .before .before .compact .ensures in
-    record { answer = entered-as (c .before .before .before .before .of-ruling .ensures ∙ ap (λ (v : Ruling). told v done) (k .answer)) (c .before .before .report .ensures); marks = rw e (k .marks) }
+returns-2 c =
+    let told = c .before .before in
+    let reply = told .before .before in
+    let called = reply .before .before .before in
+    let sized = called .before .before in
+    let right = eq-eqb _ _ (sized .if1 .left) in
+    let done = called .compact .ensures in
+    record {
+      answer = reported (told .report .ensures) (reply .of-ruling .ensures) (done .numbers);
+      marks = becomes _ right (done .marks);
+    }
 
 pub ullimaqsu-compact-spec : {M : Type 1} → statement M
 ullimaqsu-compact-spec =

@@ -1,19 +1,28 @@
 -- `entries::ullimaqsu_search` meets its contract: an area of another size first, else the answer and the memory of the part.
 -- Assumes nothing.
 use borrow.Author.Tests.{eq-eqb, ne-eqb}
-use mathlib.Core.Path.{_∙_}
 use borrow.Author.Needs.{needs}
-use Rattle.entries.proofs.Entered.{other-size, entered-as}
+use Rattle.replies.proofs.Entered.{other-size, stays, reported, becomes}
 use Rattle.entries.proofs.ullimaqsu_search.Statement.{statement}
 use Rattle.entries.proofs.ullimaqsu_search.Tie as tie
 
 returns : tie.Need-returns
-returns c = let e = ne-eqb _ _ (c .if1 .taken) in record { answer = other-size _ e; test = rw e; work = rw e }
+returns c = let other = ne-eqb _ _ (c .if1 .taken) in record { answer = other-size _ other; test = stays _ other; work = stays _ other }
 
+-- the places, the last first: the report, the answer in numbers, the part, the test of the size
 returns-2 : tie.Need-returns-2
-returns-2 c = let e = eq-eqb _ _ (c .before .before .before .before .before .before .before .before .before .before .before .before .if1 .left) in
-    let k = c .before .before .before .before .before .before .before .before .before .search .ensures in
-    record { answer = entered-as (c .before .before .before .before .of-searched .ensures ∙ k .numbers) (c .before .before .report .ensures); test = rw e (k .test); work = rw e (k .work) }
+returns-2 c =
+    let told = c .before .before in
+    let reply = told .before .before in
+    let called = reply .before .before .before .before .before in
+    let sized = called .before .before .before in
+    let right = eq-eqb _ _ (sized .if1 .left) in
+    let done = called .search .ensures in
+    record {
+      answer = reported (told .report .ensures) (reply .of-searched .ensures) (done .numbers);
+      test = becomes _ right (done .test);
+      work = becomes _ right (done .work);
+    }
 
 pub ullimaqsu-search-spec : {M : Type 1} → statement M
 ullimaqsu-search-spec =

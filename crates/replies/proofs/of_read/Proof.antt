@@ -1,10 +1,10 @@
--- `entries::of_read` meets its contract: the numbers of each case.
+-- `replies::of_read` meets its contract: the numbers of each case.
 -- Assumes nothing.
 use mathlib.Core.Path.{_∙_}
 use borrow.Author.Needs.{needs}
 use Rattle.bench.specs.Promise.{readNumbers}
-use Rattle.entries.proofs.of_read.Statement.{statement}
-use Rattle.entries.proofs.of_read.Tie as tie
+use Rattle.replies.proofs.of_read.Statement.{statement}
+use Rattle.replies.proofs.of_read.Tie as tie
 
 returns : tie.Need-returns
 unfolding readNumbers

@@ -1,11 +1,11 @@
--- `entries::report` meets its contract: an area of another size first, else the numbers.
+-- `replies::report` meets its contract: an area of another size first, else the numbers.
 -- Assumes nothing.
 use borrow.Author.Tests.{eq-eqb, ne-eqb}
 use borrow.Author.Needs.{needs}
-use Rattle.entries.proofs.Entered.{other-size, right-size}
-use Rattle.entries.specs.Entries.{numbersIn}
-use Rattle.entries.proofs.report.Statement.{statement}
-use Rattle.entries.proofs.report.Tie as tie
+use Rattle.replies.proofs.Entered.{other-size, right-size}
+use Rattle.replies.specs.Replies.{numbersIn}
+use Rattle.replies.proofs.report.Statement.{statement}
+use Rattle.replies.proofs.report.Tie as tie
 
 returns : tie.Need-returns
 returns c = other-size _ (ne-eqb _ _ (c .if1 .taken))

@@ -1,10 +1,10 @@
--- `entries::of_searched` meets its contract: the numbers of each case.
+-- `replies::of_searched` meets its contract: the numbers of each case.
 -- Assumes nothing.
 use mathlib.Core.Path.{_∙_}
 use borrow.Author.Needs.{needs}
 use Rattle.search.specs.Promise.{searchedNumbers}
-use Rattle.entries.proofs.of_searched.Statement.{statement}
-use Rattle.entries.proofs.of_searched.Tie as tie
+use Rattle.replies.proofs.of_searched.Statement.{statement}
+use Rattle.replies.proofs.of_searched.Tie as tie
 
 returns : tie.Need-returns
 unfolding searchedNumbers

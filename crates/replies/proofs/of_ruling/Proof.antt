@@ -1,9 +1,9 @@
--- `entries::of_ruling` meets its contract: the numbers of each case.
+-- `replies::of_ruling` meets its contract: the numbers of each case.
 -- Assumes nothing.
 use mathlib.Core.Path.{_∙_}
 use borrow.Author.Needs.{needs}
-use Rattle.entries.proofs.of_ruling.Statement.{statement}
-use Rattle.entries.proofs.of_ruling.Tie as tie
+use Rattle.replies.proofs.of_ruling.Statement.{statement}
+use Rattle.replies.proofs.of_ruling.Tie as tie
 
 returns : tie.Need-returns
 returns c = c .success .ensures ∙ simp (c .before .enum-told .given .1)

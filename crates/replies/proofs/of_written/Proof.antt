@@ -1,10 +1,10 @@
--- `entries::of_written` meets its contract: the numbers of each case.
+-- `replies::of_written` meets its contract: the numbers of each case.
 -- Assumes nothing.
 use mathlib.Core.Path.{_∙_}
 use borrow.Author.Needs.{needs}
 use Rattle.clauses.specs.Promise.{writtenNumbers}
-use Rattle.entries.proofs.of_written.Statement.{statement}
-use Rattle.entries.proofs.of_written.Tie as tie
+use Rattle.replies.proofs.of_written.Statement.{statement}
+use Rattle.replies.proofs.of_written.Tie as tie
 
 returns : tie.Need-returns
 unfolding writtenNumbers

@@ -1,10 +1,10 @@
--- `entries::of_checked` meets its contract: the numbers of each case.
+-- `replies::of_checked` meets its contract: the numbers of each case.
 -- Assumes nothing.
 use mathlib.Core.Path.{_∙_}
 use borrow.Author.Needs.{needs}
 use Rattle.circuit.specs.Promise.{checkedNumbers}
-use Rattle.entries.proofs.of_checked.Statement.{statement}
-use Rattle.entries.proofs.of_checked.Tie as tie
+use Rattle.replies.proofs.of_checked.Statement.{statement}
+use Rattle.replies.proofs.of_checked.Tie as tie
 
 returns : tie.Need-returns
 unfolding checkedNumbers
