@@ -1,5 +1,4 @@
 pub mod Answer
-pub mod Steps
 pub mod Numbers
-pub mod Nets
+pub mod Steps
 pub mod Says

@@ -9,31 +9,21 @@ use Rattle.answers.specs.Rules.{Applies, AllHold, AllSay}
 use Rattle.answers.proofs.Rules.{fine, both-say}
 use Rattle.answers.proofs.Answer as answer
 use Rattle.answers.proofs.Answer.{Ruled}
-use Rattle.answers.proofs.Same.{eq-same}
 use Rattle.circuit.specs.Record.{linesOf}
-use Rattle.circuit.specs.Promise.{circuitRules}
-use Rattle.circuit.proofs.Answer.{circuit-says}
 use Rattle.syntax.specs.Syntax.{syntaxRules}
 use Rattle.syntax.proofs.Says.{syntax-says}
 use Rattle.names.specs.Names.{nameRules}
 use Rattle.names.proofs.Says.{names-say}
-use Rattle.order.specs.Order.{cycleRules}
-use Rattle.order.proofs.Says.{cycle-says}
-use Rattle.bench.specs.declared.Read.{Read}
-use Rattle.bench.specs.declared.Read.the-variants.{Records, Refused}
+use Rattle.nets.specs.declared.Read.{Read}
+use Rattle.nets.specs.declared.Read.the-variants.{Records, Refused}
+use Rattle.nets.proofs.Says.{net-says}
 use Rattle.bench.specs.Text.{defsIn, usesIn, netIn}
-use Rattle.bench.specs.Promise.{bufferRules, benchRules, recordsIn, readOf, Reads}
-
-buffer-says : (room : ℕ) → AllSay (bufferRules room)
-unfolding bufferRules AllSay
-buffer-says room = (eq-same room 16384, tt)
+use Rattle.bench.specs.Promise.{benchRules, recordsIn, readOf, Reads}
 
 pub bench-says : (t : List ℕ) (room : ℕ) → AllSay (benchRules t room)
 bench-says t room =
     both-say (syntaxRules t) _ (syntax-says t)
-    (both-say (nameRules t (defsIn t) (usesIn t)) _ (names-say t (defsIn t) (usesIn t))
-    (both-say (cycleRules (netIn t .firsts) (netIn t .seconds)) _ (cycle-says (netIn t .firsts) (netIn t .seconds))
-    (both-say (circuitRules (recordsIn t)) _ (circuit-says (recordsIn t)) (buffer-says room))))
+    (both-say (nameRules t (defsIn t) (usesIn t)) _ (names-say t (defsIn t) (usesIn t)) (net-says (netIn t) room))
 
 -- what was ruled, by the answer
 abbrev pub rulingOf : Read → Ruling

@@ -1,24 +1,22 @@
 -- From table to table: what each step is handed has the room that it asks for, and is what the next one is told.
 -- Assumes nothing.
-use mathlib.Core.Path.{_≡_, sym, ap, _∙_}
+use mathlib.Core.Path.{_≡_, ap, _∙_, subst}
 use mathlib.Core.List.{List}
 use Prim.Native.Nat.{ℕ, _-_, _≤_}
 use native.Mathlib.Omega.{arith}
 use lib.ListN.{length, take, length-take}
-use Rattle.answers.specs.declared.Ruling.{Ruling}
-use Rattle.answers.specs.declared.Ruling.the-variants.{Fine}
 use Rattle.words.specs.Words.{wordsIn, endsIn}
 use Rattle.words.specs.Owed.{CutDone}
-use Rattle.statements.specs.Tables.{gatesIn}
+use Rattle.statements.specs.Tables.{gatesIn, kindsOf}
 use Rattle.statements.specs.Owed.{FormsDone, DefsReady, DefsDone, OutsRoom, OutsDone, SourcesReady, SourcesDone, KindsRoom}
 use Rattle.statements.proofs.Forms.{forms-length, forms-small}
-use Rattle.statements.proofs.Lengths.{defs-split, defs-length, outs-length, firsts-length, seconds-length}
-use Rattle.statements.proofs.Sizes.{few-defs, few-outs, few-gates, defs-within, outs-within, firsts-within, seconds-within}
-use Rattle.answers.specs.Rules.{refusal}
-use Rattle.names.specs.Names.{nameRules}
-use Rattle.names.specs.Owed as names
-use Rattle.bench.specs.Text.{formsIn, defsIn, usesIn, netIn}
-use Rattle.bench.specs.Owed.{ReadLinesReady, ReadDefsReady, ReadUsesReady, ReadNamesReady, ReadKindsReady}
+use Rattle.statements.proofs.Lengths.{defs-length}
+use Rattle.statements.proofs.Sizes.{few-defs, few-outs, few-gates}
+use Rattle.nets.specs.declared.Read.{Read}
+use Rattle.nets.specs.Owed.{NamedNet, namedOf, NamesDone, ReadNamesReady}
+use Rattle.bench.specs.Text.{formsIn, defsIn, outsIn, firstsIn, secondsIn, netIn}
+use Rattle.bench.specs.Owed.{TextDone, namedIn, ReadLinesReady, ReadDefsReady, ReadUsesReady}
+use Rattle.bench.proofs.Numbers.{named-ready}
 
 -- ---- words, forms
 
@@ -81,14 +79,6 @@ module _ {t ws es fs : List ℕ} (p : ReadDefsReady t ws es fs) where
   pub kinds-room : {kinds : List ℕ} → length kinds ≡ 8193 → KindsRoom es fs kinds
   kinds-room r = record { lines = lines; for-kinds = record { few = rw (p .forms-are) (few-gates t short); room = r } }
 
-  pub used : {firsts seconds outs : List ℕ} {gates u : ℕ} → gates ≡ gatesIn fs → OutsDone ws es fs outs u → SourcesDone ws es fs firsts seconds
-      → ReadNamesReady t (take gates firsts) (take gates seconds) (take u outs)
-  used g o s = record {
-    firsts-are = rw (g, p .forms-are) (rw (p .lined .words-are, p .lined .ends-are, p .forms-are) at (s .firsts-are));
-    seconds-are = rw (g, p .forms-are) (rw (p .lined .words-are, p .lined .ends-are, p .forms-are) at (s .seconds-are));
-    outs-are = rw (p .lined .words-are, p .lined .ends-are, p .forms-are) at (o .are);
-  }
-
 -- there are no more gates than definitions
 pub some-gates : {t ws es fs : List ℕ} {inputs gates : ℕ} {defs numbers : List ℕ} → ReadUsesReady t ws es fs inputs defs numbers → gates ≡ gatesIn fs → gates ≤ length defs
 some-gates {t} {gates = gates} d g =
@@ -96,42 +86,26 @@ some-gates {t} {gates = gates} d g =
     let h : gates ≡ gatesIn (formsIn t) = rw (d .told .forms-are) at g in
     omega (arith, n, h)
 
--- ---- names
+-- ---- the tables, with names
 
-module _ {t ws es fs : List ℕ} {inputs : ℕ} {defs numbers firsts seconds outs : List ℕ} (d : ReadUsesReady t ws es fs inputs defs numbers) (u : ReadNamesReady t firsts seconds outs) where
-  pub few-sources : (length firsts ≤ 8192) × (length seconds ≡ length firsts) × (length outs ≤ 8192)
-  few-sources =
-      let s = d .told .lined .short in
-      let f = ap length (u .firsts-are) ∙ firsts-length (wordsIn t) (endsIn t) (formsIn t) in
-      let g = ap length (u .seconds-are) ∙ seconds-length (wordsIn t) (endsIn t) (formsIn t) in
-      let o = ap length (u .outs-are) ∙ outs-length (wordsIn t) (endsIn t) (formsIn t) in
-      (omega (arith, f, few-gates t s), g ∙ sym f, omega (arith, o, few-outs t s))
+module _ {t ws es fs : List ℕ} {inputs : ℕ} {defs numbers : List ℕ} (d : ReadUsesReady t ws es fs inputs defs numbers) {gates : ℕ} (g : gates ≡ gatesIn fs)
+    (kinds : List ℕ) (k : take (gatesIn fs) kinds ≡ kindsOf t ws es fs) {firsts seconds outs : List ℕ} {u : ℕ} (s : SourcesDone ws es fs firsts seconds) (o : OutsDone ws es fs outs u) where
+  abbrev used : NamedNet
+  used = namedOf defs numbers inputs (take gates kinds) (take gates firsts) (take gates seconds) (take u outs)
 
-  pub unresolved : {o a b : List ℕ} → length o ≡ length outs → length a ≡ length firsts → length b ≡ length seconds
-      → names.ResolveReady t defs outs firsts seconds o a b
-  unresolved eo ea eb = record {
-    short = d .told .lined .short;
-    few = let n = ap length (d .defs-are) ∙ defs-length (wordsIn t) (endsIn t) (formsIn t) in omega (arith, n, few-defs t (d .told .lined .short), defs-split (formsIn t));
-    defs-in = rw (d .defs-are) (defs-within t);
-    outs-in = rw (u .outs-are) (outs-within t);
-    firsts-in = rw (u .firsts-are) (firsts-within t);
-    seconds-in = rw (u .seconds-are) (seconds-within t);
-    for-outs = eo;
-    for-firsts = ea;
-    for-seconds = eb;
-  }
+  used-are : used ≡ namedIn t
+  used-are =
+      let p = d .told in
+      let kinds-are : take gates kinds ≡ kindsOf t (wordsIn t) (endsIn t) (formsIn t) = rw (g, p .forms-are) (rw (p .lined .words-are, p .lined .ends-are, p .forms-are) at k) in
+      let firsts-are : take gates firsts ≡ firstsIn t = rw (g, p .forms-are) (rw (p .lined .words-are, p .lined .ends-are, p .forms-are) at (s .firsts-are)) in
+      let seconds-are : take gates seconds ≡ secondsIn t = rw (g, p .forms-are) (rw (p .lined .words-are, p .lined .ends-are, p .forms-are) at (s .seconds-are)) in
+      let outs-are : take u outs ≡ outsIn t = rw (p .lined .words-are, p .lined .ends-are, p .forms-are) at (o .are) in
+      rw (d .defs-are, d .numbers-are, d .inputs-are, kinds-are, firsts-are, seconds-are, outs-are)
 
-  -- what the names say, of the text
-  pub names-ruling : {o a b : List ℕ} {r : Ruling} → names.ResolveDone t defs numbers outs firsts seconds o a b r → r ≡ refusal (nameRules t (defsIn t) (usesIn t))
-  names-ruling q = rw (d .defs-are, u .firsts-are, u .seconds-are, u .outs-are) at (q .ruling)
+  pub ready : ReadNamesReady t used
+  ready = rw used-are (named-ready t (d .told .lined .short))
 
-  pub named : {o a b : List ℕ} {r : Ruling} → names.ResolveDone t defs numbers outs firsts seconds o a b r → r ≡ Fine → ReadKindsReady t ws es fs inputs a b o
+  -- the text's net has numbers for these names
+  pub read-text : {c c′ : List ℕ} {r : Read} → NamesDone t used c c′ r → TextDone t c c′ r
   unfolding netIn
-  named q e = record {
-    told = d .told;
-    fine = sym (names-ruling q) ∙ e;
-    inputs-are = d .inputs-are;
-    firsts-are = rw (d .defs-are, d .numbers-are, u .firsts-are) at (q .firsts-are);
-    seconds-are = rw (d .defs-are, d .numbers-are, u .seconds-are) at (q .seconds-are);
-    outs-are = rw (d .defs-are, d .numbers-are, u .outs-are) at (q .outs-are);
-  }
+  read-text {c} {c′} {r} q = subst (λ (n : NamedNet). NamesDone t n c c′ r) used-are q

@@ -1,37 +1,20 @@
 -- The reader of the bench notation: its refusals, what it answers, and what the lent buffer holds afterwards.
 -- Assumes nothing.
 use mathlib.Core.Path.{_≡_}
-use mathlib.Core.List.{List, [], _∷_, _++_}
+use mathlib.Core.List.{List, _++_}
 use Prim.Native.Nat.{ℕ}
-use lib.ListN.{length, drop}
+use lib.ListN.{length}
 use Rattle.answers.specs.Rules.{Rule, refusal, unless}
-use Rattle.answers.specs.Lent.{exact}
 use Rattle.answers.specs.Answer.{answered}
 use Rattle.answers.specs.Area.{Numbers, success, refusedAt, told}
 use Rattle.circuit.specs.Record.{linesOf}
-use Rattle.circuit.specs.Promise.{circuitRules}
 use Rattle.syntax.specs.Syntax.{syntaxRules}
 use Rattle.names.specs.Names.{nameRules}
-use Rattle.order.specs.Order.{cycleRules}
-use Rattle.records.specs.Net.{Net, recordsOf}
-use Rattle.bench.specs.declared.Read.{Read}
-use Rattle.bench.specs.declared.Read.the-variants.{Records, Refused}
+use Rattle.records.specs.Net.{recordsOf}
+use Rattle.nets.specs.declared.Read.{Read}
+use Rattle.nets.specs.declared.Read.the-variants.{Records, Refused}
+use Rattle.nets.specs.Rules.{netRules, laidOn}
 use Rattle.bench.specs.Text.{defsIn, usesIn, netIn}
-
--- the buffer has the size of the largest circuit
-abbrev pub bufferBytes : ℕ
-bufferBytes = 16384
-
-unfoldable pub bufferRules : ℕ → List Rule
-bufferRules room = exact bufferBytes room ∷ []
-
--- the circuit check's refusals on the records, then 10
-abbrev pub recordRules : List ℕ → ℕ → List Rule
-recordRules records room = circuitRules records ++ bufferRules room
-
--- 16 on a net, then those on its records
-abbrev pub netRules : Net → ℕ → List Rule
-netRules net room = cycleRules (net .firsts) (net .seconds) ++ recordRules (recordsOf net) room
 
 -- 14, 15, 16, then those on the records
 abbrev pub benchRules : List ℕ → ℕ → List Rule
@@ -48,10 +31,6 @@ readOf t room = answered Refused (refusal (benchRules t room)) (Records (linesOf
 unfoldable pub readNumbers : Read → Numbers
 readNumbers (Records n) = success n 0 0
 readNumbers (Refused number place) = refusedAt number place
-
--- the records, and then what stood there
-abbrev pub laidOn : List ℕ → List ℕ → List ℕ
-laidOn c records = records ++ drop (length records) c
 
 -- the promise, whatever the text and the buffer: the answer's case, its number and values, and every byte; a refusal writes nothing
 pub record Reads (t c c′ : List ℕ) (r : Read) : Type 0 where

@@ -1,9 +1,7 @@
-// The reader of the bench notation: circuit records of a text. Each step makes one table and lends it to the next.
-mod net;
-
+// The reader of the bench notation: circuit records of a text. Each step makes tables of it and lends them to the next.
 use answers::Ruling;
-use names::resolve;
-use net::read_net;
+use nets::Read;
+use nets::read_names;
 use statements::put_defs;
 use statements::put_forms;
 use statements::put_kinds;
@@ -16,138 +14,12 @@ ghost use Prim.Native.Nat.{_-_, _≤_};
 ghost use lib.ListN.{length};
 ghost use Rattle.words.specs.Owed.{CutRoom};
 ghost use Rattle.statements.specs.Tables.{gatesIn};
-ghost use Rattle.bench.specs.Text.{netIn};
 ghost use Rattle.bench.specs.Promise.{Reads};
-ghost use Rattle.bench.specs.Owed.{NetDone, TextDone, ReadKindsReady, ReadUsesReady, ReadNamesReady, ReadDefsReady, ReadLinesReady};
+ghost use Rattle.bench.specs.Owed.{TextDone, ReadUsesReady, ReadDefsReady, ReadLinesReady};
 
-// What the reader answers.
-pub enum Read {
-    // how many
-    Records(usize),
-    // number, place
-    Refused(u32, usize),
-}
+// ---- from the text to its tables. A step that needs memory makes it, and lends it to the function of the same name with `_in`
 
-// ---- from the text to its net. A step that needs memory makes it, and lends it to the function of the same name with `_in`
-
-// The kinds of the gates.
-fn read_kinds_in(
-    text: &[u8],
-    words: &[u16],
-    ends: &[u16],
-    forms: &[u8],
-    inputs: usize,
-    firsts: &[u16],
-    seconds: &[u16],
-    outs: &[u16],
-    kinds: &mut [u8],
-    circuit: &mut [u8],
-) -> Read
-    requires { ⌜ ReadKindsReady (now text) (now words) (now ends) (now forms) inputs (now firsts) (now seconds) (now outs) × (length (now kinds) ≡ 8193) ⌝ }
-    ensures { λ r. ⌜ NetDone (netIn (now (text .entry))) (now (circuit .entry)) (now (circuit .exit)) r ⌝ }
-{
-    put_kinds(text, words, ends, forms, kinds);
-    let gates = firsts.len();
-    read_net(inputs, &kinds[..gates], firsts, seconds, outs, circuit)
-}
-
-fn read_kinds(
-    text: &[u8],
-    words: &[u16],
-    ends: &[u16],
-    forms: &[u8],
-    inputs: usize,
-    firsts: &[u16],
-    seconds: &[u16],
-    outs: &[u16],
-    circuit: &mut [u8],
-) -> Read
-    requires { ⌜ ReadKindsReady (now text) (now words) (now ends) (now forms) inputs (now firsts) (now seconds) (now outs) ⌝ }
-    ensures { λ r. ⌜ NetDone (netIn (now (text .entry))) (now (circuit .entry)) (now (circuit .exit)) r ⌝ }
-{
-    let mut kinds = [0u8; 8193];
-    read_kinds_in(
-        text,
-        words,
-        ends,
-        forms,
-        inputs,
-        firsts,
-        seconds,
-        outs,
-        &mut kinds,
-        circuit,
-    )
-}
-
-// The numbers of the names that are used.
-fn read_names_in(
-    text: &[u8],
-    words: &[u16],
-    ends: &[u16],
-    forms: &[u8],
-    inputs: usize,
-    defs: &[u16],
-    numbers: &[u16],
-    firsts: &[u16],
-    seconds: &[u16],
-    outs: &[u16],
-    a: &mut [u16],
-    b: &mut [u16],
-    o: &mut [u16],
-    circuit: &mut [u8],
-) -> Read
-    requires { ⌜ ReadUsesReady (now text) (now words) (now ends) (now forms) inputs (now defs) (now numbers) × ReadNamesReady (now text) (now firsts) (now seconds) (now outs) ⌝ }
-    requires { ⌜ (length (now a) ≡ length (now firsts)) × (length (now b) ≡ length (now seconds)) × (length (now o) ≡ length (now outs)) ⌝ }
-    ensures { λ r. ⌜ TextDone (now (text .entry)) (now (circuit .entry)) (now (circuit .exit)) r ⌝ }
-{
-    let v = resolve(text, defs, numbers, outs, firsts, seconds, o, a, b);
-    match v {
-        Ruling::Refused(number, place) => Read::Refused(number, place),
-        Ruling::Fine => read_kinds(text, words, ends, forms, inputs, a, b, o, circuit),
-    }
-}
-
-fn read_names(
-    text: &[u8],
-    words: &[u16],
-    ends: &[u16],
-    forms: &[u8],
-    inputs: usize,
-    defs: &[u16],
-    numbers: &[u16],
-    firsts: &[u16],
-    seconds: &[u16],
-    outs: &[u16],
-    circuit: &mut [u8],
-) -> Read
-    requires { ⌜ ReadUsesReady (now text) (now words) (now ends) (now forms) inputs (now defs) (now numbers) × ReadNamesReady (now text) (now firsts) (now seconds) (now outs) ⌝ }
-    ensures { λ r. ⌜ TextDone (now (text .entry)) (now (circuit .entry)) (now (circuit .exit)) r ⌝ }
-{
-    let mut a = [0u16; 8192];
-    let mut b = [0u16; 8192];
-    let mut o = [0u16; 8192];
-    let g = firsts.len();
-    let u = outs.len();
-    read_names_in(
-        text,
-        words,
-        ends,
-        forms,
-        inputs,
-        defs,
-        numbers,
-        firsts,
-        seconds,
-        outs,
-        &mut a[..g],
-        &mut b[..g],
-        &mut o[..u],
-        circuit,
-    )
-}
-
-// The names that are used.
+// The kinds of the gates, and the names that are used.
 fn read_uses_in(
     text: &[u8],
     words: &[u16],
@@ -156,26 +28,26 @@ fn read_uses_in(
     gates: usize,
     defs: &[u16],
     numbers: &[u16],
+    kinds: &mut [u8],
     firsts: &mut [u16],
     seconds: &mut [u16],
     outs: &mut [u16],
     circuit: &mut [u8],
 ) -> Read
     requires { ⌜ ReadUsesReady (now text) (now words) (now ends) (now forms) (length (now defs) - gates) (now defs) (now numbers) × (gates ≡ gatesIn (now forms)) ⌝ }
-    requires { ⌜ (length (now firsts) ≡ 8193) × (length (now seconds) ≡ 8193) × (length (now outs) ≡ 8193) ⌝ }
+    requires { ⌜ (length (now kinds) ≡ 8193) × (length (now firsts) ≡ 8193) × (length (now seconds) ≡ 8193) × (length (now outs) ≡ 8193) ⌝ }
     ensures { λ r. ⌜ TextDone (now (text .entry)) (now (circuit .entry)) (now (circuit .exit)) r ⌝ }
 {
+    put_kinds(text, words, ends, forms, kinds);
     put_sources(words, ends, forms, firsts, seconds);
     let u = put_outs(words, ends, forms, outs);
     let inputs = defs.len() - gates;
     read_names(
         text,
-        words,
-        ends,
-        forms,
-        inputs,
         defs,
         numbers,
+        inputs,
+        &kinds[..gates],
         &firsts[..gates],
         &seconds[..gates],
         &outs[..u],
@@ -196,6 +68,7 @@ fn read_uses(
     requires { ⌜ ReadUsesReady (now text) (now words) (now ends) (now forms) (length (now defs) - gates) (now defs) (now numbers) × (gates ≡ gatesIn (now forms)) ⌝ }
     ensures { λ r. ⌜ TextDone (now (text .entry)) (now (circuit .entry)) (now (circuit .exit)) r ⌝ }
 {
+    let mut kinds = [0u8; 8193];
     let mut firsts = [0u16; 8193];
     let mut seconds = [0u16; 8193];
     let mut outs = [0u16; 8193];
@@ -207,6 +80,7 @@ fn read_uses(
         gates,
         defs,
         numbers,
+        &mut kinds,
         &mut firsts,
         &mut seconds,
         &mut outs,

@@ -19,7 +19,7 @@ use Rattle.compact.specs.Promise.{compactRules}
 use Rattle.search.specs.Promise.{searchRules, verdictFor, testFor, workFor, verdictNumbers}
 use Rattle.line_clauses.specs.Clauses.{variablesOf}
 use Rattle.bench.specs.Promise.{benchRules, recordsIn}
-use Rattle.bench.specs.Promise as reading
+use Rattle.nets.specs.Rules as reading
 use Rattle.clauses.specs.Promise.{clauseRules, clausesFor, wordsFor, laidOn}
 
 -- the circuit check: lines, inputs, outputs

@@ -14,8 +14,9 @@ use Rattle.names.specs.Names.{nameRules}
 use Rattle.order.specs.Order.{cycleRules}
 use Rattle.order.proofs.Cycle.{cycle-refused, refused-cycle}
 use Rattle.netlist.proofs.Sizes.{net-fine}
+use Rattle.nets.specs.Rules.{bufferBytes, bufferRules}
 use Rattle.bench.specs.Text.{defsIn, usesIn, netIn}
-use Rattle.bench.specs.Promise.{bufferBytes, bufferRules, benchRules}
+use Rattle.bench.specs.Promise.{benchRules}
 use Rattle.equations.specs.Right.{TextCycle}
 use Rattle.equations.specs.Computes.{Acceptable}
 use Rattle.equations.proofs.Tables.{counted, inputs-are, outputs-are, output-line, number-inside}

@@ -12,10 +12,11 @@ use Rattle.answers.proofs.Answer.{was-ruled}
 use Rattle.answers.specs.Rules.{refusal, unless}
 use Rattle.circuit.specs.Record.{linesOf}
 use Rattle.netlist.proofs.Fields.{net-long, net-lines}
-use Rattle.bench.specs.declared.Read.{Read}
-use Rattle.bench.specs.declared.Read.the-variants.{Records, Refused}
+use Rattle.nets.specs.declared.Read.{Read}
+use Rattle.nets.specs.declared.Read.the-variants.{Records, Refused}
+use Rattle.nets.specs.Rules.{bufferBytes, laidOn}
 use Rattle.bench.specs.Text.{netIn}
-use Rattle.bench.specs.Promise.{bufferBytes, benchRules, recordsIn, readOf, laidOn, Reads}
+use Rattle.bench.specs.Promise.{benchRules, recordsIn, readOf, Reads}
 use Rattle.bench.proofs.Says.{rulingOf, ruled}
 use Rattle.equations.specs.Right.{TextCycle}
 use Rattle.equations.specs.Placing.{FirstLeft}

@@ -17,8 +17,9 @@ use Rattle.names.specs.Names.{nameRules}
 use Rattle.order.specs.Order.{cycleRules}
 use Rattle.order.proofs.Says.{refused-left, left-refused}
 use Rattle.order.proofs.Cycle.{cycle-refused, refused-cycle}
+use Rattle.nets.specs.Rules.{bufferRules, recordRules, netRules}
 use Rattle.bench.specs.Text.{defsIn, usesIn, netIn}
-use Rattle.bench.specs.Promise.{bufferRules, recordRules, netRules, benchRules, recordsIn}
+use Rattle.bench.specs.Promise.{benchRules, recordsIn}
 use Rattle.equations.specs.Right.{TextCycle}
 use Rattle.equations.specs.Placing.{FirstLeft}
 use Rattle.equations.proofs.Cycles.{net-cycle, text-cycle}

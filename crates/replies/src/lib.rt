@@ -1,7 +1,7 @@
 // Answers as C gets them: each part's answer as a number and three values, and these as the 32 bytes of the answer area.
 use answers::Ruling;
 use answers::put_numbers;
-use bench::Read;
+use nets::Read;
 use circuit::Checked;
 use clauses::Written;
 use nodes::Verdict;

@@ -1,18 +1,16 @@
 -- `bench::read_lines` meets its contract: room for a form of each line is lent.
 -- Assumes nothing.
-use lib.Seq.{length-take-le}
-use lib.ListN.{length, replicate}
+use Rattle.nets.proofs.Room.{front}
 use mathlib.Core.Path.{sym}
-use native.Mathlib.Omega.{arith}
 use borrow.Author.Needs.{needs}
 use Rattle.bench.proofs.read_lines.Statement.{statement}
 use Rattle.bench.proofs.read_lines.Tie as tie
 
 slice-aggregate-read-lines-in : tie.Need-slice-aggregate-read-lines-in
-slice-aggregate-read-lines-in c = sym (length-take-le _ _ (omega arith))
+slice-aggregate-read-lines-in c = sym (front 32769 _ (c .before .before .before .before .before .pre .1))
 
 read-lines-in-requires : tie.Need-read-lines-in-requires
-read-lines-in-requires c κs = let s = c .before .before .before .before .before .before in (s .pre .0, length-take-le (length (s .args .ends .now)) (replicate 32769 0) (omega arith), s .pre .1)
+read-lines-in-requires c κs = let s = c .before .before .before .before .before .before in (s .pre .0, front 32769 _ (s .pre .1), s .pre .1)
 
 pub read-lines-spec : {M : Type 1} → statement M
 read-lines-spec =

@@ -1,11 +1,11 @@
--- `bench::net::hand_over` meets its contract: a refusal of the check is handed on, else the buffer decides.
+-- `nets::hand_over` meets its contract: a refusal of the check is handed on, else the buffer decides.
 -- Assumes nothing.
-use Rattle.bench.proofs.Answer.{first-refused, first-fine, whole}
+use Rattle.nets.proofs.Answer.{first-refused, first-fine, whole}
 use Rattle.circuit.proofs.Accepted.{accepts, refuses}
 use mathlib.Core.Path.{sym, _∙_}
 use borrow.Author.Needs.{needs}
-use Rattle.bench.proofs.net.hand_over.Statement.{statement}
-use Rattle.bench.proofs.net.hand_over.Tie as tie
+use Rattle.nets.proofs.hand_over.Statement.{statement}
+use Rattle.nets.proofs.hand_over.Tie as tie
 
 lay-requires : tie.Need-lay-requires
 lay-requires c κs = whole (accepts _ _ _ _ (sym (c .before .before .v2 .given .1) ∙ c .before .before .before .before .check .ensures .answer))

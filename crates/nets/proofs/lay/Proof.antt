@@ -1,10 +1,10 @@
--- `bench::net::lay` meets its contract: refusal 10, or the records in the buffer.
+-- `nets::lay` meets its contract: refusal 10, or the records in the buffer.
 -- Assumes nothing.
-use Rattle.bench.proofs.Answer.{other-size, laid}
+use Rattle.nets.proofs.Answer.{other-size, laid}
 use native.Mathlib.Omega.{arith}
 use borrow.Author.Needs.{needs}
-use Rattle.bench.proofs.net.lay.Statement.{statement}
-use Rattle.bench.proofs.net.lay.Tie as tie
+use Rattle.nets.proofs.lay.Statement.{statement}
+use Rattle.nets.proofs.lay.Tie as tie
 
 returns : tie.Need-returns
 returns c = other-size (c .if1 .taken)

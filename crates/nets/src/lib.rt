@@ -1,17 +1,25 @@
-// From a net, which is a text with numbers for names, to its circuit records in the lent buffer.
-use crate::Read;
+// From the tables of a text to its circuit records in the lent buffer: names become numbers, and the gates find their order.
 use answers::Ruling;
 use bytes::copy;
 use circuit::Checked;
 use circuit::check;
+use names::resolve;
 use order::arrange;
 use records::put_records;
 ghost use mathlib.Core.Path.{_≡_};
 ghost use lib.ListN.{length};
 ghost use Rattle.records.specs.Net.{recordsOf};
 ghost use Rattle.records.specs.Owed.{netOf, PutRecordsReady};
-ghost use Rattle.bench.specs.Promise.{bufferRules};
-ghost use Rattle.bench.specs.Owed.{ReadDone, RecordsDone, NetDone, LayReady, ReadOrderReady, ReadNetReady};
+ghost use Rattle.nets.specs.Rules.{bufferRules};
+ghost use Rattle.nets.specs.Owed.{ReadDone, RecordsDone, NetDone, NamesDone, LayReady, ReadOrderReady, ReadNetReady, ReadNamesReady, namedOf};
+
+// What the reader answers.
+pub enum Read {
+    // how many
+    Records(usize),
+    // number, place
+    Refused(u32, usize),
+}
 
 // ---- from the records to the lent buffer
 
@@ -109,7 +117,7 @@ fn read_net_in(
 }
 
 // A net whose numbers are those of gates and inputs.
-pub fn read_net(
+fn read_net(
     inputs: usize,
     kinds: &[u8],
     firsts: &[u16],
@@ -129,6 +137,74 @@ pub fn read_net(
         seconds,
         outs,
         &mut order[..gates],
+        circuit,
+    )
+}
+
+// ---- from names to numbers
+
+// The numbers of the names that are used, in lent memory.
+fn read_names_in(
+    text: &[u8],
+    defs: &[u16],
+    numbers: &[u16],
+    inputs: usize,
+    kinds: &[u8],
+    firsts: &[u16],
+    seconds: &[u16],
+    outs: &[u16],
+    a: &mut [u16],
+    b: &mut [u16],
+    o: &mut [u16],
+    circuit: &mut [u8],
+) -> Read
+    requires { ⌜ ReadNamesReady (now text) (namedOf (now defs) (now numbers) inputs (now kinds) (now firsts) (now seconds) (now outs)) ⌝ }
+    requires { ⌜ (length (now a) ≡ length (now firsts)) × (length (now b) ≡ length (now seconds)) × (length (now o) ≡ length (now outs)) ⌝ }
+    ensures { λ r. ⌜ NamesDone (now (text .entry))
+        (namedOf (now (defs .entry)) (now (numbers .entry)) inputs (now (kinds .entry)) (now (firsts .entry)) (now (seconds .entry)) (now (outs .entry)))
+        (now (circuit .entry)) (now (circuit .exit)) r ⌝ }
+{
+    let v = resolve(text, defs, numbers, outs, firsts, seconds, o, a, b);
+    match v {
+        Ruling::Refused(number, place) => Read::Refused(number, place),
+        Ruling::Fine => read_net(inputs, kinds, a, b, o, circuit),
+    }
+}
+
+// A net whose sources and outputs are names.
+pub fn read_names(
+    text: &[u8],
+    defs: &[u16],
+    numbers: &[u16],
+    inputs: usize,
+    kinds: &[u8],
+    firsts: &[u16],
+    seconds: &[u16],
+    outs: &[u16],
+    circuit: &mut [u8],
+) -> Read
+    requires { ⌜ ReadNamesReady (now text) (namedOf (now defs) (now numbers) inputs (now kinds) (now firsts) (now seconds) (now outs)) ⌝ }
+    ensures { λ r. ⌜ NamesDone (now (text .entry))
+        (namedOf (now (defs .entry)) (now (numbers .entry)) inputs (now (kinds .entry)) (now (firsts .entry)) (now (seconds .entry)) (now (outs .entry)))
+        (now (circuit .entry)) (now (circuit .exit)) r ⌝ }
+{
+    let mut a = [0u16; 8192];
+    let mut b = [0u16; 8192];
+    let mut o = [0u16; 8192];
+    let g = firsts.len();
+    let u = outs.len();
+    read_names_in(
+        text,
+        defs,
+        numbers,
+        inputs,
+        kinds,
+        firsts,
+        seconds,
+        outs,
+        &mut a[..g],
+        &mut b[..g],
+        &mut o[..u],
         circuit,
     )
 }

@@ -1,11 +1,11 @@
--- `bench::net::read_net_in` meets its contract: refusal 16, or the records in the order of the gates.
+-- `nets::read_net_in` meets its contract: refusal 16, or the records in the order of the gates.
 -- Assumes nothing.
-use Rattle.bench.proofs.Nets.{ordered}
-use Rattle.bench.proofs.Answer.{first-refused, first-fine}
+use Rattle.nets.proofs.Order.{ordered}
+use Rattle.nets.proofs.Answer.{first-refused, first-fine}
 use mathlib.Core.Path.{sym, _∙_}
 use borrow.Author.Needs.{needs}
-use Rattle.bench.proofs.net.read_net_in.Statement.{statement}
-use Rattle.bench.proofs.net.read_net_in.Tie as tie
+use Rattle.nets.proofs.read_net_in.Statement.{statement}
+use Rattle.nets.proofs.read_net_in.Tie as tie
 
 read-order-requires : tie.Need-read-order-requires
 read-order-requires c κs =

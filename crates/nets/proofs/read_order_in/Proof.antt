@@ -1,8 +1,8 @@
--- `bench::net::read_order_in` meets its contract: the records that were written are handed over.
+-- `nets::read_order_in` meets its contract: the records that were written are handed over.
 -- Assumes nothing.
 use borrow.Author.Needs.{needs}
-use Rattle.bench.proofs.net.read_order_in.Statement.{statement}
-use Rattle.bench.proofs.net.read_order_in.Tie as tie
+use Rattle.nets.proofs.read_order_in.Statement.{statement}
+use Rattle.nets.proofs.read_order_in.Tie as tie
 
 returns : tie.Need-returns
 returns c = rw (c .before .before .before .before .before .before .before .put-records .ensures) at (c .before .before .hand-over .ensures)

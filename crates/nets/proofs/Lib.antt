@@ -1,0 +1,5 @@
+pub mod Room
+pub mod Answer
+pub mod Order
+pub mod Names
+pub mod Says

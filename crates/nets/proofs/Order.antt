@@ -1,0 +1,42 @@
+-- What the order of a net and its records ask for, and refusal 1 of one with too many lines.
+-- Assumes nothing.
+use mathlib.Core.Path.{_≡_, sym, ap, _∙_}
+use mathlib.Core.List.{List}
+use Prim.Native.Nat.{ℕ, _*_, _≤_, _<_}
+use native.Mathlib.Omega.{arith}
+use lib.ListN.{length}
+use Rattle.answers.specs.declared.Ruling.{Ruling}
+use Rattle.answers.specs.declared.Ruling.the-variants.{Fine}
+use Rattle.circuit.specs.Promise.{circuitRules}
+use Rattle.circuit.proofs.Sizes as sealed
+use Rattle.order.specs.Owed.{ArrangeDone}
+use Rattle.order.proofs.Says.{full-order}
+use Rattle.records.specs.Net.{Net, netSize, recordsOf}
+use Rattle.records.specs.Owed.{PutRecordsReady}
+use Rattle.records.proofs.Size.{records-length}
+use Rattle.nets.specs.declared.Read.the-variants.{Refused}
+use Rattle.nets.specs.Rules.{bufferRules, recordRules}
+use Rattle.nets.specs.Owed.{ReadDone, ReadNetReady, ReadOrderReady}
+use Rattle.nets.proofs.Answer.{first-refused}
+
+pub ordered : {net : Net} {order : List ℕ} {r : Ruling} → ReadNetReady net → ArrangeDone (net .firsts) (net .seconds) order r → r ≡ Fine → ReadOrderReady net order
+ordered {net} p q e =
+    let o = q .order-is e in
+    record { resolved = p; order-is = o; placed = ap length o ∙ full-order (net .firsts) (net .seconds) (sym (q .ruling) ∙ e) }
+
+pub fits : {net : Net} {order records : List ℕ} → ReadOrderReady net order → netSize net ≤ 2048 → length records ≡ 8 * netSize net → PutRecordsReady net order records
+fits o few room = record {
+  few = few;
+  room = room;
+  order-is = o .order-is;
+  placed = o .placed;
+  kinds = o .resolved .kinds;
+  seconds = o .resolved .seconds;
+  output-numbers = o .resolved .output-numbers;
+}
+
+-- ---- more lines than a circuit may have
+
+pub too-many : (net : Net) {c : List ℕ} → 2048 < netSize net → ReadDone (recordRules (recordsOf net) (length c)) (recordsOf net) c c (Refused 1 0)
+too-many net {c} l =
+    first-refused (circuitRules (recordsOf net)) (bufferRules (length c)) (sealed.too-many (recordsOf net) (omega (arith, records-length net (netSize net))))

@@ -1,0 +1,100 @@
+-- What the functions that read a net owe each other and the reader of texts; nobody else need read it.
+-- Assumes nothing.
+use mathlib.Core.Path.{_≡_}
+use mathlib.Core.List.{List, _++_, map}
+use Prim.Native.Nat.{ℕ, _+_, _≤_}
+use lib.ListN.{length}
+use Rattle.answers.specs.Answer.{answered}
+use Rattle.answers.specs.Rules.{Rule, refusal, unless}
+use Rattle.circuit.specs.Record.{linesOf}
+use Rattle.names.specs.Names.{nameRules, nameNumber}
+use Rattle.names.specs.Owed.{Within}
+use Rattle.records.specs.Net.{Net, gatesOf, placedOf, recordsOf}
+use Rattle.records.specs.Owed.{netOf, Below, NumbersBelow}
+use Rattle.nets.specs.declared.Read.{Read}
+use Rattle.nets.specs.declared.Read.the-variants.{Records, Refused}
+use Rattle.nets.specs.Rules.{recordRules, netRules, laidOn}
+
+-- the answer and the buffer afterwards, where these are the rules and the records
+pub record ReadDone (rules : List Rule) (records c c′ : List ℕ) (r : Read) : Type 0 where
+  pub answer : r ≡ answered Refused (refusal rules) (Records (linesOf records))
+  pub circuit : c′ ≡ unless (refusal rules) c (laidOn c records)
+
+-- of records, and of a net
+abbrev pub RecordsDone : List ℕ → List ℕ → List ℕ → Read → Type 0
+RecordsDone records c c′ r = ReadDone (recordRules records (length c)) records c c′ r
+
+abbrev pub NetDone : Net → List ℕ → List ℕ → Read → Type 0
+NetDone net c c′ r = ReadDone (netRules net (length c)) (recordsOf net) c c′ r
+
+-- so many records, no more than a circuit may have
+pub record LayReady (records : List ℕ) (n : ℕ) : Type 0 where
+  pub lines : n ≡ linesOf records
+  pub fits : length records ≤ 16384
+
+-- ---- nets
+
+-- tables of one length, and outputs that are gates or inputs
+pub record ReadNetReady (net : Net) : Type 0 where
+  pub few : gatesOf net ≤ 8192
+  pub few-inputs : net .inputs ≤ 8192
+  pub kinds : length (net .kinds) ≡ gatesOf net
+  pub seconds : length (net .seconds) ≡ gatesOf net
+  pub output-numbers : NumbersBelow net (net .outputs)
+
+-- and all gates are placed
+pub record ReadOrderReady (net : Net) (order : List ℕ) : Type 0 where
+  pub resolved : ReadNetReady net
+  pub order-is : order ≡ placedOf net
+  pub placed : length order ≡ gatesOf net
+
+-- ---- a net whose sources and outputs are names
+
+-- a name is the byte where it begins; each definition has a number
+pub record NamedNet : Type 0 where
+  pub defs : List ℕ
+  pub numbers : List ℕ
+  pub inputs : ℕ
+  pub kinds : List ℕ
+  pub firsts : List ℕ
+  pub seconds : List ℕ
+  pub outs : List ℕ
+
+abbrev pub namedOf : List ℕ → List ℕ → ℕ → List ℕ → List ℕ → List ℕ → List ℕ → NamedNet
+namedOf defs numbers inputs kinds firsts seconds outs = record {
+  defs = defs;
+  numbers = numbers;
+  inputs = inputs;
+  kinds = kinds;
+  firsts = firsts;
+  seconds = seconds;
+  outs = outs;
+}
+
+abbrev pub usesOf : NamedNet → List ℕ
+usesOf n = n .outs ++ (n .firsts ++ n .seconds)
+
+-- with numbers for names
+abbrev pub numbered : List ℕ → NamedNet → Net
+numbered t n =
+    let number = nameNumber t (n .defs) (n .numbers) in
+    netOf (n .inputs) (n .kinds) (map number (n .firsts)) (map number (n .seconds)) (map number (n .outs))
+
+abbrev pub NamesDone : List ℕ → NamedNet → List ℕ → List ℕ → Read → Type 0
+NamesDone t n c c′ r = ReadDone (nameRules t (n .defs) (usesOf n) ++ netRules (numbered t n) (length c)) (recordsOf (numbered t n)) c c′ r
+
+-- few of each, names in the text, tables of one length, and numbers that are those of gates and inputs
+pub record ReadNamesReady (t : List ℕ) (n : NamedNet) : Type 0 where
+  pub short : length t ≤ 32768
+  pub few-defs : length (n .defs) ≤ 8192
+  pub few-inputs : n .inputs ≤ 8192
+  pub few-gates : length (n .firsts) ≤ 8192
+  pub few-outs : length (n .outs) ≤ 8192
+  pub defs-in : Within t (n .defs)
+  pub firsts-in : Within t (n .firsts)
+  pub seconds-in : Within t (n .seconds)
+  pub outs-in : Within t (n .outs)
+  pub kinds : length (n .kinds) ≡ length (n .firsts)
+  pub seconds : length (n .seconds) ≡ length (n .firsts)
+  pub numbers : length (n .numbers) ≡ length (n .defs)
+  pub numbers-below : Below (n .numbers) (n .inputs + length (n .firsts))
