@@ -4,6 +4,7 @@ use mathlib.Core.Path.{_≡_}
 use mathlib.Core.List.{List, _++_}
 use Prim.Native.Nat.{ℕ}
 use lib.ListN.{length}
+use Rattle.ground.specs.Put.{laidOn}
 use Rattle.answers.specs.Rules.{Rule, refusal, unless}
 use Rattle.answers.specs.Answer.{answered}
 use Rattle.answers.specs.Area.{Numbers, success, refusedAt, told}
@@ -13,7 +14,7 @@ use Rattle.names.specs.Names.{nameRules}
 use Rattle.records.specs.Net.{recordsOf}
 use Rattle.nets.specs.declared.Read.{Read}
 use Rattle.nets.specs.declared.Read.the-variants.{Records, Refused}
-use Rattle.nets.specs.Rules.{netRules, laidOn}
+use Rattle.nets.specs.Rules.{netRules}
 use Rattle.bench.specs.Text.{defsIn, usesIn, netIn}
 
 -- 14, 15, 16, then those on the records

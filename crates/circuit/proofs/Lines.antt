@@ -8,7 +8,7 @@ use native.Mathlib.Omega.{arith}
 use lib.Dec.{eqb, leb, ltb}
 use borrow.Author.Tests.{eqb-true, leb-true, ltb-true, leb-false, eq-eqb, le-leb, lt-ltb}
 use Rattle.ground.specs.Choose.{choose, one}
-use Rattle.ground.proofs.Tests.{T-is, is-T, and-both, same-test}
+use Rattle.ground.proofs.Tests.{T-is, is-T, and-both, same-test, bit-one}
 use Rattle.ground.proofs.Below.{at-below}
 use Rattle.answers.specs.Rules.{Same}
 use Rattle.gates.specs.Gate.{lastKind, pinsOf}
@@ -27,12 +27,6 @@ three P a b c (suc (suc (suc (suc s)))) l h = absurd (omega arith)
 -- only 0 is below 1
 below-one : (n : ℕ) → ltb n 1 ≡ eqb n 0
 below-one n = same-test (ltb n 1) (eqb n 0) (λ e. eq-eqb n 0 (omega (arith, ltb-true n 1 e))) (λ e. lt-ltb n 1 (omega (arith, eqb-true n 0 e)))
-
--- 0 or 1 counts as 1 where it is 1
-bit-one : (x : ℕ) → x ≤ 1 → x ≡ one (eqb x 1)
-bit-one zero l = refl
-bit-one (suc zero) l = refl
-bit-one (suc (suc x)) l = absurd (omega arith)
 
 module _ (c : List ℕ) (k : ℕ) where
   pin : (s : ℕ) → pinOk c k s ≡ true → Pin c k s

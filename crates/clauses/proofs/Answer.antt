@@ -10,6 +10,7 @@ use lib.IntN.{ℤ}
 use lib.ListN.{length}
 use borrow.Author.Tests.{le-leb, lt-leb}
 use Rattle.ground.proofs.Counting.{count-most}
+use Rattle.ground.specs.Put.{laidOn}
 use Rattle.answers.specs.declared.Ruling.{Ruling}
 use Rattle.answers.specs.Rules.{Rule, said, refusal, Applies, AllSay}
 use Rattle.answers.proofs.Rules.{after-refused, after-fine, both-say}
@@ -31,7 +32,7 @@ use Rattle.cnf.proofs.Sizes.{words-length}
 use Rattle.clauses.specs.declared.Written.{Written}
 use Rattle.clauses.specs.declared.Written.the-variants.{Success, Refused}
 use Rattle.line_clauses.specs.Clauses.{clausesOf, variablesOf}
-use Rattle.clauses.specs.Promise.{roomRules, clausesFor, wordsFor, clauseRules, writtenOf, writtenNumbers, laidOn, Writes}
+use Rattle.clauses.specs.Promise.{roomRules, clausesFor, wordsFor, clauseRules, writtenOf, writtenNumbers, Writes}
 use Rattle.clauses.specs.Owed.{WholeReady, WholeRoom, ClausesDone}
 
 -- ---- rule by rule

@@ -10,12 +10,11 @@ use lib.ListN.{length, length-append}
 use Rattle.lists.specs.declared.Fault.{Fault}
 use Rattle.ground.specs.Lists.{gather}
 use Rattle.cnf.specs.Cnf.{Clauses, wordsOf}
-use Rattle.ground.specs.Put.{Put}
+use Rattle.ground.specs.Put.{Put, laidOn}
 use Rattle.cnf.specs.Write.{single}
 use Rattle.cnf.proofs.Decode.{words-append}
 use Rattle.ground.proofs.Put.{put-as, put-none, put-then, put-room, put-whole}
 use Rattle.line_clauses.specs.Clauses.{stuckLiteral, goodClauses, faultyClauses, differenceClauses, differences, clausesOf}
-use Rattle.clauses.specs.Promise.{laidOn}
 use Rattle.clauses.specs.Owed.{LinesRoom, WholeRoom}
 use Rattle.clauses.proofs.Sizes.{differences-length}
 

@@ -10,13 +10,14 @@ use Rattle.answers.specs.Answer.{answered}
 use Rattle.circuit.specs.Record.{outputsBefore}
 use Rattle.lists.specs.declared.Fault.{Fault}
 use Rattle.lists.specs.Faults.{faultAt, faultRules}
+use Rattle.ground.specs.Put.{laidOn}
 use Rattle.ground.specs.Lists.{gather}
 use Rattle.cnf.specs.Cnf.{Clauses, wordsOf}
 use Rattle.line_clauses.specs.Clauses.{clausesOf, variablesOf}
 use Rattle.line_clauses.specs.Owed.{CircuitReady}
 use Rattle.clauses.specs.declared.Written.{Written}
 use Rattle.clauses.specs.declared.Written.the-variants.{Success, Refused}
-use Rattle.clauses.specs.Promise.{roomRules, laidOn}
+use Rattle.clauses.specs.Promise.{roomRules}
 
 -- an accepted circuit of n lines with so many outputs
 pub record WholeReady (c : List ℕ) (n outputs : ℕ) : Type 0 where

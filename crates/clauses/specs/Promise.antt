@@ -5,7 +5,8 @@ use mathlib.Core.List.{List, [], _∷_, _++_}
 use Prim.Native.Nat.{ℕ, _≤_}
 use lib.Dec.{leb}
 use lib.IntN.{ℤ}
-use lib.ListN.{length, drop}
+use lib.ListN.{length}
+use Rattle.ground.specs.Put.{laidOn}
 use Rattle.answers.specs.Rules.{Rule, refusal, unless}
 use Rattle.answers.specs.Rules.Rule.{whole}
 use Rattle.answers.specs.Area.{Numbers, success, refusedAt, told}
@@ -44,10 +45,6 @@ writtenOf c fs room =
 unfoldable pub writtenNumbers : Written → Numbers
 writtenNumbers (Success w l v) = success w l v
 writtenNumbers (Refused number place) = refusedAt number place
-
--- the words v, and then what stood there
-abbrev pub laidOn : List ℤ → List ℤ → List ℤ
-laidOn w v = v ++ drop (length v) w
 
 -- the promise, whatever the bytes and the words: the answer's case, its number and values, and every word; a refusal writes nothing
 pub record Writes (c fs : List ℕ) (w w′ : List ℤ) (r : Written) : Type 0 where

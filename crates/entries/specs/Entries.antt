@@ -19,8 +19,8 @@ use Rattle.compact.specs.Promise.{compactRules}
 use Rattle.search.specs.Promise.{searchRules, verdictFor, testFor, workFor, verdictNumbers}
 use Rattle.line_clauses.specs.Clauses.{variablesOf}
 use Rattle.bench.specs.Promise.{benchRules, recordsIn}
-use Rattle.nets.specs.Rules as reading
-use Rattle.clauses.specs.Promise.{clauseRules, clausesFor, wordsFor, laidOn}
+use Rattle.ground.specs.Put.{laidOn}
+use Rattle.clauses.specs.Promise.{clauseRules, clausesFor, wordsFor}
 
 -- the circuit check: lines, inputs, outputs
 abbrev pub checkNumbers : List ℕ → Numbers
@@ -55,4 +55,4 @@ pub record ClausesEntered (c f : List ℕ) (w : List ℤ) (a : List ℕ) (r : �
 -- the reader of the bench notation: records; the buffer c, lent with the answer area a, becomes c′
 pub record BenchEntered (t c a : List ℕ) (r : ℕ) (c′ a′ : List ℕ) : Type 0 where
   pub answer : Entered a (told (refusal (benchRules t (length c))) (success (linesOf (recordsIn t)) 0 0)) r a′
-  pub circuit : c′ ≡ entered a c (unless (refusal (benchRules t (length c))) c (reading.laidOn c (recordsIn t)))
+  pub circuit : c′ ≡ entered a c (unless (refusal (benchRules t (length c))) c (laidOn c (recordsIn t)))

@@ -14,7 +14,8 @@ use Rattle.circuit.specs.Record.{linesOf}
 use Rattle.netlist.proofs.Fields.{net-long, net-lines}
 use Rattle.nets.specs.declared.Read.{Read}
 use Rattle.nets.specs.declared.Read.the-variants.{Records, Refused}
-use Rattle.nets.specs.Rules.{bufferBytes, laidOn}
+use Rattle.ground.specs.Put.{laidOn}
+use Rattle.nets.specs.Rules.{bufferBytes}
 use Rattle.bench.specs.Text.{netIn}
 use Rattle.bench.specs.Promise.{benchRules, recordsIn, readOf, Reads}
 use Rattle.bench.proofs.Says.{rulingOf, ruled}

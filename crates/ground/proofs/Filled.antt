@@ -4,7 +4,9 @@ use mathlib.Core.Path.{_≡_, refl, ap}
 use mathlib.Core.List.{List, _∷_}
 use Prim.Native.Nat.{ℕ, zero, suc, _≤_}
 use native.Mathlib.Nat.{not-suc-le-zero, le-of-suc-le-suc}
-use lib.ListN.{getD, take, replicate}
+use native.Mathlib.Omega.{arith}
+use lib.ListN.{length, getD, take, replicate, length-replicate}
+use lib.Seq.{length-take-le}
 
 pub take-replicate : (m n x : ℕ) → n ≤ m → take n (replicate m x) ≡ replicate n x
 take-replicate m zero x l = refl
@@ -16,3 +18,10 @@ pub filled-at : (n x k : ℕ) → getD (replicate n x) k x ≡ x
 filled-at zero x k = refl
 filled-at (suc n) x zero = refl
 filled-at (suc n) x (suc k) = filled-at n x k
+
+-- how long it is, and how long a front part is: by law, so that no check counts a list of thousands
+pub zeros : (size : ℕ) → length {A = ℕ} (replicate size 0) ≡ size
+zeros size = length-replicate size 0
+
+pub front : (size n : ℕ) → n ≤ size → length {A = ℕ} (take n (replicate size 0)) ≡ n
+front size n l = length-take-le n (replicate size 0) (omega (arith, zeros size))

@@ -3,7 +3,7 @@
 use mathlib.Core.Path.{_≡_, refl, sym}
 use mathlib.Core.Logic.{_⊎_, inl, inr}
 use mathlib.Core.Bool.{Bool, true, false, _&&_, _||_, true≢false}
-use Prim.Native.Nat.{ℕ, _+_, _≤_, _<_}
+use Prim.Native.Nat.{ℕ, zero, suc, _+_, _≤_, _<_}
 use native.Mathlib.Omega.{arith}
 use lib.Bits.{bitAnd, bitOr}
 use lib.Dec.{T, eqb, ltb, leb}
@@ -89,3 +89,9 @@ one-same true true e = refl
 one-same true false e = absurd (omega arith)
 one-same false true e = absurd (omega arith)
 one-same false false e = refl
+
+-- a number that is 0 or 1 is its own bit
+pub bit-one : (x : ℕ) → x ≤ 1 → x ≡ one (eqb x 1)
+bit-one zero l = refl
+bit-one (suc zero) l = refl
+bit-one (suc (suc x)) l = absurd (omega arith)

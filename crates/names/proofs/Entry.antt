@@ -2,21 +2,17 @@
 -- Assumes nothing.
 use mathlib.Core.Path.{_≡_, sym, ap, _∙_}
 use mathlib.Core.List.{List}
-use Prim.Native.Nat.{ℕ, _+_, _≤_, _<_}
+use Prim.Native.Nat.{ℕ, _+_, _<_}
 use native.Mathlib.Nat.{not-suc-le-zero}
 use native.Mathlib.Decide.{ℕ-discrete}
 use native.Mathlib.Numerals.{add-one}
 use native.Mathlib.Omega.{arith}
-use lib.ListN.{length, getD, take, set, replicate, length-set, length-replicate, getD-replicate}
-use lib.Seq.{length-take-le, getD-set-same, getD-set-other}
+use lib.ListN.{length, getD, set, length-set, length-replicate, getD-replicate}
+use lib.Seq.{getD-set-same, getD-set-other}
 use borrow.Author.Tests.{eq-eqb, ne-eqb}
 use Rattle.names.specs.Names.{lastWith}
 use Rattle.names.specs.Owed.{hashed, Table, EnterReady}
 use Rattle.names.proofs.Mixed.{hash-of}
-
--- room for d definitions, cut from the library's own
-pub room-for : (d : ℕ) → d ≤ 8192 → length {A = ℕ} (take d (replicate 8192 0)) ≡ d
-room-for d l = length-take-le {A = ℕ} d (replicate 8192 0) (omega (arith, length-replicate {A = ℕ} 8192 0))
 
 pub empty : {t defs head next : List ℕ} → EnterReady t defs head next → Table t defs head next 0
 unfolding lastWith

@@ -1,4 +1,3 @@
-pub mod Room
 pub mod Answer
 pub mod Order
 pub mod Names

@@ -4,6 +4,7 @@ use mathlib.Core.Path.{_≡_}
 use mathlib.Core.List.{List, _++_, map}
 use Prim.Native.Nat.{ℕ, _+_, _≤_}
 use lib.ListN.{length}
+use Rattle.ground.specs.Put.{laidOn}
 use Rattle.answers.specs.Answer.{answered}
 use Rattle.answers.specs.Rules.{Rule, refusal, unless}
 use Rattle.circuit.specs.Record.{linesOf}
@@ -13,7 +14,7 @@ use Rattle.records.specs.Net.{Net, gatesOf, placedOf, recordsOf}
 use Rattle.records.specs.Owed.{netOf, Below, NumbersBelow}
 use Rattle.nets.specs.declared.Read.{Read}
 use Rattle.nets.specs.declared.Read.the-variants.{Records, Refused}
-use Rattle.nets.specs.Rules.{recordRules, netRules, laidOn}
+use Rattle.nets.specs.Rules.{recordRules, netRules}
 
 -- the answer and the buffer afterwards, where these are the rules and the records
 pub record ReadDone (rules : List Rule) (records c c′ : List ℕ) (r : Read) : Type 0 where

@@ -1,8 +1,7 @@
--- The refusals of a net and of its records, and what the lent buffer holds where there is none.
+-- The refusals of a net and of its records.
 -- Assumes nothing.
 use mathlib.Core.List.{List, [], _∷_, _++_}
 use Prim.Native.Nat.{ℕ}
-use lib.ListN.{length, drop}
 use Rattle.answers.specs.Rules.{Rule}
 use Rattle.answers.specs.Lent.{exact}
 use Rattle.circuit.specs.Promise.{circuitRules}
@@ -23,7 +22,3 @@ recordRules records room = circuitRules records ++ bufferRules room
 -- 16 on a net, then those on its records
 abbrev pub netRules : Net → ℕ → List Rule
 netRules net room = cycleRules (net .firsts) (net .seconds) ++ recordRules (recordsOf net) room
-
--- the records, and then what stood there
-abbrev pub laidOn : List ℕ → List ℕ → List ℕ
-laidOn c records = records ++ drop (length records) c

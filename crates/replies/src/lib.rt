@@ -1,9 +1,9 @@
 // Answers as C gets them: each part's answer as a number and three values, and these as the 32 bytes of the answer area.
 use answers::Ruling;
 use answers::put_numbers;
-use nets::Read;
 use circuit::Checked;
 use clauses::Written;
+use nets::Read;
 use nodes::Verdict;
 use search::Searched;
 ghost use mathlib.Core.Path.{_≡_};

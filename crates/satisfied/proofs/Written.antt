@@ -11,6 +11,7 @@ use Rattle.answers.specs.Rules.{refusal}
 use Rattle.answers.proofs.Rules.{both-fine}
 use Rattle.answers.proofs.Answer.{was-ruled}
 use Rattle.circuit.specs.Record.{linesOf}
+use Rattle.ground.specs.Put.{laidOn}
 use Rattle.circuit.specs.Promise.{circuitRules}
 use Rattle.circuit.proofs.Accepted as Accepted
 use Rattle.lists.specs.declared.Fault.{Fault}
@@ -18,7 +19,7 @@ use Rattle.lists.specs.Faults.{faultAt}
 use Rattle.simulate.specs.Boolean.{Vector, Detects}
 use Rattle.clauses.specs.declared.Written.the-variants.{Success}
 use Rattle.line_clauses.specs.Clauses.{variablesOf}
-use Rattle.clauses.specs.Promise.{clausesFor, wordsFor, clauseRules, writtenOf, laidOn, Writes}
+use Rattle.clauses.specs.Promise.{clausesFor, wordsFor, clauseRules, writtenOf, Writes}
 use Rattle.clauses.proofs.Answer.{ruled}
 use Rattle.satisfied.specs.Satisfied.{FaithfulWords}
 use Rattle.satisfied.proofs.Faithful.{faithful}

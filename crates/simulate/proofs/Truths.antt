@@ -3,14 +3,14 @@
 use mathlib.Core.Path.{_≡_, refl, sym, ap, _∙_}
 use mathlib.Core.Bool.{Bool, true, false, _&&_}
 use mathlib.Core.List.{List}
-use Prim.Native.Nat.{ℕ, zero, suc, _≤_, _<_}
+use Prim.Native.Nat.{ℕ, _≤_, _<_}
 use native.Mathlib.Omega.{arith}
 use mathlib.Core.Logic.{⊎-elim}
 use lib.Dec.{eqb}
 use lib.ListN.{length, getD, List·getD-eq-default}
 use borrow.Author.Tests.{eqb-true, eqb-false}
 use Rattle.ground.specs.Choose.{choose, one}
-use Rattle.ground.proofs.Tests.{either}
+use Rattle.ground.proofs.Tests.{either, bit-one}
 use Rattle.ground.proofs.Grow.{table-length, table-at, grow-related}
 use Rattle.gates.proofs.Laws.{gate-same, gate-bool}
 use Rattle.circuit.specs.Record.{kindAt, pinAt, isInput, inputsBefore}
@@ -44,18 +44,12 @@ Alike f t = (k s : ℕ) (b : Bool) → f k s (one b) ≡ one (t k s b)
 pub good-alike : Alike unforced good
 good-alike k s b = refl
 
--- a stuck value of 0 or 1 is a truth
-stuck-truth : (v : ℕ) → v ≤ 1 → v ≡ one (eqb v 1)
-stuck-truth zero h = refl
-stuck-truth (suc zero) h = refl
-stuck-truth (suc (suc v)) h = absurd (omega arith)
-
 pub faulty-alike : (fault : Fault) → fault .value ≤ 1 → Alike (stuckAt fault) (faulty fault)
 unfolding stuckAt faulty
 faulty-alike fault h k s b = go (eqb k (fault .line) && eqb s (fault .site))
   where
     go : (t : Bool) → choose t (fault .value) (one b) ≡ one (choose t (eqb (fault .value) 1) b)
-    go true = stuck-truth (fault .value) h
+    go true = bit-one (fault .value) h
     go false = refl
 
 -- lists of values and of truths that say the same

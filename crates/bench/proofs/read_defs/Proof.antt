@@ -1,6 +1,6 @@
 -- `bench::read_defs` meets its contract: room for the names that are defined and their numbers is lent.
 -- Assumes nothing.
-use Rattle.nets.proofs.Room.{zeros}
+use Rattle.ground.proofs.Filled.{zeros}
 use mathlib.Core.Path.{sym}
 use borrow.Author.Needs.{needs}
 use Rattle.bench.proofs.read_defs.Statement.{statement}

@@ -1,6 +1,6 @@
 -- `bench::read_lines` meets its contract: room for a form of each line is lent.
 -- Assumes nothing.
-use Rattle.nets.proofs.Room.{front}
+use Rattle.ground.proofs.Filled.{front}
 use mathlib.Core.Path.{sym}
 use borrow.Author.Needs.{needs}
 use Rattle.bench.proofs.read_lines.Statement.{statement}

@@ -1,6 +1,6 @@
 -- `bench::read_uses` meets its contract: room for the kinds and the names that are used is lent.
 -- Assumes nothing.
-use Rattle.nets.proofs.Room.{zeros}
+use Rattle.ground.proofs.Filled.{zeros}
 use mathlib.Core.Path.{sym}
 use borrow.Author.Needs.{needs}
 use Rattle.bench.proofs.read_uses.Statement.{statement}

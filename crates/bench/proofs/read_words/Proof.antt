@@ -1,6 +1,6 @@
 -- `bench::read_words` meets its contract: room for the words and the ends of lines is lent.
 -- Assumes nothing.
-use Rattle.nets.proofs.Room.{zeros}
+use Rattle.ground.proofs.Filled.{zeros}
 use mathlib.Core.Path.{sym}
 use borrow.Author.Needs.{needs}
 use Rattle.bench.proofs.read_words.Statement.{statement}

@@ -1,6 +1,6 @@
 -- `nets::read_names` meets its contract: room for a number of each name is lent.
 -- Assumes nothing.
-use Rattle.nets.proofs.Room.{front}
+use Rattle.ground.proofs.Filled.{front}
 use mathlib.Core.Path.{sym, _∙_}
 use borrow.Author.Needs.{needs}
 use Rattle.nets.proofs.read_names.Statement.{statement}

@@ -1,6 +1,6 @@
 -- `nets::read_net` meets its contract: room for the order of the gates is lent.
 -- Assumes nothing.
-use Rattle.nets.proofs.Room.{front}
+use Rattle.ground.proofs.Filled.{front}
 use mathlib.Core.Path.{sym}
 use native.Mathlib.Omega.{arith}
 use borrow.Author.Needs.{needs}

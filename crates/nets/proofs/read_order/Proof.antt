@@ -1,7 +1,7 @@
 -- `nets::read_order` meets its contract: refusal 1 where there are too many lines, else room for just the records is lent.
 -- Assumes nothing.
 use Rattle.nets.proofs.Order.{too-many, fits}
-use Rattle.nets.proofs.Room.{front}
+use Rattle.ground.proofs.Filled.{front}
 use mathlib.Core.Path.{sym}
 use native.Mathlib.Omega.{arith}
 use borrow.Author.Needs.{needs}
