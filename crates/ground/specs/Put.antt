@@ -12,5 +12,5 @@ pub record Put {A : Type 0} (w w′ : List A) (at : ℕ) (v : List A) (next : �
   pub next-is : next ≡ at + length v
 
 -- v at the front, and then what stood there
-abbrev pub laidOn {A : Type 0} : List A → List A → List A
+abbrev pub laidOn : {A : Type 0} → List A → List A → List A
 laidOn w v = v ++ drop (length v) w
