@@ -20,8 +20,8 @@ filled-at (suc n) x zero = refl
 filled-at (suc n) x (suc k) = filled-at n x k
 
 -- how long it is, and how long a front part is: by law, so that no check counts a list of thousands
-pub zeros : (size : ℕ) → length {A = ℕ} (replicate size 0) ≡ size
-zeros size = length-replicate size 0
+pub filled-length : (size x : ℕ) → length {A = ℕ} (replicate size x) ≡ size
+filled-length size x = length-replicate size x
 
-pub front : (size n : ℕ) → n ≤ size → length {A = ℕ} (take n (replicate size 0)) ≡ n
-front size n l = length-take-le n (replicate size 0) (omega (arith, zeros size))
+pub front-length : (size x n : ℕ) → n ≤ size → length {A = ℕ} (take n (replicate size x)) ≡ n
+front-length size x n l = length-take-le n (replicate size x) (omega (arith, filled-length size x))

@@ -1,7 +1,9 @@
 -- `compact::mark_few` meets its contract: the counts start at 0.
 -- Assumes nothing.
+use mathlib.Core.Path.{sym}
 use native.Mathlib.Omega.{arith}
 use borrow.Author.Needs.{needs}
+use Rattle.ground.proofs.Filled.{filled-length}
 use Rattle.compact.proofs.Loops.{started}
 use Rattle.compact.proofs.mark_few.Statement.{statement}
 use Rattle.compact.proofs.mark_few.Tie as tie
@@ -19,8 +21,8 @@ pub mark-few-spec : {M : Type 1} → statement M
 mark-few-spec =
     tie.close
     (tie.spec
-    (λ c. search needs)
-    (λ c. search needs)
+    (λ c. sym (filled-length 4096 0))
+    (λ c. sym (filled-length 256 0))
     mark-all-requires
     (λ c. search needs)
     returns)

@@ -1,7 +1,9 @@
 -- `compact::mark_many` meets its contract: the counts start at 0.
 -- Assumes nothing.
+use mathlib.Core.Path.{sym}
 use native.Mathlib.Omega.{arith}
 use borrow.Author.Needs.{needs}
+use Rattle.ground.proofs.Filled.{filled-length}
 use Rattle.compact.proofs.Loops.{started}
 use Rattle.compact.proofs.mark_many.Statement.{statement}
 use Rattle.compact.proofs.mark_many.Tie as tie
@@ -19,8 +21,8 @@ pub mark-many-spec : {M : Type 1} → statement M
 mark-many-spec =
     tie.close
     (tie.spec
-    (λ c. search needs)
-    (λ c. search needs)
+    (λ c. sym (filled-length 65792 0))
+    (λ c. sym (filled-length 256 0))
     mark-all-requires
     (λ c. search needs)
     returns)

@@ -4,14 +4,14 @@ use mathlib.Core.Path.{refl, sym}
 use native.Mathlib.Omega.{arith}
 use lib.ListN.{length}
 use borrow.Author.Needs.{needs}
-use Rattle.ground.proofs.Filled.{front}
+use Rattle.ground.proofs.Filled.{front-length}
 use Rattle.names.proofs.resolve.Statement.{statement}
 use Rattle.names.proofs.resolve.Tie as tie
 
 slice-aggregate-resolve-by-2 : tie.Need-slice-aggregate-resolve-by-2
 slice-aggregate-resolve-by-2 c =
     let first = c .before .before .before .before .before .before .before .before .before .before .before .before .before .before in
-    sym (front 8192 (length (first .args .defs .now)) (first .pre .few))
+    sym (front-length 8192 0 (length (first .args .defs .now)) (first .pre .few))
 
 resolve-by-requires : tie.Need-resolve-by-requires
 resolve-by-requires c κs =
@@ -20,7 +20,7 @@ resolve-by-requires c κs =
       record {
         few = omega (arith, first .pre .few);
         none = refl;
-        room = front 8192 (length (first .args .defs .now)) (first .pre .few);
+        room = front-length 8192 0 (length (first .args .defs .now)) (first .pre .few);
       },
     )
 

@@ -1,6 +1,6 @@
 -- `nets::read_names` meets its contract: room for a number of each name is lent.
 -- Assumes nothing.
-use Rattle.ground.proofs.Filled.{front}
+use Rattle.ground.proofs.Filled.{front-length}
 use mathlib.Core.Path.{sym, _∙_}
 use borrow.Author.Needs.{needs}
 use Rattle.nets.proofs.read_names.Statement.{statement}
@@ -14,25 +14,25 @@ array-borrow-prefix-a : tie.Need-array-borrow-prefix-a
 array-borrow-prefix-a c = entry c .pre .few-gates
 
 slice-aggregate-read-names-in : tie.Need-slice-aggregate-read-names-in
-slice-aggregate-read-names-in c = sym (front 8192 _ (entry (c .before) .pre .few-gates))
+slice-aggregate-read-names-in c = sym (front-length 8192 0 _ (entry (c .before) .pre .few-gates))
 
 array-borrow-prefix-b : tie.Need-array-borrow-prefix-b
 array-borrow-prefix-b c = entry (c .before) .pre .few-gates
 
 slice-aggregate-read-names-in-2 : tie.Need-slice-aggregate-read-names-in-2
-slice-aggregate-read-names-in-2 c = sym (front 8192 _ (entry (c .before .before) .pre .few-gates))
+slice-aggregate-read-names-in-2 c = sym (front-length 8192 0 _ (entry (c .before .before) .pre .few-gates))
 
 array-borrow-prefix-o : tie.Need-array-borrow-prefix-o
 array-borrow-prefix-o c = entry (c .before .before) .pre .few-outs
 
 slice-aggregate-read-names-in-3 : tie.Need-slice-aggregate-read-names-in-3
-slice-aggregate-read-names-in-3 c = sym (front 8192 _ (entry (c .before .before .before) .pre .few-outs))
+slice-aggregate-read-names-in-3 c = sym (front-length 8192 0 _ (entry (c .before .before .before) .pre .few-outs))
 
 read-names-in-requires : tie.Need-read-names-in-requires
 read-names-in-requires c κs =
     let p = entry (c .before .before .before .before) .pre in
-    let gates = front 8192 _ (p .few-gates) in
-    (p, (gates, gates ∙ sym (p .seconds), front 8192 _ (p .few-outs)))
+    let gates = front-length 8192 0 _ (p .few-gates) in
+    (p, (gates, gates ∙ sym (p .seconds), front-length 8192 0 _ (p .few-outs)))
 
 pub read-names-spec : {M : Type 1} → statement M
 read-names-spec =

@@ -2,25 +2,24 @@
 -- Assumes nothing.
 use mathlib.Core.Path.{sym}
 use native.Mathlib.Omega.{arith}
-use lib.ListN.{length, replicate}
-use lib.Seq.{length-take-le}
+use lib.ListN.{length}
 use borrow.Author.Needs.{needs}
-use Rattle.ground.proofs.Filled.{take-replicate}
+use Rattle.ground.proofs.Filled.{take-replicate, front-length}
 use Rattle.order.proofs.arrange.Statement.{statement}
 use Rattle.order.proofs.arrange.Tie as tie
 
 slice-aggregate-arrange-in : tie.Need-slice-aggregate-arrange-in
-slice-aggregate-arrange-in c = sym (length-take-le _ _ (omega arith))
+slice-aggregate-arrange-in c = sym (front-length 8192 65535 _ (omega arith))
 
 slice-aggregate-arrange-in-2 : tie.Need-slice-aggregate-arrange-in-2
-slice-aggregate-arrange-in-2 c = sym (length-take-le _ _ (omega arith))
+slice-aggregate-arrange-in-2 c = sym (front-length 8192 0 _ (omega arith))
 
 arrange-in-requires : tie.Need-arrange-in-requires
 arrange-in-requires c κs =
     let s = c .before .before .before .before .before .before in
     record {
       gates = s .pre;
-      readers = length-take-le (length (s .args .a .now)) (replicate 8192 65535) (omega arith);
+      readers = front-length 8192 65535 (length (s .args .a .now)) (omega arith);
       unmarked = take-replicate 8192 (length (s .args .a .now)) 0 (omega arith);
     }
 

@@ -3,26 +3,25 @@
 use mathlib.Core.Path.{sym}
 use Prim.Native.Nat.{_+_}
 use native.Mathlib.Omega.{arith}
-use lib.ListN.{length, replicate}
-use lib.Seq.{length-take-le}
+use lib.ListN.{length}
 use borrow.Author.Needs.{needs}
-use Rattle.ground.proofs.Filled.{take-replicate, filled-at}
+use Rattle.ground.proofs.Filled.{take-replicate, filled-at, front-length}
 use Rattle.records.proofs.put_records.Statement.{statement}
 use Rattle.records.proofs.put_records.Tie as tie
 
 slice-aggregate-put-records-in : tie.Need-slice-aggregate-put-records-in
-slice-aggregate-put-records-in c = sym (length-take-le _ _ (omega arith))
+slice-aggregate-put-records-in c = sym (front-length 2048 0 _ (omega arith))
 
 slice-aggregate-put-records-in-2 : tie.Need-slice-aggregate-put-records-in-2
-slice-aggregate-put-records-in-2 c = sym (length-take-le _ _ (omega arith))
+slice-aggregate-put-records-in-2 c = sym (front-length 2048 0 _ (omega arith))
 
 put-records-in-requires : tie.Need-put-records-in-requires
 put-records-in-requires c κs =
     let s = c .before .before .before .before .before .before .before .before .before in
     record {
       fits = s .pre;
-      lines = length-take-le (length (s .args .firsts .now)) (replicate 2048 0) (omega arith);
-      flags = length-take-le (s .args .inputs + length (s .args .firsts .now)) (replicate 2048 0) (omega arith);
+      lines = front-length 2048 0 (length (s .args .firsts .now)) (omega arith);
+      flags = front-length 2048 0 (s .args .inputs + length (s .args .firsts .now)) (omega arith);
       unset = λ x.
           rw (take-replicate 2048 (s .args .inputs + length (s .args .firsts .now)) 0 (omega arith))
           (filled-at (s .args .inputs + length (s .args .firsts .now)) 0 x);
