@@ -9,7 +9,9 @@ ghost use Prim.Native.Nat.{_+_, _*_, _≤_, _<_};
 ghost use lib.ListN.{length};
 ghost use Rattle.ground.specs.Put.{Put};
 ghost use Rattle.records.specs.Net.{recordsOf};
-ghost use Rattle.records.specs.Owed.{netOf, PutRecordsReady, PutRecordsInReady, NumberLinesReady, NumberLinesDone, MarkOutputsReady, MarkOutputsDone, lineBy, sourceBy, recordOf, gateRecord, linedOf, recordBy, recordsBy, PutGateReady, PutLinesReady, PutLineReady};
+ghost use Rattle.records.specs.Owed.{netOf, lineBy, sourceBy, recordOf, gateRecord, linedOf, recordBy, recordsBy};
+ghost use Rattle.records.specs.Owed.{PutRecordsReady, PutRecordsInReady, NumberLinesReady, NumberLinesDone};
+ghost use Rattle.records.specs.Owed.{MarkOutputsReady, MarkOutputsDone, PutGateReady, PutLinesReady, PutLineReady};
 
 // ---- the line of each gate, and a flag for each number
 

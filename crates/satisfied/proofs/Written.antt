@@ -47,5 +47,10 @@ module _ {c fs : List ℕ} {w w′ : List ℤ} {a b v : ℕ} (p : Writes c fs w 
       rw (s .words, s .clauses, s .variables) (faithful c (faultAt fs 0) (Accepted.good c (both-fine (circuitRules c) _ (s .fine) .0)))
 
 -- words that serve two faults say that the same vectors detect both: so a list that never varies is faithful to no two faults that differ
-pub same-words : {c : List ℕ} {f g : Fault} {words : List ℤ} {l m u v : ℕ} → FaithfulWords c f words l u → FaithfulWords c g words m v → (x : Vector) → Detects c f (linesOf c) x → Detects c g (linesOf c) x
+pub same-words : {c : List ℕ} {f g : Fault} {words : List ℤ} {l m u v : ℕ}
+    → FaithfulWords c f words l u
+    → FaithfulWords c g words m v
+    → (x : Vector)
+    → Detects c f (linesOf c) x
+    → Detects c g (linesOf c) x
 same-words p q x d = let e = p .extended x d in q .detected x (e .0) (e .1)

@@ -16,4 +16,12 @@ returns c =
     (k0 .put-eight .ensures) (k1 .put-eight2 .ensures) (k2 .put-eight3 .ensures) (k3 .put-eight4 .ensures)
 
 pub put-numbers-spec : {M : Type 1} → statement M
-put-numbers-spec = tie.close (tie.spec (λ c κs. search needs) (λ c κs. search needs) (λ c κs. search needs) (λ c κs. search needs) (λ c. search needs) returns)
+put-numbers-spec =
+    tie.close
+    (tie.spec
+    (λ c κs. search needs)
+    (λ c κs. search needs)
+    (λ c κs. search needs)
+    (λ c κs. search needs)
+    (λ c. search needs)
+    returns)

@@ -14,4 +14,10 @@ read-defs-requires c κs = (
 
 pub read-lines-in-spec : {M : Type 1} → statement M
 read-lines-in-spec =
-    tie.close (tie.spec (λ c κs. search needs) read-defs-requires (λ c. search needs) (λ c. search needs) (λ c. search needs))
+    tie.close
+    (tie.spec
+    (λ c κs. search needs)
+    read-defs-requires
+    (λ c. search needs)
+    (λ c. search needs)
+    (λ c. search needs))

@@ -11,4 +11,11 @@ returns-2 : tie.Need-returns-2
 returns-2 c = rw (← c .before .before .check-counts .ensures, c .enum-told .given .1)
 
 pub counted-spec : {M : Type 1} → statement M
-counted-spec = tie.close (tie.spec (λ c κs. search needs) (λ c. search needs) (λ c. search needs) returns returns-2)
+counted-spec =
+    tie.close
+    (tie.spec
+    (λ c κs. search needs)
+    (λ c. search needs)
+    (λ c. search needs)
+    returns
+    returns-2)

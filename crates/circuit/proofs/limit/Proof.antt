@@ -15,4 +15,11 @@ unfolding limitOf
 returns-2 c = simp (lt-leb _ _ (rw (c .before .pins .ensures) at (c .if1 .left)))
 
 pub limit-spec : {M : Type 1} → statement M
-limit-spec = tie.close (tie.spec (λ c. search needs) (λ c. search needs) (λ c κs. search needs) returns returns-2)
+limit-spec =
+    tie.close
+    (tie.spec
+    (λ c. search needs)
+    (λ c. search needs)
+    (λ c κs. search needs)
+    returns
+    returns-2)

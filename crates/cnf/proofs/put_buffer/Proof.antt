@@ -13,4 +13,10 @@ returns c =
     (put-then (c .before .before .before .before .put-pair .ensures) (c .before .put-pair2 .ensures))
 
 pub put-buffer-spec : {M : Type 1} → statement M
-put-buffer-spec = tie.close (tie.spec (λ c κs. search needs) (λ c κs. search needs) (λ c. search needs) returns)
+put-buffer-spec =
+    tie.close
+    (tie.spec
+    (λ c κs. search needs)
+    (λ c κs. search needs)
+    (λ c. search needs)
+    returns)

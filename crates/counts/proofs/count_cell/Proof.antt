@@ -14,4 +14,11 @@ returns-2 c = rw (c .if1 .left) (omega arith)
 pub count-cell-spec : {M : Type 1} → statement M
 count-cell-spec =
     tie.close
-    (tie.spec (λ c. search needs) (λ c. search needs) (λ c. search needs) (λ c. search needs) (λ c. search needs) returns returns-2)
+    (tie.spec
+    (λ c. search needs)
+    (λ c. search needs)
+    (λ c. search needs)
+    (λ c. search needs)
+    (λ c. search needs)
+    returns
+    returns-2)

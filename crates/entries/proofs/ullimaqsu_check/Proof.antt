@@ -14,4 +14,10 @@ returns c =
 
 pub ullimaqsu-check-spec : {M : Type 1} → statement M
 ullimaqsu-check-spec =
-    tie.close (tie.spec (λ c κs. search needs) (λ c κs. search needs) (λ c κs. search needs) (λ c. search needs) returns)
+    tie.close
+    (tie.spec
+    (λ c κs. search needs)
+    (λ c κs. search needs)
+    (λ c κs. search needs)
+    (λ c. search needs)
+    returns)

@@ -23,4 +23,11 @@ returns-3 c = (simp (sym (c .before .before .before .is-at .ensures) ∙ c .befo
 
 pub faulty-kind-spec : {M : Type 1} → statement M
 faulty-kind-spec =
-    tie.close (tie.spec (λ c κs. search needs) returns (λ c. search needs) (λ c. search needs) returns-2 returns-3)
+    tie.close
+    (tie.spec
+    (λ c κs. search needs)
+    returns
+    (λ c. search needs)
+    (λ c. search needs)
+    returns-2
+    returns-3)

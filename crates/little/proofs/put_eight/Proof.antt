@@ -27,4 +27,17 @@ returns : tie.Need-returns Inv-loop μ-loop
 returns c = sym (all-laid _ _ _ _ (search needs)) ∙ c .before .loop .inv .2
 
 pub put-eight-spec : {M : Type 1} → statement M
-put-eight-spec = tie.close (tie.spec Inv-loop μ-loop loop-holds (λ c. search needs) (λ c. search needs) (λ c. search needs) (λ c. search needs) (λ c. search needs) loop-again (λ c. search needs) returns)
+put-eight-spec =
+    tie.close
+    (tie.spec
+    Inv-loop
+    μ-loop
+    loop-holds
+    (λ c. search needs)
+    (λ c. search needs)
+    (λ c. search needs)
+    (λ c. search needs)
+    (λ c. search needs)
+    loop-again
+    (λ c. search needs)
+    returns)

@@ -11,4 +11,10 @@ returns c = put-as (two-bytes (c .before .before .before .before .before .fits .
 
 pub put-two-spec : {M : Type 1} → statement M
 put-two-spec =
-    tie.close (tie.spec (λ c. search needs) (λ c. search needs) (λ c κs. search needs) (λ c. search needs) returns)
+    tie.close
+    (tie.spec
+    (λ c. search needs)
+    (λ c. search needs)
+    (λ c κs. search needs)
+    (λ c. search needs)
+    returns)

@@ -9,4 +9,10 @@ returns c = rw (c .before .before .before .before .before .before .before .put-r
 
 pub read-order-in-spec : {M : Type 1} → statement M
 read-order-in-spec =
-    tie.close (tie.spec (λ c κs. search needs) (λ c κs. search needs) (λ c. search needs) (λ c. search needs) returns)
+    tie.close
+    (tie.spec
+    (λ c κs. search needs)
+    (λ c κs. search needs)
+    (λ c. search needs)
+    (λ c. search needs)
+    returns)

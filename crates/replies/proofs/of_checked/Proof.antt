@@ -17,4 +17,10 @@ returns-2 c = c .refused .ensures ∙ simp (c .before .before .v2 .given .1)
 pub of-checked-spec : {M : Type 1} → statement M
 of-checked-spec =
     tie.close
-    (tie.spec (λ c. search needs) (λ c κs. search needs) (λ c. search needs) (λ c κs. search needs) returns returns-2)
+    (tie.spec
+    (λ c. search needs)
+    (λ c κs. search needs)
+    (λ c. search needs)
+    (λ c κs. search needs)
+    returns
+    returns-2)

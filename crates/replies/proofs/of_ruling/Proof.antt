@@ -13,4 +13,11 @@ returns-2 c = c .refused .ensures ∙ simp (c .before .before .v .given .1)
 
 pub of-ruling-spec : {M : Type 1} → statement M
 of-ruling-spec =
-    tie.close (tie.spec (λ c. search needs) (λ c κs. search needs) (λ c. search needs) (λ c κs. search needs) returns returns-2)
+    tie.close
+    (tie.spec
+    (λ c. search needs)
+    (λ c κs. search needs)
+    (λ c. search needs)
+    (λ c κs. search needs)
+    returns
+    returns-2)

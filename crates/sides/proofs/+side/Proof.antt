@@ -23,16 +23,10 @@ module _ (t : ℕ) where
   side-visit-requires : side-lts.Need-visit-requires (calls t) (here t) side.Post
   side-visit-requires c κs = let e = c .before .before .before .before .before .before in (ready t e, node-at t e)
 
-  side-same-length-2 : side-lts.Need-same-length-2 (calls t) (here t) side.Post
-  side-same-length-2 c = c .before .before .before .visit .kept .1 .1 .1 .0
-
   side-returns-2 : side-lts.Need-returns-2 (calls t) (here t) side.Post
   side-returns-2 c =
       let told = c .before .before .before .visit .ensures in
       failed (omega arith) (told .work) (sym (told .says) ∙ c .if2 .taken)
-
-  side-same-length-4 : side-lts.Need-same-length-4 (calls t) (here t) side.Post
-  side-same-length-4 c = c .before .before .before .before .visit .kept .1 .1 .1 .0
 
   side-returns-3 : side-lts.Need-returns-3 (calls t) (here t) side.Post
   side-returns-3 c =
@@ -108,53 +102,26 @@ module _ (t : ℕ) where
       let d = matched2 t (c .before .before .before) in
       length-set (node2 t d) (place t (x2 t d)) 2 ∙ node2-length t d
 
-  side-same-length-6 : side-lts.Need-same-length-6 (calls t) (here t) side.Post
-  side-same-length-6 c = work2-length t (matched2 t (c .before .before .before))
-
   side-returns-4 : side-lts.Need-returns-4 (calls t) (here t) side.Post
   side-returns-4 c =
       let d = matched2 t (c .before .before .before) in
       let g = ended t d (c .before .b .given .1) in
       second-none (opened2 t d) (none t (none-of t d)) (restored 1 (opened2 t d .first) (g .node)) g
 
-  side-same-length-7 : side-lts.Need-same-length-7 (calls t) (here t) side.Post
-  side-same-length-7 c = node2-length t (matched2 t (c .before .before .before))
-
-  side-same-length-8 : side-lts.Need-same-length-8 (calls t) (here t) side.Post
-  side-same-length-8 c = work2-length t (matched2 t (c .before .before .before))
-
   side-returns-5 : side-lts.Need-returns-5 (calls t) (here t) side.Post
   side-returns-5 c =
       let d = matched2 t (c .before .before .before) in
       second-test (opened2 t d) (none t (none-of t d)) (ended t d (c .before .b2 .given .1))
-
-  side-same-length-9 : side-lts.Need-same-length-9 (calls t) (here t) side.Post
-  side-same-length-9 c = node2-length t (matched2 t (c .before .before))
-
-  side-same-length-10 : side-lts.Need-same-length-10 (calls t) (here t) side.Post
-  side-same-length-10 c = work2-length t (matched2 t (c .before .before))
 
   side-returns-6 : side-lts.Need-returns-6 (calls t) (here t) side.Post
   side-returns-6 c =
       let d = matched2 t (c .before .before) in
       second-spent (opened2 t d) (none t (none-of t d)) (ended t d (c .enum-told .given .1))
 
-  side-same-length-11 : side-lts.Need-same-length-11 (calls t) (here t) side.Post
-  side-same-length-11 c = node1-length t (matched t (c .before .before .before))
-
-  side-same-length-12 : side-lts.Need-same-length-12 (calls t) (here t) side.Post
-  side-same-length-12 c = work1-length t (matched t (c .before .before .before))
-
   side-returns-7 : side-lts.Need-returns-7 (calls t) (here t) side.Post
   side-returns-7 c =
       let f = matched t (c .before .before .before) in
       first-test (opened t (x-of t f)) (began t f (c .before .a2 .given .1))
-
-  side-same-length-13 : side-lts.Need-same-length-13 (calls t) (here t) side.Post
-  side-same-length-13 c = node1-length t (matched t (c .before .before))
-
-  side-same-length-14 : side-lts.Need-same-length-14 (calls t) (here t) side.Post
-  side-same-length-14 c = work1-length t (matched t (c .before .before))
 
   side-returns-8 : side-lts.Need-returns-8 (calls t) (here t) side.Post
   side-returns-8 c =
@@ -166,10 +133,10 @@ pub +side-spec : {M : Type 1} → statement M
     (side-returns t)
     (side-visit-requires t)
     (λ c. refl)
-    (side-same-length-2 t)
+    (λ c. c .before .before .before .visit .kept .1 .1 .1 .0)
     (side-returns-2 t)
     (λ c. refl)
-    (side-same-length-4 t)
+    (λ c. c .before .before .before .before .visit .kept .1 .1 .1 .0)
     (side-returns-3 t)
     (λ c κs. tt)
     (side-slice-write-node t)
@@ -192,17 +159,17 @@ pub +side-spec : {M : Type 1} → statement M
     (side-add-t42 t)
     (λ c. search needs)
     (side-same-length-5 t)
-    (side-same-length-6 t)
+    (λ c. work2-length t (matched2 t (c .before .before .before)))
     (side-returns-4 t)
-    (side-same-length-7 t)
-    (side-same-length-8 t)
+    (λ c. node2-length t (matched2 t (c .before .before .before)))
+    (λ c. work2-length t (matched2 t (c .before .before .before)))
     (side-returns-5 t)
-    (side-same-length-9 t)
-    (side-same-length-10 t)
+    (λ c. node2-length t (matched2 t (c .before .before)))
+    (λ c. work2-length t (matched2 t (c .before .before)))
     (side-returns-6 t)
-    (side-same-length-11 t)
-    (side-same-length-12 t)
+    (λ c. node1-length t (matched t (c .before .before .before)))
+    (λ c. work1-length t (matched t (c .before .before .before)))
     (side-returns-7 t)
-    (side-same-length-13 t)
-    (side-same-length-14 t)
+    (λ c. node1-length t (matched t (c .before .before)))
+    (λ c. work1-length t (matched t (c .before .before)))
     (side-returns-8 t)

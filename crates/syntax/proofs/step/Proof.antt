@@ -21,4 +21,10 @@ returns c = let f = step-from (c .before .before .before .pre .0) (c .before .be
 pub step-spec : {M : Type 1} → statement M
 step-spec =
     tie.close
-    (tie.spec add-wide16 add-wide16-2 (λ c. search needs) shared-slice-read-wide16 (λ c κs. search needs) returns)
+    (tie.spec
+    add-wide16
+    add-wide16-2
+    (λ c. search needs)
+    shared-slice-read-wide16
+    (λ c κs. search needs)
+    returns)

@@ -16,4 +16,11 @@ returns-2 c = simp (ne-eqb _ _ (c .if1 .left)) (refl, omega arith)
 pub end-line-spec : {M : Type 1} → statement M
 end-line-spec =
     tie.close
-    (tie.spec (λ c κs. search needs) (λ c. search needs) (λ c. search needs) (λ c. search needs) (λ c. search needs) returns returns-2)
+    (tie.spec
+    (λ c κs. search needs)
+    (λ c. search needs)
+    (λ c. search needs)
+    (λ c. search needs)
+    (λ c. search needs)
+    returns
+    returns-2)
