@@ -18,17 +18,17 @@ use Rattle.ground.proofs.First.{first-none}
 use Rattle.ground.proofs.Counting.{count-below}
 use Rattle.answers.specs.declared.Ruling.{Ruling}
 use Rattle.answers.specs.declared.Ruling.the-variants.{Fine, Refused}
-use Rattle.answers.specs.Rules.{orElse, said, refusal, AllSay}
+use Rattle.answers.specs.Rules.{orElse, said, refusal, AllSay, AllHold}
 use Rattle.answers.specs.Rules.Rule.{each}
 use Rattle.answers.specs.Records.{recordsOk}
-use Rattle.answers.proofs.Rules.{after-refused}
+use Rattle.answers.proofs.Rules.{after-refused, fine, all-hold}
 use Rattle.answers.proofs.Numbers.{refused-number}
 use Rattle.answers.proofs.Same.{le-same, and-same}
 use Rattle.answers.proofs.Records.{too-many-records}
 use Rattle.circuit.specs.Record.{kindAt, linesOf, isInput, inputsOf, outputsOf}
 use Rattle.circuit.specs.Layout.{lineOk, Layout}
 use Rattle.circuit.specs.Promise.{layoutRules, countRules, circuitRules}
-use Rattle.circuit.specs.Sizes.{sizeRules}
+use Rattle.circuit.specs.Sizes.{sizeRules, SizesHold}
 use Rattle.circuit.proofs.Lines.{layout-same}
 use Rattle.circuit.proofs.Accepted.{gate-pin}
 
@@ -42,9 +42,21 @@ pub too-many : (c : List ℕ) → 2048 < linesOf c → refusal (circuitRules c) 
 unfolding layoutRules refusal said
 too-many c l = after-refused (layoutRules c) (countRules (inputsOf c) (outputsOf c)) (rw (too-many-records 8 2048 (length c) l))
 
-pub sizes-say : (lines inputs outputs : ℕ) → AllSay (sizeRules lines inputs outputs)
+sizes-say : (lines inputs outputs : ℕ) → AllSay (sizeRules lines inputs outputs)
 unfolding AllSay sizeRules
 sizes-say lines inputs outputs = (and-same (le-same 1 lines) (le-same lines 2048), (le-same inputs 64, (le-same 1 outputs, tt)))
+
+-- nothing is refused exactly where the sizes hold
+pub sizes-fine : {lines inputs outputs : ℕ} → SizesHold lines inputs outputs → refusal (sizeRules lines inputs outputs) ≡ Fine
+unfolding AllHold sizeRules
+sizes-fine {lines} {inputs} {outputs} s =
+    fine (sizeRules lines inputs outputs) (sizes-say lines inputs outputs) ((s .some-lines, s .most-lines), (s .most-inputs, (s .some-outputs, tt)))
+
+pub fine-sizes : (lines inputs outputs : ℕ) → refusal (sizeRules lines inputs outputs) ≡ Fine → SizesHold lines inputs outputs
+unfolding AllHold sizeRules
+fine-sizes lines inputs outputs e =
+    let a = all-hold (sizeRules lines inputs outputs) (sizes-say lines inputs outputs) e in
+    record { some-lines = a .0 .0; most-lines = a .0 .1; most-inputs = a .1 .0; some-outputs = a .1 .1 .0 }
 
 -- two rules that say nothing where the test of the one before them holds
 passed : (t : Bool) (m : ℕ) {v w : Ruling} (x : Ruling) → (t ≡ true → (v ≡ Fine) × (w ≡ Fine))

@@ -14,3 +14,10 @@ sizeRules lines inputs outputs =
     ∷ whole 4 (leb inputs 64) (inputs ≤ 64) 0
     ∷ whole 5 (leb 1 outputs) (1 ≤ outputs) 0
     ∷ []
+
+-- all of them hold
+pub record SizesHold (lines inputs outputs : ℕ) : Type 0 where
+  pub some-lines : 1 ≤ lines
+  pub most-lines : lines ≤ 2048
+  pub most-inputs : inputs ≤ 64
+  pub some-outputs : 1 ≤ outputs

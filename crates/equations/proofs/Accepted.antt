@@ -13,7 +13,7 @@ use Rattle.syntax.proofs.Says.{right-text, text-fine}
 use Rattle.names.specs.Names.{nameRules}
 use Rattle.order.specs.Order.{cycleRules}
 use Rattle.order.proofs.Cycle.{cycle-refused, refused-cycle}
-use Rattle.netlist.proofs.Sizes.{net-fine}
+use Rattle.netlist.proofs.Sizes.{net-fine, net-sizes}
 use Rattle.nets.specs.Rules.{bufferBytes, bufferRules}
 use Rattle.bench.specs.Text.{defsIn, usesIn, netIn}
 use Rattle.bench.specs.Promise.{benchRules}
@@ -24,7 +24,7 @@ use Rattle.equations.proofs.Names.{names-right, right-names}
 use Rattle.equations.proofs.RightNet.{size-is, right-net}
 use Rattle.equations.proofs.Cycles.{net-cycle, text-cycle}
 use Rattle.equations.proofs.Parts.{parts, all-parts}
-use Rattle.equations.proofs.Computes.{parts-right, sized}
+use Rattle.equations.proofs.Computes.{parts-right}
 
 -- ---- cycles
 
@@ -65,24 +65,26 @@ accepted t a =
       cycles = cycles;
       circuit =
           net-fine (netIn t) r
-          (omega (arith, number-inside (d .line), size-is t))
-          (omega (arith, a .few-lines, size-is t))
-          (omega (arith, a .few-inputs, inputs-are t))
-          (omega (arith, counted o, outputs-are t));
+          (record {
+            some-lines = omega (arith, number-inside (d .line), size-is t);
+            most-lines = omega (arith, a .few-lines, size-is t);
+            most-inputs = omega (arith, a .few-inputs, inputs-are t);
+            some-outputs = omega (arith, counted o, outputs-are t);
+          });
       buffer = buffer-fine;
     })
 
 pub acceptable : (t : List ℕ) (room : ℕ) → refusal (benchRules t room) ≡ Fine → Acceptable t × (room ≡ bufferBytes)
 acceptable t room e =
     let p = parts t room e in
-    let s = sized t (parts-right p) (p .circuit) in
-    let n = output-line t (s .outputs) in (
+    let s = net-sizes (netIn t) (parts-right p) (p .circuit) in
+    let n = output-line t (s .some-outputs) in (
       record {
         syntax = right-text t (p .syntax);
         names = names-right t (p .names);
         no-cycle = fine-no-cycle t (p .names) (p .cycles);
-        few-lines = omega (arith, s .few, size-is t);
-        few-inputs = omega (arith, s .inputs, inputs-are t);
+        few-lines = omega (arith, s .most-lines, size-is t);
+        few-inputs = omega (arith, s .most-inputs, inputs-are t);
         some-output = (n .place, n .line);
       },
       fine-buffer room (p .buffer),

@@ -6,12 +6,11 @@ use Prim.Native.Nat.{ℕ, _≤_, _<_}
 use native.Mathlib.Omega.{arith}
 use lib.ListN.{length, getD}
 use Rattle.answers.specs.declared.Ruling.the-variants.{Fine}
-use Rattle.answers.specs.Rules.{refusal, AllHold}
-use Rattle.answers.proofs.Rules.{all-hold}
+use Rattle.answers.specs.Rules.{refusal}
 use Rattle.gates.specs.Gate.{gateOf}
 use Rattle.gates.specs.Boolean.{boolGate}
 use Rattle.circuit.specs.declared.Checked.the-variants.{Accepted}
-use Rattle.circuit.specs.Promise.{circuitRules, checkOf}
+use Rattle.circuit.specs.Promise.{checkOf}
 use Rattle.simulate.specs.Work.{goodOf}
 use Rattle.simulate.specs.Boolean.{Vector, good, truthAt}
 use Rattle.syntax.proofs.Says.{right-text}
@@ -19,9 +18,8 @@ use Rattle.statements.specs.Tables.{inputsIn}
 use Rattle.names.specs.Names.{nameRules}
 use Rattle.records.specs.Net.{netSize, netLine}
 use Rattle.netlist.specs.Solved.{Solved, Right}
-use Rattle.netlist.proofs.Sizes.{net-says, net-refusal, net-accepted}
-use Rattle.netlist.specs.Sizes.{netSizes}
-use Rattle.circuit.specs.Sizes.{sizeRules}
+use Rattle.netlist.proofs.Sizes.{net-sizes, net-accepted}
+use Rattle.circuit.specs.Sizes.{SizesHold}
 use Rattle.netlist.proofs.Values.{solution3, unique3, solution2, unique2}
 use Rattle.bench.specs.Text.{formsIn, defsIn, usesIn, netIn}
 use Rattle.bench.specs.Promise.{benchRules, recordsIn}
@@ -49,19 +47,6 @@ module _ (t : List ℕ) (none : refusal (nameRules t (defsIn t) (usesIn t)) ≡ 
         ap other (sym (name-of t none w d)) ∙ u (λ x. other (nameOf t x)) (net-solved t none o) (numberFor t w) (number-below t none w d);
   }
 
--- sizes within the limits
-pub record Sized (t : List ℕ) : Type 0 where
-  pub some : 1 ≤ netSize (netIn t)
-  pub few : netSize (netIn t) ≤ 2048
-  pub inputs : netIn t .inputs ≤ 64
-  pub outputs : 1 ≤ length (netIn t .outputs)
-
-pub sized : (t : List ℕ) → Right (netIn t) → refusal (circuitRules (recordsIn t)) ≡ Fine → Sized t
-unfolding sizeRules AllHold
-sized t r e =
-    let a = all-hold (netSizes (netIn t)) (net-says (netIn t) r) (sym (net-refusal (netIn t) r) ∙ e) in
-    record { some = a .0 .0; few = a .0 .1; inputs = a .1 .0; outputs = a .1 .1 .0 }
-
 pub parts-right : {t : List ℕ} {room : ℕ} → Parts t room → Right (netIn t)
 parts-right {t} p = right-net t (p .names) (right-text t (p .syntax) .is-formed) (p .cycles)
 
@@ -69,15 +54,15 @@ module _ (t : List ℕ) (room : ℕ) (p : Parts t room) where
   r : Right (netIn t)
   r = parts-right p
 
-  s : Sized t
-  s = sized t r (p .circuit)
+  s : SizesHold (netSize (netIn t)) (netIn t .inputs) (length (netIn t .outputs))
+  s = net-sizes (netIn t) r (p .circuit)
 
   few : netSize (netIn t) ≤ 65536
-  few = omega (arith, s .few)
+  few = omega (arith, s .most-lines)
 
   accepted : checkOf (recordsIn t) ≡ Accepted (sizeIn t) (inputsIn (formsIn t)) (outputsIn t)
   accepted =
-      net-accepted (netIn t) r (s .some) (s .few) (s .inputs) (s .outputs) ∙ cc (size-is t, inputs-are t, outputs-count t (p .names) r)
+      net-accepted (netIn t) r s ∙ cc (size-is t, inputs-are t, outputs-count t (p .names) r)
 
   -- with three values
   values : (q : List ℕ) → OneSolution gateOf t (λ j. getD q j 0) (λ w. getD (goodOf (recordsIn t) q (netSize (netIn t))) (lineFor t w) 0)

@@ -1,21 +1,19 @@
 -- Of a net's records the check refuses what the sizes of the net say, and nothing else.
 -- Assumes nothing.
-use mathlib.Core.Path.{_≡_, _∙_}
-use Prim.Native.Nat.{_≤_}
+use mathlib.Core.Path.{_≡_, sym, _∙_}
 use native.Mathlib.Omega.{arith}
 use lib.Dec.{leb}
 use lib.ListN.{length}
 use borrow.Author.Tests.{leb-true, le-leb}
 use Rattle.ground.proofs.Tests.{some, same-test}
-use Rattle.answers.specs.Rules.{refusal, AllSay, AllHold}
+use Rattle.answers.specs.Rules.{refusal}
 use Rattle.answers.specs.Answer.{answered}
 use Rattle.answers.specs.declared.Ruling.{Ruling}
-use Rattle.answers.proofs.Rules.{fine}
 use Rattle.circuit.specs.declared.Checked.the-variants.{Accepted, Refused}
 use Rattle.circuit.specs.Record.{outputsOf}
 use Rattle.circuit.specs.Promise.{circuitRules, checkOf}
-use Rattle.circuit.specs.Sizes.{sizeRules}
-use Rattle.circuit.proofs.Sizes.{sizes-say, sizes-decide, same-sizes}
+use Rattle.circuit.specs.Sizes.{SizesHold}
+use Rattle.circuit.proofs.Sizes.{sizes-fine, fine-sizes, sizes-decide, same-sizes}
 use Rattle.records.specs.Net.{Net, netSize, recordsOf}
 use Rattle.netlist.specs.Solved.{Right}
 use Rattle.netlist.specs.Sizes.{netSizes}
@@ -35,21 +33,17 @@ module _ (net : Net) (r : Right net) where
       sizes-decide (recordsOf net) (netSize net) (net-long net) (λ few k l. net-layout net r (omega arith) k l)
       ∙ rw (net-inputs net r) (same-sizes (netSize net) (net .inputs) (outputsOf (recordsOf net)) (length (net .outputs)) outputs-ok)
 
-  pub net-says : AllSay (netSizes net)
-  net-says = sizes-say (netSize net) (net .inputs) (length (net .outputs))
-
   -- the answer of the check
   pub net-check : checkOf (recordsOf net) ≡ answered Refused (refusal (netSizes net)) (Accepted (netSize net) (net .inputs) (outputsOf (recordsOf net)))
   unfolding checkOf
   net-check = rw (net-refusal, net-inputs net r, net-lines net)
 
-  module _ (some : 1 ≤ netSize net) (few : netSize net ≤ 2048) (inputs : net .inputs ≤ 64) (outputs : 1 ≤ length (net .outputs)) where
-    sizes-fine : refusal (netSizes net) ≡ Ruling.Fine
-    unfolding sizeRules AllHold
-    sizes-fine = fine (netSizes net) net-says ((some, few), (inputs, (outputs, tt)))
-
+  module _ (hold : SizesHold (netSize net) (net .inputs) (length (net .outputs))) where
     pub net-fine : refusal (circuitRules (recordsOf net)) ≡ Ruling.Fine
-    net-fine = net-refusal ∙ sizes-fine
+    net-fine = net-refusal ∙ sizes-fine hold
 
     pub net-accepted : checkOf (recordsOf net) ≡ Accepted (netSize net) (net .inputs) (outputsOf (recordsOf net))
-    net-accepted = rw sizes-fine at net-check
+    net-accepted = rw (sizes-fine hold) at net-check
+
+  pub net-sizes : refusal (circuitRules (recordsOf net)) ≡ Ruling.Fine → SizesHold (netSize net) (net .inputs) (length (net .outputs))
+  net-sizes e = fine-sizes _ _ _ (sym net-refusal ∙ e)
