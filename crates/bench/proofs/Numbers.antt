@@ -10,7 +10,8 @@ use Rattle.ground.specs.Choose.{choose}
 use Rattle.ground.proofs.Counting.{count-below}
 use Rattle.ground.proofs.Collect.{collect-below}
 use Rattle.words.specs.Words.{wordsIn, endsIn}
-use Rattle.statements.specs.Tables.{saysInput, saysGate, inputsTo, gatesTo, inputsIn, gatesIn, numberAt, defNumbersOf}
+use Rattle.forms.specs.Forms.{saysInput, saysGate, inputsTo, gatesTo, inputsIn, gatesIn}
+use Rattle.statements.specs.Tables.{numberAt, defNumbersOf}
 use Rattle.statements.proofs.Lengths.{defs-split, defs-length, same-lengths, outs-length, firsts-length, seconds-length, kinds-length}
 use Rattle.statements.proofs.Sizes.{few-defs, few-outs, few-gates, defs-within, outs-within, firsts-within, seconds-within}
 use Rattle.nets.specs.Owed.{ReadNamesReady}

@@ -7,9 +7,11 @@ use native.Mathlib.Omega.{arith}
 use lib.ListN.{length, take, length-take}
 use Rattle.words.specs.Words.{wordsIn, endsIn}
 use Rattle.words.specs.Owed.{CutDone}
-use Rattle.statements.specs.Tables.{gatesIn, kindsOf}
-use Rattle.statements.specs.Owed.{FormsDone, DefsReady, DefsDone, OutsRoom, OutsDone, SourcesReady, SourcesDone, KindsRoom}
-use Rattle.statements.proofs.Forms.{forms-length, forms-small}
+use Rattle.forms.specs.Forms.{gatesIn}
+use Rattle.forms.specs.Owed.{FormsDone}
+use Rattle.forms.proofs.Forms.{forms-length, forms-small}
+use Rattle.statements.specs.Tables.{kindsOf}
+use Rattle.statements.specs.Owed.{DefsReady, DefsDone, OutsRoom, OutsDone, SourcesReady, SourcesDone, KindsRoom}
 use Rattle.statements.proofs.Lengths.{defs-length}
 use Rattle.statements.proofs.Sizes.{few-defs, few-outs, few-gates}
 use Rattle.nets.specs.declared.Read.{Read}

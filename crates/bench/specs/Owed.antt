@@ -5,7 +5,8 @@ use mathlib.Core.List.{List, _++_}
 use Prim.Native.Nat.{ℕ, _≤_}
 use lib.ListN.{length}
 use Rattle.words.specs.Words.{wordsIn, endsIn}
-use Rattle.statements.specs.Tables.{inputsIn, defNumbersOf, kindsOf}
+use Rattle.forms.specs.Forms.{inputsIn}
+use Rattle.statements.specs.Tables.{defNumbersOf, kindsOf}
 use Rattle.names.specs.Names.{nameRules}
 use Rattle.nets.specs.declared.Read.{Read}
 use Rattle.nets.specs.Rules.{netRules}

@@ -3,7 +3,8 @@
 use mathlib.Core.List.{List, _++_, map}
 use Prim.Native.Nat.{ℕ}
 use Rattle.words.specs.Words.{wordsIn, endsIn}
-use Rattle.statements.specs.Lines.{formsOf}
+use Rattle.forms.specs.Lines.{formsOf}
+use Rattle.forms.specs.Forms.{inputsIn}
 use Rattle.statements.specs.Tables as tables
 use Rattle.names.specs.Names.{nameNumber}
 use Rattle.records.specs.Net.{Net}
@@ -35,7 +36,7 @@ numberIn t i = nameNumber t (defsIn t) (tables.defNumbersOf (formsIn t)) i
 -- the text with numbers for names
 unfoldable pub netIn : List ℕ → Net
 netIn t = record {
-  inputs = tables.inputsIn (formsIn t);
+  inputs = inputsIn (formsIn t);
   kinds = tables.kindsOf t (wordsIn t) (endsIn t) (formsIn t);
   firsts = map (numberIn t) (firstsIn t);
   seconds = map (numberIn t) (secondsIn t);

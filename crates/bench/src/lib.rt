@@ -1,9 +1,9 @@
 // The reader of the bench notation: circuit records of a text. Each step makes tables of it and lends them to the next.
 use answers::Ruling;
+use forms::put_forms;
 use nets::Read;
 use nets::read_names;
 use statements::put_defs;
-use statements::put_forms;
 use statements::put_kinds;
 use statements::put_outs;
 use statements::put_sources;
@@ -13,7 +13,7 @@ ghost use mathlib.Core.Path.{_≡_};
 ghost use Prim.Native.Nat.{_-_, _≤_};
 ghost use lib.ListN.{length};
 ghost use Rattle.words.specs.Owed.{CutRoom};
-ghost use Rattle.statements.specs.Tables.{gatesIn};
+ghost use Rattle.forms.specs.Forms.{gatesIn};
 ghost use Rattle.bench.specs.Promise.{Reads};
 ghost use Rattle.bench.specs.Owed.{TextDone, ReadUsesReady, ReadDefsReady, ReadLinesReady};
 

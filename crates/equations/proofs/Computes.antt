@@ -14,7 +14,7 @@ use Rattle.circuit.specs.Promise.{checkOf}
 use Rattle.simulate.specs.Work.{goodOf}
 use Rattle.simulate.specs.Boolean.{Vector, good, truthAt}
 use Rattle.syntax.proofs.Says.{right-text}
-use Rattle.statements.specs.Tables.{inputsIn}
+use Rattle.forms.specs.Forms.{inputsIn}
 use Rattle.names.specs.Names.{nameRules}
 use Rattle.records.specs.Net.{netSize, netLine}
 use Rattle.netlist.specs.Solved.{Solved, Right}

@@ -10,7 +10,7 @@ use lib.ListN.{getD}
 use Rattle.ground.specs.Choose.{choose}
 use Rattle.answers.specs.declared.Ruling.the-variants.{Fine}
 use Rattle.answers.specs.Rules.{refusal}
-use Rattle.statements.specs.Tables.{saysGate, gatesTo}
+use Rattle.forms.specs.Forms.{saysGate, gatesTo}
 use Rattle.names.specs.Names.{nameRules}
 use Rattle.order.specs.Order as order
 use Rattle.records.specs.Net.{gatesOf, pinOf}

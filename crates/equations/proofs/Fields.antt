@@ -9,7 +9,7 @@ use Rattle.answers.specs.declared.Ruling.the-variants.{Fine}
 use Rattle.answers.specs.Rules.{refusal}
 use Rattle.gates.specs.Gate.{pinsOf}
 use Rattle.gates.proofs.Laws.{few-pins}
-use Rattle.statements.specs.Tables.{saysInput, saysGate, gatesTo}
+use Rattle.forms.specs.Forms.{saysInput, saysGate, gatesTo}
 use Rattle.names.specs.Names.{nameRules}
 use Rattle.records.specs.Net as net
 use Rattle.records.specs.Net.{netSize, netLine, numberOn, recordsOf}

@@ -5,7 +5,7 @@ use mathlib.Core.List.{List}
 use Prim.Native.Nat.{ℕ, _+_, _<_}
 use Rattle.answers.specs.declared.Ruling.the-variants.{Fine}
 use Rattle.answers.specs.Rules.{refusal}
-use Rattle.statements.specs.Tables.{inputsTo}
+use Rattle.forms.specs.Forms.{inputsTo}
 use Rattle.names.specs.Names.{nameRules}
 use Rattle.records.specs.Net.{gatesOf, netSize, netLine, numberOn}
 use Rattle.netlist.specs.Solved.{Right}

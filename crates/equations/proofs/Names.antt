@@ -12,7 +12,8 @@ use Rattle.answers.specs.declared.Ruling.the-variants.{Fine}
 use Rattle.answers.specs.Rules.{refusal, AllHold}
 use Rattle.answers.proofs.Rules.{all-hold, fine}
 use Rattle.words.specs.Words.{wordAt}
-use Rattle.statements.specs.Tables.{defines, numberAt}
+use Rattle.forms.specs.Forms.{defines}
+use Rattle.statements.specs.Tables.{numberAt}
 use Rattle.statements.proofs.Sizes.{defs-within}
 use Rattle.names.specs.Names.{NameOk, nameRules, definition}
 use Rattle.names.proofs.Says.{names-say}

@@ -17,7 +17,7 @@ use Rattle.answers.specs.Rules.{refusal}
 use Rattle.circuit.specs.Record as record-of
 use Rattle.words.specs.Words.{same}
 use Rattle.words.proofs.Same.{same-eq, same-refl}
-use Rattle.statements.specs.Tables.{saysOutput, defines}
+use Rattle.forms.specs.Forms.{saysOutput, defines}
 use Rattle.names.specs.Names.{nameRules}
 use Rattle.records.specs.Net.{netLine, numberOn, recordsOf}
 use Rattle.netlist.specs.Solved.{Right}

@@ -20,7 +20,7 @@ use Rattle.answers.specs.declared.Ruling.the-variants.{Fine}
 use Rattle.answers.specs.Rules.{refusal}
 use Rattle.gates.specs.Gate.{pinsOf}
 use Rattle.syntax.specs.Syntax.{Formed}
-use Rattle.statements.specs.Tables.{saysGate, inputsTo, gatesTo}
+use Rattle.forms.specs.Forms.{saysGate, inputsTo, gatesTo}
 use Rattle.shape.proofs.Forms.{gate-sources}
 use Rattle.names.specs.Names.{nameRules}
 use Rattle.order.specs.Order as order

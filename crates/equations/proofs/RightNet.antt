@@ -9,7 +9,7 @@ use Rattle.answers.specs.Rules.{refusal}
 use Rattle.gates.specs.Gate.{lastKind}
 use Rattle.words.specs.Words.{wordsIn, endsIn}
 use Rattle.syntax.specs.Syntax.{Formed}
-use Rattle.statements.specs.Tables.{inputsIn, gatesIn}
+use Rattle.forms.specs.Forms.{inputsIn, gatesIn}
 use Rattle.statements.proofs.Lengths.{seconds-length, kinds-length}
 use Rattle.shape.proofs.Forms.{gate-sources}
 use Rattle.names.specs.Names.{nameRules}

@@ -6,7 +6,7 @@ use mathlib.Core.List.{List}
 use Prim.Native.Nat.{ℕ, _+_}
 use Rattle.answers.specs.declared.Ruling.the-variants.{Fine}
 use Rattle.answers.specs.Rules.{refusal}
-use Rattle.statements.specs.Tables.{saysInput, saysGate, gatesTo, inputsTo}
+use Rattle.forms.specs.Forms.{saysInput, saysGate, gatesTo, inputsTo}
 use Rattle.names.specs.Names.{nameRules}
 use Rattle.records.specs.Net.{gatesOf, pinOf}
 use Rattle.netlist.specs.Solved.{Solved}

@@ -19,8 +19,9 @@ use Rattle.ground.proofs.Lists.{collect-length}
 use Rattle.ground.proofs.Collect.{collect-get}
 use Rattle.words.specs.Words.{wordAt, wordsIn, endsIn}
 use Rattle.syntax.specs.Kinds.{kindOf}
-use Rattle.statements.specs.Lines.{wordIn}
-use Rattle.statements.specs.Tables.{saysInput, saysOutput, saysGate, defines, inputsTo, gatesTo, inputsIn, gatesIn, definedAt, numberAt, defsOf, defNumbersOf, outsOf, firstsOf, secondsOf, kindsOf}
+use Rattle.forms.specs.Lines.{wordIn}
+use Rattle.forms.specs.Forms.{saysInput, saysOutput, saysGate, defines, inputsTo, gatesTo, inputsIn, gatesIn}
+use Rattle.statements.specs.Tables.{definedAt, numberAt, defsOf, defNumbersOf, outsOf, firstsOf, secondsOf, kindsOf}
 use Rattle.statements.proofs.Lengths.{outs-length, firsts-length}
 use Rattle.records.specs.Net.{gatesOf, pinOf}
 use Rattle.names.specs.Names as names

@@ -12,8 +12,9 @@ use Rattle.ground.specs.Lists.{elem}
 use Rattle.ground.proofs.Lists.{collect-length}
 use Rattle.ground.proofs.Elem.{elem-at, elem-place, elem-append}
 use Rattle.words.specs.Words.{wordAt, wordsIn, endsIn}
-use Rattle.statements.specs.Lines.{wordIn}
-use Rattle.statements.specs.Tables.{saysOutput, saysGate, defines, definedAt, defsOf, outsOf, firstsOf, secondsOf}
+use Rattle.forms.specs.Lines.{wordIn}
+use Rattle.forms.specs.Forms.{saysOutput, saysGate, defines}
+use Rattle.statements.specs.Tables.{definedAt, defsOf, outsOf, firstsOf, secondsOf}
 use Rattle.statements.proofs.Sizes.{Inside, outs-within, firsts-within, seconds-within}
 use Rattle.bench.specs.Text.{formsIn, defsIn, outsIn, firstsIn, secondsIn, usesIn}
 use Rattle.shape.specs.Shape.{wordOn}

@@ -17,7 +17,7 @@ use Rattle.simulate.specs.Work.{goodOf}
 use Rattle.simulate.specs.Boolean.{Vector, good, truthAt}
 use Rattle.words.specs.Words.{same}
 use Rattle.syntax.specs.Syntax.{RightText}
-use Rattle.statements.specs.Tables.{saysInput, saysOutput, saysGate, defines, inputsTo, inputsIn, gatesIn}
+use Rattle.forms.specs.Forms.{saysInput, saysOutput, saysGate, defines, inputsTo, inputsIn, gatesIn}
 use Rattle.bench.specs.Text.{formsIn}
 use Rattle.shape.specs.Shape.{wordOn}
 use Rattle.equations.specs.Meaning.{linesIn, nameOn, kindOn, sourceOn, Solves}

@@ -10,7 +10,8 @@ use lib.ListN.{length, getD}
 use Rattle.ground.specs.Choose.{choose}
 use Rattle.words.specs.Words.{wordAt, wordsIn, endsIn}
 use Rattle.syntax.specs.Kinds.{kindOf}
-use Rattle.statements.specs.Tables.{saysInput, saysGate, inputsTo, definedAt}
+use Rattle.forms.specs.Forms.{saysInput, saysGate, inputsTo}
+use Rattle.statements.specs.Tables.{definedAt}
 use Rattle.shape.specs.Shape.{wordOn}
 use Rattle.bench.specs.Text.{formsIn}
 

@@ -5,7 +5,8 @@ use Prim.Native.Nat.{ℕ, _-_}
 use lib.ListN.{length, getD}
 use Rattle.ground.specs.Lists.{collect}
 use Rattle.words.specs.Words.{wordAt, wordsIn, endsIn}
-use Rattle.statements.specs.Tables.{saysInput, saysGate, definedAt, defNumbersOf}
+use Rattle.forms.specs.Forms.{saysInput, saysGate}
+use Rattle.statements.specs.Tables.{definedAt, defNumbersOf}
 use Rattle.names.specs.Names.{definition}
 use Rattle.records.specs.Net.{netLine}
 use Rattle.bench.specs.Text.{formsIn, defsIn, netIn}

@@ -8,7 +8,7 @@ use Prim.Native.Nat.{ℕ, _+_, _≤_, _<_}
 use lib.ListN.{length, getD}
 use Rattle.ground.specs.Lists.{elem}
 use Rattle.gates.specs.Gate.{pinsOf}
-use Rattle.statements.specs.Tables.{saysInput, saysGate, gatesTo, inputsIn}
+use Rattle.forms.specs.Forms.{saysInput, saysGate, gatesTo, inputsIn}
 use Rattle.bench.specs.Text.{formsIn}
 use Rattle.equations.specs.Meaning.{nameOn, kindOn, sourceOn}
 use Rattle.equations.specs.Right.{Line}

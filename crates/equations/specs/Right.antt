@@ -5,7 +5,7 @@ use mathlib.Core.Path.{_≡_}
 use mathlib.Core.Bool.{Bool, true}
 use mathlib.Core.List.{List}
 use Prim.Native.Nat.{ℕ, _<_}
-use Rattle.statements.specs.Tables.{saysOutput, saysGate, defines}
+use Rattle.forms.specs.Forms.{saysOutput, saysGate, defines}
 use Rattle.bench.specs.Text.{formsIn}
 use Rattle.shape.specs.Shape.{wordOn}
 use Rattle.equations.specs.Meaning.{linesIn, nameOn, sourceOn}

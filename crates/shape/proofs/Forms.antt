@@ -17,9 +17,9 @@ use Rattle.words.proofs.Same.{same-refl}
 use Rattle.syntax.specs.Kinds.{inputWord, outputWord, portWords, kindOf, Among}
 use Rattle.syntax.proofs.KindTable.{Named, kind-named}
 use Rattle.syntax.specs.Syntax.{Formed}
-use Rattle.statements.specs.Lines.{sizeAt, formOf, formsOf}
-use Rattle.statements.proofs.Forms.{forms-length, forms-get}
-use Rattle.statements.specs.Tables.{saysGate}
+use Rattle.forms.specs.Lines.{sizeAt, formOf, formsOf}
+use Rattle.forms.specs.Forms.{saysGate}
+use Rattle.forms.proofs.Forms.{forms-length, forms-get}
 use Rattle.shape.specs.Shape.{wordOn, GateLine}
 use Rattle.shape.proofs.Statements.{line-told}
 

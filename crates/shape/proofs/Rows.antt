@@ -10,7 +10,7 @@ use native.Mathlib.Omega.{arith}
 use lib.ListN.{length, getD, length-append, List·getD-append}
 use lib.Seq.{getD-append-seam, getD-append-add}
 use Rattle.words.specs.Words.{wordAt}
-use Rattle.statements.specs.Lines.{startAt, wordIn}
+use Rattle.forms.specs.Lines.{startAt, wordIn}
 use Rattle.shape.specs.Shape.{Shape}
 
 -- each line's words are a statement's, or there are none

@@ -12,7 +12,7 @@ use Rattle.ground.proofs.Grow.{table-length, table-at}
 use Rattle.words.specs.Words.{wordAt, wordsIn, endsIn}
 use Rattle.syntax.specs.Kinds.{portWords, kindWords, Among}
 use Rattle.syntax.specs.Syntax.{Formed}
-use Rattle.statements.specs.Lines.{wordIn, sizeAt}
+use Rattle.forms.specs.Lines.{wordIn, sizeAt}
 use Rattle.shape.specs.Shape.{Shape, blank, port, gate, wordsOn, wordOn}
 use Rattle.shape.proofs.Rows.{Row, row-at}
 use Rattle.shape.proofs.Texts.{rows-of}

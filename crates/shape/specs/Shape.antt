@@ -9,7 +9,7 @@ use Rattle.ground.specs.Lists.{table}
 use Rattle.gates.specs.Gate.{lastKind, pinsOf}
 use Rattle.words.specs.Words.{wordAt, wordsIn, endsIn}
 use Rattle.syntax.specs.Kinds.{portWords, kindWords, kindOf, Among}
-use Rattle.statements.specs.Lines.{sizeAt, wordIn}
+use Rattle.forms.specs.Lines.{sizeAt, wordIn}
 
 -- the words of a line
 pub data Shape : List (List ℕ) → Type 0 where

@@ -9,8 +9,9 @@ use lib.ListN.{length, set}
 use Rattle.ground.specs.Choose.{choose, one}
 use Rattle.ground.specs.Below.{countBelow}
 use Rattle.ground.proofs.Counting.{count-mono}
-use Rattle.statements.specs.Lines.{wordIn}
-use Rattle.statements.specs.Tables.{saysInput, saysGate, defines, inputsTo, gatesTo, gatesIn, definedAt, numberAt, defsOf, defNumbersOf}
+use Rattle.forms.specs.Lines.{wordIn}
+use Rattle.forms.specs.Forms.{saysInput, saysGate, defines, inputsTo, gatesTo, gatesIn}
+use Rattle.statements.specs.Tables.{definedAt, numberAt, defsOf, defNumbersOf}
 use Rattle.statements.specs.Owed.{DefsReady, DefsDone}
 use Rattle.statements.proofs.Lengths.{defs-split}
 use Rattle.statements.proofs.Filling.{Filling, begun, more, all-are}

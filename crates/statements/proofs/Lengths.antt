@@ -12,7 +12,8 @@ use Rattle.ground.specs.Below.{countBelow}
 use Rattle.ground.proofs.Tests.{never-both}
 use Rattle.ground.proofs.Counting.{count-either}
 use Rattle.ground.proofs.Lists.{collect-length}
-use Rattle.statements.specs.Tables.{saysInput, saysOutput, saysGate, defines, inputsIn, gatesIn, defsOf, defNumbersOf, outsOf, firstsOf, secondsOf, kindsOf}
+use Rattle.forms.specs.Forms.{saysInput, saysOutput, saysGate, defines, inputsIn, gatesIn}
+use Rattle.statements.specs.Tables.{defsOf, defNumbersOf, outsOf, firstsOf, secondsOf, kindsOf}
 
 not-both : (x : ℕ) → (eqb x 1 && leb 3 x) ≡ false
 not-both x = never-both (eqb x 1) (leb 3 x) (λ e. let q = eqb-true x 1 e in lt-leb 3 x (omega arith))

@@ -13,11 +13,12 @@ use Rattle.ground.specs.Below.{countBelow}
 use Rattle.ground.proofs.Collect.{collect-below}
 use Rattle.words.specs.Words.{wordsIn, endsIn}
 use Rattle.words.proofs.Halves.{half}
-use Rattle.statements.specs.Lines.{wordIn, sizeAt, formsOf}
-use Rattle.statements.specs.Tables.{saysOutput, saysGate, defines, definedAt, gatesIn, defsOf, outsOf, firstsOf, secondsOf}
+use Rattle.forms.specs.Lines.{wordIn, sizeAt, formsOf}
+use Rattle.forms.specs.Forms.{saysOutput, saysGate, defines, gatesIn}
+use Rattle.forms.proofs.Forms.{Form, form-of, forms-get, forms-length}
+use Rattle.forms.proofs.Ends.{line-inside, lines-twice}
+use Rattle.statements.specs.Tables.{definedAt, defsOf, outsOf, firstsOf, secondsOf}
 use Rattle.statements.proofs.Lengths.{defs-split}
-use Rattle.statements.proofs.Forms.{Form, form-of, forms-get, forms-length}
-use Rattle.statements.proofs.Ends.{line-inside, lines-twice}
 
 -- ---- what passes has a form
 

@@ -6,13 +6,8 @@ use mathlib.Core.List.{List}
 use Prim.Native.Nat.{ℕ, _≤_, _<_}
 use lib.ListN.{length, getD, take}
 use Rattle.ground.specs.Below.{countBelow}
-use Rattle.statements.specs.Lines.{formsOf}
-use Rattle.statements.specs.Tables.{saysOutput, saysGate, defines, gatesIn, defsOf, defNumbersOf, outsOf, firstsOf, secondsOf}
-
--- the lines' forms, and how many gates there are
-pub record FormsDone (t ws es fs : List ℕ) (gates : ℕ) : Type 0 where
-  pub forms-are : fs ≡ formsOf t ws es
-  pub gates-are : gates ≡ gatesIn fs
+use Rattle.forms.specs.Forms.{saysOutput, saysGate, defines, gatesIn}
+use Rattle.statements.specs.Tables.{defsOf, defNumbersOf, outsOf, firstsOf, secondsOf}
 
 -- no more than 8,192 lines pass the test, and a table has room for these and one more
 pub record FewRoom (fs : List ℕ) (test : ℕ → Bool) (out : List ℕ) : Type 0 where

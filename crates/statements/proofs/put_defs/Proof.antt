@@ -1,7 +1,7 @@
 -- `statements::put_defs` meets its contract: the lines are taken one after the other, and what defines a name stays.
 -- Assumes nothing.
 use Rattle.statements.proofs.Defining.{Defining, start, next, finished}
-use Rattle.statements.specs.Lines.{wordIn}
+use Rattle.forms.specs.Lines.{wordIn}
 use Rattle.ground.specs.Choose.{one}
 use Prim.Native.Nat.{_-_}
 use lib.ListN.{length}

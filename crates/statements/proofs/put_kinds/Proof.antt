@@ -1,9 +1,10 @@
 -- `statements::put_kinds` meets its contract: the lines are taken one after the other, and a gate's kind stays.
 -- Assumes nothing.
 use Rattle.statements.proofs.Filling.{Filling, begun, more, so-many-are}
-use Rattle.statements.specs.Tables.{saysGate, kindsOf}
+use Rattle.statements.specs.Tables.{kindsOf}
+use Rattle.forms.specs.Forms.{saysGate}
+use Rattle.forms.specs.Lines.{wordIn}
 use Rattle.syntax.specs.Kinds.{kindOf}
-use Rattle.statements.specs.Lines.{wordIn}
 use Rattle.words.specs.Words.{wordAt}
 use Rattle.ground.specs.Choose.{choose}
 use Prim.Native.Nat.{ℕ, _-_}

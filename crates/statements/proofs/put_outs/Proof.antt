@@ -1,8 +1,9 @@
 -- `statements::put_outs` meets its contract: the lines are taken one after the other, and an output's name stays.
 -- Assumes nothing.
 use Rattle.statements.proofs.Filling.{Filling, begun, more, all-are}
-use Rattle.statements.specs.Tables.{saysOutput, outsOf}
-use Rattle.statements.specs.Lines.{wordIn}
+use Rattle.statements.specs.Tables.{outsOf}
+use Rattle.forms.specs.Forms.{saysOutput}
+use Rattle.forms.specs.Lines.{wordIn}
 use Prim.Native.Nat.{_-_}
 use lib.ListN.{length}
 use mathlib.Core.Path.{_∙_}

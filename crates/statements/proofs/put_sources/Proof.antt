@@ -1,8 +1,9 @@
 -- `statements::put_sources` meets its contract: the lines are taken one after the other, and a gate's sources stay.
 -- Assumes nothing.
 use Rattle.statements.proofs.Filling.{Filling, begun, more, so-many-are}
-use Rattle.statements.specs.Tables.{saysGate, firstsOf, secondsOf}
-use Rattle.statements.specs.Lines.{wordIn}
+use Rattle.statements.specs.Tables.{firstsOf, secondsOf}
+use Rattle.forms.specs.Forms.{saysGate}
+use Rattle.forms.specs.Lines.{wordIn}
 use Prim.Native.Nat.{_-_}
 use lib.ListN.{length, getD}
 use mathlib.Core.Path.{ap, _∙_}

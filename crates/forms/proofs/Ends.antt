@@ -17,7 +17,7 @@ use Rattle.ground.proofs.Counting.{count-mono, nth}
 use Rattle.ground.proofs.Lists.{collect-length}
 use Rattle.ground.proofs.Collect.{collect-nth, collect-below}
 use Rattle.words.specs.Words.{begins, feeds, wordsTo, wordsIn, endsIn}
-use Rattle.statements.specs.Lines.{startAt, wordIn, sizeAt}
+use Rattle.forms.specs.Lines.{startAt, wordIn, sizeAt}
 
 -- ---- words
 

@@ -1,4 +1,4 @@
--- `statements::kind_of` meets its contract: the keywords are tried from the last to the first.
+-- `forms::kind_of` meets its contract: the keywords are tried from the last to the first.
 -- Assumes nothing.
 use Rattle.syntax.specs.Kinds.{kinds, kindOf}
 use Rattle.words.specs.Owed.{allWord, KeywordReady}
@@ -10,8 +10,8 @@ use Prim.Native.Nat.{ℕ, _<_}
 use lib.ListN.{length}
 use native.Mathlib.Omega.{arith}
 use borrow.Author.Needs.{needs}
-use Rattle.statements.proofs.kind_of.Statement.{statement}
-use Rattle.statements.proofs.kind_of.Tie as tie
+use Rattle.forms.proofs.kind_of.Statement.{statement}
+use Rattle.forms.proofs.kind_of.Tie as tie
 
 keyword : {name : List ℕ} {at : ℕ} → allWord name ≡ true → length name < 20 → at < 65536 → KeywordReady name at
 keyword letters short inside = record { letters = letters; short = short; inside = inside }

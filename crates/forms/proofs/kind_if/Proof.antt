@@ -1,9 +1,9 @@
--- `statements::kind_if` meets its contract.
+-- `forms::kind_if` meets its contract.
 -- Assumes nothing.
 use mathlib.Core.Path.{sym, _∙_}
 use borrow.Author.Needs.{needs}
-use Rattle.statements.proofs.kind_if.Statement.{statement}
-use Rattle.statements.proofs.kind_if.Tie as tie
+use Rattle.forms.proofs.kind_if.Statement.{statement}
+use Rattle.forms.proofs.kind_if.Tie as tie
 
 returns : tie.Need-returns
 returns c = simp (sym (c .before .is-name .ensures) ∙ c .if1 .taken)

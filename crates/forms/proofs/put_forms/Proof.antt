@@ -1,13 +1,13 @@
--- `statements::put_forms` meets its contract: the lines are taken one after the other.
+-- `forms::put_forms` meets its contract: the lines are taken one after the other.
 -- Assumes nothing.
 use Rattle.ground.proofs.Counting.{sum-small}
-use Rattle.statements.proofs.Forms.{Forming, start, next, finished}
+use Rattle.forms.proofs.Forms.{Forming, start, next, finished}
 use Prim.Native.Nat.{_-_}
 use lib.ListN.{length}
 use native.Mathlib.Omega.{arith}
 use borrow.Author.Needs.{needs}
-use Rattle.statements.proofs.put_forms.Statement.{statement}
-use Rattle.statements.proofs.put_forms.Tie as tie
+use Rattle.forms.proofs.put_forms.Statement.{statement}
+use Rattle.forms.proofs.put_forms.Tie as tie
 
 abbrev Inv-loop : tie.InvT-loop
 Inv-loop text words ends forms₀ gates₀ k₀ forms gates k = Forming text words ends forms gates k

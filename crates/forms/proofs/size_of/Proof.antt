@@ -1,10 +1,10 @@
--- `statements::size_of` meets its contract.
+-- `forms::size_of` meets its contract.
 -- Assumes nothing.
-use Rattle.statements.specs.Lines.{sizeAt}
+use Rattle.forms.specs.Lines.{sizeAt}
 use native.Mathlib.Omega.{arith}
 use borrow.Author.Needs.{needs}
-use Rattle.statements.proofs.size_of.Statement.{statement}
-use Rattle.statements.proofs.size_of.Tie as tie
+use Rattle.forms.proofs.size_of.Statement.{statement}
+use Rattle.forms.proofs.size_of.Tie as tie
 
 returns : tie.Need-returns
 unfolding sizeAt

@@ -1,13 +1,13 @@
--- `statements::word_in` meets its contract: past the words stands 0.
+-- `forms::word_in` meets its contract: past the words stands 0.
 -- Assumes nothing.
-use Rattle.statements.specs.Lines.{wordIn}
+use Rattle.forms.specs.Lines.{wordIn}
 use lib.ListN.{getD, List·getD-eq-default}
 use Prim.Native.Nat.{ℕ, _+_}
 use mathlib.Core.Path.{sym, ap, _∙_}
 use native.Mathlib.Omega.{arith}
 use borrow.Author.Needs.{needs}
-use Rattle.statements.proofs.word_in.Statement.{statement}
-use Rattle.statements.proofs.word_in.Tie as tie
+use Rattle.forms.proofs.word_in.Statement.{statement}
+use Rattle.forms.proofs.word_in.Tie as tie
 
 returns : tie.Need-returns
 unfolding wordIn

@@ -18,9 +18,9 @@ use Rattle.ground.proofs.Counting.{Sum, no-sum, sum-more, sum-all, count-same}
 use Rattle.ground.proofs.Grow.{table-length, table-at}
 use Rattle.words.specs.Words.{wordAt, same}
 use Rattle.syntax.specs.Kinds.{inputWord}
-use Rattle.statements.specs.Lines.{wordIn, sizeAt, formOf, formsOf}
-use Rattle.statements.specs.Tables.{saysGate}
-use Rattle.statements.specs.Owed.{FormsDone}
+use Rattle.forms.specs.Lines.{wordIn, sizeAt, formOf, formsOf}
+use Rattle.forms.specs.Forms.{saysGate}
+use Rattle.forms.specs.Owed.{FormsDone}
 
 -- ---- one
 

@@ -1,7 +1,7 @@
--- `statements::form_of` meets its contract: the number of words decides, and of two words the first.
+-- `forms::form_of` meets its contract: the number of words decides, and of two words the first.
 -- Assumes nothing.
 use Rattle.syntax.specs.Kinds.{inputWord}
-use Rattle.statements.specs.Lines.{wordIn, sizeAt, formOf}
+use Rattle.forms.specs.Lines.{wordIn, sizeAt, formOf}
 use Rattle.words.specs.Owed.{allWord}
 use Rattle.words.specs.Words.{wordByte, within, wordAt, same}
 use borrow.Author.Tests.{eq-eqb, ne-eqb}
@@ -12,8 +12,8 @@ use mathlib.Core.List.{List}
 use Rattle.ground.specs.Choose.{choose}
 use native.Mathlib.Omega.{arith}
 use borrow.Author.Needs.{needs}
-use Rattle.statements.proofs.form_of.Statement.{statement}
-use Rattle.statements.proofs.form_of.Tie as tie
+use Rattle.forms.proofs.form_of.Statement.{statement}
+use Rattle.forms.proofs.form_of.Tie as tie
 
 is-name-requires : tie.Need-is-name-requires
 unfolding allWord wordByte within

@@ -5,7 +5,7 @@ use mathlib.Core.List.{List}
 use Prim.Native.Nat.{ℕ, zero, suc, _-_}
 use native.Mathlib.Omega.{arith}
 use lib.ListN.{getD}
-use Rattle.statements.specs.Lines.{startAt}
+use Rattle.forms.specs.Lines.{startAt}
 
 pub first-line : (es : List ℕ) (k : ℕ) → k ≡ 0 → 0 ≡ startAt es k
 unfolding startAt

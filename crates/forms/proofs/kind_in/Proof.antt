@@ -1,4 +1,4 @@
--- `statements::kind_in` meets its contract.
+-- `forms::kind_in` meets its contract.
 -- Assumes nothing.
 use Rattle.syntax.specs.Kinds.{kindOf}
 use Rattle.words.specs.Words.{wordAt}
@@ -6,8 +6,8 @@ use borrow.Author.Tests.{le-leb, lt-leb}
 use Prim.Native.Nat.{ℕ}
 use mathlib.Core.Path.{ap, _∙_}
 use borrow.Author.Needs.{needs}
-use Rattle.statements.proofs.kind_in.Statement.{statement}
-use Rattle.statements.proofs.kind_in.Tie as tie
+use Rattle.forms.proofs.kind_in.Statement.{statement}
+use Rattle.forms.proofs.kind_in.Tie as tie
 
 returns : tie.Need-returns
 returns c =

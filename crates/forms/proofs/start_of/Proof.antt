@@ -1,11 +1,11 @@
--- `statements::start_of` meets its contract.
+-- `forms::start_of` meets its contract.
 -- Assumes nothing.
-use Rattle.statements.proofs.Lines.{first-line, later-line}
+use Rattle.forms.proofs.Lines.{first-line, later-line}
 use mathlib.Core.Path.{_∙_}
 use native.Mathlib.Omega.{arith}
 use borrow.Author.Needs.{needs}
-use Rattle.statements.proofs.start_of.Statement.{statement}
-use Rattle.statements.proofs.start_of.Tie as tie
+use Rattle.forms.proofs.start_of.Statement.{statement}
+use Rattle.forms.proofs.start_of.Tie as tie
 
 returns : tie.Need-returns
 returns c = (first-line _ _ (c .if1 .taken), omega arith)
