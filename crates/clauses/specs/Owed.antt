@@ -1,4 +1,4 @@
--- What the functions inside part 5 owe each other; no reader of the promise needs it.
+-- What the functions of the clause writer owe each other; no reader of the promises needs it.
 -- Assumes nothing.
 use mathlib.Core.Path.{_≡_}
 use mathlib.Core.List.{List, _++_}

@@ -1,4 +1,4 @@
--- What the functions of the compactor owe each other while it works.
+-- What the functions of the compactor owe each other; no reader of the promises needs it.
 -- Assumes nothing.
 use mathlib.Core.Path.{_≡_}
 use mathlib.Core.Bool.{true}

@@ -1,4 +1,4 @@
--- What the functions over counts owe each other. A pattern is counted in or, where `into` is false, out.
+-- What the functions of the counts owe each other and their callers; no reader of the promises needs it. A pattern is counted in or, where `into` is false, out.
 -- Assumes nothing.
 use mathlib.Core.Path.{_≡_}
 use mathlib.Core.Bool.{Bool, _&&_, _||_}

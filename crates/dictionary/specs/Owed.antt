@@ -1,4 +1,4 @@
--- What the functions of the dictionary owe each other; no reader of the promise needs it.
+-- What the functions of the dictionary maker owe each other; no reader of the promises needs it.
 -- Assumes nothing.
 use mathlib.Core.List.{List}
 use Prim.Native.Nat.{ℕ}

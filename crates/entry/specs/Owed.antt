@@ -1,4 +1,4 @@
--- What the functions of the entry owe each other; nobody else need read it.
+-- What the functions of the entry owe each other and their callers; no reader of the promises needs it.
 -- Assumes nothing.
 use mathlib.Core.Path.{_≡_}
 use mathlib.Core.Bool.{not, _&&_, _||_}
@@ -28,9 +28,9 @@ pub record EntryRoom (c : List ℕ) (n work : ℕ) : Type 0 where
   pub circuit : length c ≡ 8 * n
   pub two : work ≡ n + n
 
--- room for a look at a pattern and a fault
+-- for a look at a pattern and a fault
 pub record LookReady (c : List ℕ) (inputs : ℕ) (fault : Fault) (n work : ℕ) : Type 0 where
-  pub room : GoodValuesReady c inputs n work
+  pub values : GoodValuesReady c inputs n work
   pub line : fault .line < n
 
 -- a look at the pattern p and a fault: the entry, and the work memory afterwards

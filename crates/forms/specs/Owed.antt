@@ -1,4 +1,4 @@
--- What `put_forms` owes its callers; nobody else need read it.
+-- What the functions of the forms owe each other and their callers; no reader of the promises needs it.
 -- Assumes nothing.
 use mathlib.Core.Path.{_≡_}
 use mathlib.Core.List.{List}

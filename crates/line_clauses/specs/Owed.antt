@@ -1,4 +1,4 @@
--- What the functions that write one line owe their callers; no reader of the clauses needs it.
+-- What the functions of the clauses of a line owe each other and their callers; no reader of the promises needs it.
 -- Assumes nothing.
 use mathlib.Core.Path.{_≡_}
 use mathlib.Core.List.{List, _++_}

@@ -1,5 +1,5 @@
--- What the functions of the names owe each other: a table that finds a name's definition, by a hash and lists of those with the same hash.
--- Nobody else need read it.
+-- What the functions of the names owe each other and their callers: a table that finds a name's definition, by a hash and lists of those with the same hash.
+-- No reader of the promises needs it.
 -- Assumes nothing.
 use mathlib.Core.Path.{_≡_}
 use mathlib.Core.Bool.{Bool, not}

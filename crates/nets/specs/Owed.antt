@@ -1,4 +1,4 @@
--- What the functions that read a net owe each other and the reader of texts; nobody else need read it.
+-- What the functions of nets owe each other and their callers; no reader of the promises needs it.
 -- Assumes nothing.
 use mathlib.Core.Path.{_≡_}
 use mathlib.Core.List.{List, _++_, map}

@@ -1,4 +1,4 @@
--- What a search from a node on owes its caller: nothing here has to be believed, it stands between functions.
+-- What a search from a node on owes its callers; no reader of the promises needs it.
 -- Assumes nothing.
 use mathlib.Core.Path.{_≡_}
 use mathlib.Core.List.{List}

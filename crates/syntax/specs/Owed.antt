@@ -1,4 +1,4 @@
--- What the functions of the syntax owe each other; nobody else need read it. That the reader's tables are so is computed.
+-- What the functions of the syntax owe each other; no reader of the promises needs it. That the reader's tables are so is computed.
 -- Assumes nothing.
 use mathlib.Core.Path.{_≡_}
 use mathlib.Core.Bool.{Bool, true, false, _&&_}

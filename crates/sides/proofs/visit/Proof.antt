@@ -16,7 +16,7 @@ sized e w = rw e w
 look-requires : tie.Need-look-requires
 look-requires c κs =
     let p = c .before .before .before .before .pre in
-    record { room = record { shaped = sized (p .1 .size) (p .0 .shaped); two = p .0 .two }; line = p .0 .line }
+    record { values = record { shaped = sized (p .1 .size) (p .0 .shaped); two = p .0 .two }; line = p .0 .line }
 
 returns : tie.Need-returns
 unfolding lookWork
