@@ -1,5 +1,3 @@
-pub mod Pieces
-pub mod Lines
 pub mod Small
 pub mod Made
 pub mod Whole

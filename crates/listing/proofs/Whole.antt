@@ -2,9 +2,9 @@
 -- Assumes nothing.
 use mathlib.Core.Path.{_≡_, refl, sym, ap, _∙_}
 use mathlib.Core.List.{List, _++_}
-use Prim.Native.Nat.{ℕ, zero, suc, _+_, _*_, _≤_}
+use Prim.Native.Nat.{ℕ, _+_, _*_, _≤_}
 use native.Mathlib.Omega.{arith}
-use lib.ListN.{length, getD, take, drop, length-append, length-take, take-append-drop}
+use lib.ListN.{length, take, drop, take-append-drop}
 use lib.Seq.{length-take-le}
 use Rattle.ground.specs.Put.{Put}
 use Rattle.ground.proofs.Put.{put-long}
@@ -20,23 +20,12 @@ use Rattle.lists.specs.Patterns.{patternCount}
 use Rattle.lists.specs.Both.{listRules}
 use Rattle.tables.specs.Entries.{entriesOf}
 use Rattle.needs.specs.Needs as needs
-use Rattle.listing.specs.Text.{lineText, linesTo, refusedText}
+use Rattle.letters.specs.Text.{refusedText}
 use Rattle.listing.specs.Promise.{programRules, tableText, dictionaryOf, outputOf, Listed}
 use Rattle.listing.specs.Owed.{PutMadeReady, EntriesDone, MakeReady, MakeDone, PutMadeDone}
-use Rattle.decimals.proofs.Digits.{digits-short}
-use Rattle.listing.proofs.Pieces.{line-short}
+use Rattle.letters.proofs.Pieces.{refused-short}
+use Rattle.letters.proofs.Lines.{lines-short}
 use Rattle.listing.proofs.Made.{table-is, fine-sized, full}
-
-refused-short : (number place : ℕ) → length (refusedText number place) ≤ 50
-refused-short number place = simp length-append (omega (arith, digits-short 20 number, digits-short 20 place))
-
-lines-short : (faults : ℕ) (t marks : List ℕ) (p : ℕ) → faults ≤ 256 → length (linesTo faults t marks p) ≤ 280 * p
-lines-short faults t marks zero few = omega arith
-lines-short faults t marks (suc p) few =
-    let row : List ℕ = take faults (drop (p * faults) t) in
-    let width : length row ≤ faults = simp length-take (omega arith) in
-    let before = lines-short faults t marks p few in
-    omega (arith, length-append (linesTo faults t marks p) (lineText p (getD marks p 0) row), line-short p (getD marks p 0) row)
 
 -- ---- from a table of its size
 

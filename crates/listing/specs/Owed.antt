@@ -14,14 +14,6 @@ use Rattle.lists.specs.Patterns.{patternCount}
 use Rattle.tables.specs.Table as tables
 use Rattle.listing.specs.Promise.{programRules, dictionaryOf, outputOf}
 
--- a table of so many faults and patterns, a mark for each pattern, and 280 bytes for each line
-pub record ListingRoom (table marks out : List ℕ) (faults patterns : ℕ) : Type 0 where
-  pub few-faults : faults ≤ 256
-  pub few-patterns : patterns ≤ 256
-  pub entries : length table ≡ faults * patterns
-  pub marked : patterns ≤ length marks
-  pub lines : 280 * patterns ≤ length out
-
 -- a table that the compactor takes, and memory for its lines
 pub record PutTableReady (table : List ℕ) (out faults patterns : ℕ) : Type 0 where
   pub sized : tables.Sized faults patterns (length table)

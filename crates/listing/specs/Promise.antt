@@ -16,7 +16,7 @@ use Rattle.lists.specs.Both.{listRules}
 use Rattle.rows.specs.Table.{tableOf}
 use Rattle.tables.specs.Entries.{entriesOf}
 use Rattle.needs.specs.Needs as needs
-use Rattle.listing.specs.Text.{linesTo, refusedText}
+use Rattle.letters.specs.Text.{linesTo, refusedText}
 
 -- what can be refused: the circuit, the faults, the patterns; its own buffers are of their size
 abbrev pub programRules : List ℕ → List ℕ → List ℕ → List Rule

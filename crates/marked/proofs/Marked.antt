@@ -20,7 +20,7 @@ use Rattle.needs.specs.Needs.{tells, lost, lostPair, lacks, turn, turns, compac
 use Rattle.tables.specs.Table.{sizesOk, tableRules}
 use Rattle.compact.specs.Promise.{marksRules}
 use Rattle.decimals.specs.Digits.{digits}
-use Rattle.listing.specs.Text.{letterOf, markOf}
+use Rattle.letters.specs.Text.{letterOf, markOf}
 use Rattle.listing.specs.Promise.{outputOf}
 use Rattle.nodes.specs.Node.{countX, firstX, fill}
 use Rattle.nodes.specs.Order.{order, upto, found, testIn}

@@ -1,11 +1,11 @@
--- `listing::put_three` meets its contract: three stores, one behind the other.
+-- `letters::put_three` meets its contract: three stores, one behind the other.
 -- Assumes nothing.
 use lib.ListN.{length-set}
 use native.Mathlib.Omega.{arith}
 use borrow.Author.Needs.{needs}
-use Rattle.listing.proofs.Pieces.{three-put}
-use Rattle.listing.proofs.put_three.Statement.{statement}
-use Rattle.listing.proofs.put_three.Tie as tie
+use Rattle.letters.proofs.Pieces.{three-put}
+use Rattle.letters.proofs.put_three.Statement.{statement}
+use Rattle.letters.proofs.put_three.Tie as tie
 
 slice-write-out-2 : tie.Need-slice-write-out-2
 slice-write-out-2 c = simp length-set (omega arith)

@@ -1,12 +1,12 @@
--- `listing::put_refused` meets its contract: the word, the number and the place, one behind the other.
+-- `letters::put_refused` meets its contract: the word, the number and the place, one behind the other.
 -- Assumes nothing.
 use native.Mathlib.Omega.{arith}
 use borrow.Author.Needs.{needs}
-use Rattle.listing.proofs.Pieces.{refused-put}
+use Rattle.letters.proofs.Pieces.{refused-put}
 use Rattle.decimals.proofs.Digits.{digits-short}
 use Rattle.ground.proofs.Put.{put-long}
-use Rattle.listing.proofs.put_refused.Statement.{statement}
-use Rattle.listing.proofs.put_refused.Tie as tie
+use Rattle.letters.proofs.put_refused.Statement.{statement}
+use Rattle.letters.proofs.put_refused.Tie as tie
 
 -- the places: the entry, and behind the word, the number, the space, the place and the end; each accessor goes back to the piece before
 

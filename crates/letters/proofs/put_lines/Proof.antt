@@ -1,12 +1,12 @@
--- `listing::put_lines` meets its contract. The invariant: the lines of the first p patterns stand.
+-- `letters::put_lines` meets its contract. The invariant: the lines of the first p patterns stand.
 -- Assumes nothing.
 use lib.ListN.{length-take}
 use native.Mathlib.Omega.{arith}
 use Prim.Native.Nat.{_-_}
-use Rattle.listing.proofs.Lines.{SoFar, start, row-fits, line-fits, more, finished}
+use Rattle.letters.proofs.Lines.{SoFar, start, row-fits, line-fits, more, finished}
 use Rattle.ground.proofs.Put.{put-long}
-use Rattle.listing.proofs.put_lines.Statement.{statement}
-use Rattle.listing.proofs.put_lines.Tie as tie
+use Rattle.letters.proofs.put_lines.Statement.{statement}
+use Rattle.letters.proofs.put_lines.Tie as tie
 
 abbrev Inv-loop : tie.InvT-loop
 Inv-loop out₀ table marks faults patterns p₀ at₀ from₀ out p at from = SoFar table marks out₀ faults patterns out p at from
@@ -32,8 +32,7 @@ put-line-requires c κs =
 loop-again : tie.Need-loop-again Inv-loop μ-loop
 loop-again c =
     let turn = c .before .before .before .before .before .before .before in
-    let entry = turn .before .before .before .before in
-    more (entry .pre) (turn .loop .inv) (omega arith) (c .before .before .put-line .ensures)
+    more (turn .loop .inv) (omega arith) (c .before .before .put-line .ensures)
 
 same-length : tie.Need-same-length Inv-loop μ-loop
 same-length c = put-long (c .before .loop .inv .put)

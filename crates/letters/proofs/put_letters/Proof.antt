@@ -1,4 +1,4 @@
--- `listing::put_letters` meets its contract. The invariant: the first i letters stand.
+-- `letters::put_letters` meets its contract. The invariant: the first i letters stand.
 -- Assumes nothing.
 use lib.ListN.{length-set, length, length-map}
 use borrow.Author.Needs.{needs}
@@ -6,11 +6,11 @@ use native.Mathlib.Omega.{arith}
 use mathlib.Core.List.{map}
 use mathlib.Core.Path.{_≡_, refl}
 use Prim.Native.Nat.{_≤_, _-_}
-use Rattle.listing.proofs.Pieces.{letter-at}
-use Rattle.listing.specs.Text.{letterOf}
+use Rattle.letters.proofs.Pieces.{letter-at}
+use Rattle.letters.specs.Text.{letterOf}
 use Rattle.ground.proofs.Put.{Partly, partly-none, partly-more, partly-all}
-use Rattle.listing.proofs.put_letters.Statement.{statement}
-use Rattle.listing.proofs.put_letters.Tie as tie
+use Rattle.letters.proofs.put_letters.Statement.{statement}
+use Rattle.letters.proofs.put_letters.Tie as tie
 
 abbrev Inv-loop : tie.InvT-loop
 Inv-loop out₀ at row i₀ out i = (i ≤ length row) × (length out ≡ length out₀) × Partly (map letterOf row) out₀ at out i

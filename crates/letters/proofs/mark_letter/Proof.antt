@@ -1,9 +1,9 @@
--- `listing::mark_letter` meets its contract: one answer for each branch.
+-- `letters::mark_letter` meets its contract: one answer for each branch.
 -- Assumes nothing.
 use borrow.Author.Tests.{eq-eqb, ne-eqb}
-use Rattle.listing.specs.Text.{markOf}
-use Rattle.listing.proofs.mark_letter.Statement.{statement}
-use Rattle.listing.proofs.mark_letter.Tie as tie
+use Rattle.letters.specs.Text.{markOf}
+use Rattle.letters.proofs.mark_letter.Statement.{statement}
+use Rattle.letters.proofs.mark_letter.Tie as tie
 
 returns : tie.Need-returns
 unfolding markOf

@@ -1,10 +1,10 @@
--- `listing::put_refused_word` meets its contract: eight stores, one behind the other.
+-- `letters::put_refused_word` meets its contract: eight stores, one behind the other.
 -- Assumes nothing.
 use lib.ListN.{length-set}
 use native.Mathlib.Omega.{arith}
 use borrow.Author.Needs.{needs}
-use Rattle.listing.proofs.put_refused_word.Statement.{statement}
-use Rattle.listing.proofs.put_refused_word.Tie as tie
+use Rattle.letters.proofs.put_refused_word.Statement.{statement}
+use Rattle.letters.proofs.put_refused_word.Tie as tie
 
 slice-write-out-2 : tie.Need-slice-write-out-2
 slice-write-out-2 c = simp length-set (omega arith)

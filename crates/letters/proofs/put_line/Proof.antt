@@ -1,14 +1,14 @@
--- `listing::put_line` meets its contract: number, space, mark, space, letters and the end, one behind the other.
+-- `letters::put_line` meets its contract: number, space, mark, space, letters and the end, one behind the other.
 -- Assumes nothing.
 use lib.ListN.{length-map}
 use native.Mathlib.Omega.{arith}
 use borrow.Author.Needs.{needs}
-use Rattle.listing.specs.Text.{letterOf}
+use Rattle.letters.specs.Text.{letterOf}
 use Rattle.decimals.proofs.Digits.{digits-short}
-use Rattle.listing.proofs.Pieces.{line-put}
+use Rattle.letters.proofs.Pieces.{line-put}
 use Rattle.ground.proofs.Put.{put-long}
-use Rattle.listing.proofs.put_line.Statement.{statement}
-use Rattle.listing.proofs.put_line.Tie as tie
+use Rattle.letters.proofs.put_line.Statement.{statement}
+use Rattle.letters.proofs.put_line.Tie as tie
 
 -- the places: the entry, and behind the mark's letter, the number, the mark, the letters and the end; each accessor goes back by one
 

@@ -1,9 +1,9 @@
--- `listing::letter` meets its contract: one answer for each branch.
+-- `letters::letter` meets its contract: one answer for each branch.
 -- Assumes nothing.
 use borrow.Author.Tests.{eq-eqb, ne-eqb}
-use Rattle.listing.specs.Text.{letterOf}
-use Rattle.listing.proofs.letter.Statement.{statement}
-use Rattle.listing.proofs.letter.Tie as tie
+use Rattle.letters.specs.Text.{letterOf}
+use Rattle.letters.proofs.letter.Statement.{statement}
+use Rattle.letters.proofs.letter.Tie as tie
 
 returns : tie.Need-returns
 unfolding letterOf

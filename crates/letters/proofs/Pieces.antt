@@ -7,7 +7,7 @@ use native.Mathlib.Omega.{arith}
 use lib.ListN.{length, getD, set, length-append, length-map, List·getD-map}
 use Rattle.ground.specs.Put.{Put}
 use Rattle.ground.proofs.Put.{put-then}
-use Rattle.listing.specs.Text.{letterOf, markOf, lineText, refusedWord, refusedText}
+use Rattle.letters.specs.Text.{letterOf, markOf, lineText, refusedWord, refusedText}
 use Rattle.decimals.specs.Digits.{decimal}
 use Rattle.decimals.proofs.Digits.{digits-short}
 
@@ -40,3 +40,6 @@ pub refused-put : (number place : ℕ) {w₀ w₁ w₂ w₃ w₄ w₅ : List ℕ
     → Put w₄ w₅ n₄ (10 ∷ []) n₅
     → Put w₀ w₅ 0 (refusedText number place) n₅
 refused-put number place a b c d e = put-then a (put-then b (put-then c (put-then d e)))
+
+pub refused-short : (number place : ℕ) → length (refusedText number place) ≤ 50
+refused-short number place = simp length-append (omega (arith, digits-short 20 number, digits-short 20 place))
