@@ -1,4 +1,4 @@
--- What `put_lines` asks of its callers; nobody else need read it.
+-- What `put_lines` asks of its callers; no reader of the promises needs it.
 -- Assumes nothing.
 use mathlib.Core.Path.{_≡_}
 use mathlib.Core.List.{List}

@@ -8,20 +8,31 @@ use Rattle.records.specs.Owed.{recordOf}
 use Rattle.records.proofs.put_record.Statement.{statement}
 use Rattle.records.proofs.put_record.Tie as tie
 
+-- the entry of the place behind the first pair
+abbrev entry : tie.After-put-pair → tie.Start
+entry c = c .before .before .before
+
 put-two-requires-2 : tie.Need-put-two-requires-2
-put-two-requires-2 c κs = omega (arith, le-length 2 (c .before .before .before .before .before .before .before .before .before .before .args .first))
+put-two-requires-2 c κs =
+    let one = c .before .before .before in
+    let pair = one .before .before .before .before in
+    omega (arith, le-length 2 (entry pair .args .first))
 
 put-two-requires-3 : tie.Need-put-two-requires-3
 put-two-requires-3 c κs =
-    let start = c .before .before .before .before .before .before .before .before .before .before .before .before .before .before in
-    omega (arith, le-length 2 (start .args .first), le-length 2 (start .args .second))
+    let two = c .before .before .before in
+    let one = two .before .before .before .before in
+    let pair = one .before .before .before .before in
+    omega (arith, le-length 2 (entry pair .args .first), le-length 2 (entry pair .args .second))
 
 returns : tie.Need-returns
 unfolding recordOf
 returns c =
-    put-then (c .before .before .before .before .before .before .before .before .before .before .before .before .before .before .put-pair .ensures)
-    (put-then (c .before .before .before .before .before .before .before .before .before .before .put-two .ensures)
-    (put-then (c .before .before .before .before .before .before .put-two2 .ensures) (c .before .before .put-two3 .ensures)))
+    let three = c .before .before in
+    let two = three .before .before .before .before in
+    let one = two .before .before .before .before in
+    let pair = one .before .before .before .before in
+    put-then (pair .put-pair .ensures) (put-then (one .put-two .ensures) (put-then (two .put-two2 .ensures) (three .put-two3 .ensures)))
 
 pub put-record-spec : {M : Type 1} → statement M
 put-record-spec =

@@ -25,14 +25,15 @@ loop-holds c = let s = c .before .before .before .before .before .before .before
 
 read-fault-requires : tie.Need-read-fault-requires Inv-loop μ-loop
 read-fault-requires c κs =
-    record {
-      inside = omega
-          (arith, c .before .before .before .before .before .before .before .before .before .before .before .pre .faults, c .before .loop .inv .long);
-    }
+    let turn = c .before in
+    let s = turn .before .before .before .before .before .before .before .before .before .before in
+    record { inside = omega (arith, s .pre .faults, turn .loop .inv .long) }
 
 fault-entry-requires : tie.Need-fault-entry-requires Inv-loop μ-loop
-fault-entry-requires c κs = let s = c .before .before .before .before .before .before .before .before .before .before .before .before .before in
-    let so = c .before .before .before .loop .inv in
+fault-entry-requires c κs =
+    let turn = c .before .before .before in
+    let s = turn .before .before .before .before .before .before .before .before .before .before in
+    let so = turn .loop .inv in
     record {
       ordered = ordered (s .pre .well);
       two = so .room;
@@ -40,25 +41,31 @@ fault-entry-requires c κs = let s = c .before .before .before .before .before .
     }
 
 slice-write-row : tie.Need-slice-write-row Inv-loop μ-loop
-slice-write-row c = omega (arith, c .before .before .before .before .before .before .loop .inv .long)
+slice-write-row c =
+    let turn = c .before .before .before .before .before .before in
+    omega (arith, turn .loop .inv .long)
 
 loop-again : tie.Need-loop-again Inv-loop μ-loop
 loop-again c =
-    more (c .before .before .before .before .before .before .loop .inv)
-    (omega (arith, c .before .before .before .before .before .before .loop .inv .long)) (c .before .before .before .before .read-fault .ensures)
-    (c .before .before .fault-entry .ensures)
+    let entered = c .before .before in
+    let read = entered .before .before in
+    let turn = read .before .before in
+    more (turn .loop .inv) (omega (arith, turn .loop .inv .long)) (read .read-fault .ensures) (entered .fault-entry .ensures)
 
 same-length : tie.Need-same-length Inv-loop μ-loop
 same-length c = c .before .loop .inv .long
 
 same-length-2 : tie.Need-same-length-2 Inv-loop μ-loop
 same-length-2 c =
-    c .before .loop .inv .room ∙ sym (c .before .before .before .before .before .before .before .before .before .before .before .pre .two)
+    let turn = c .before in
+    let s = turn .before .before .before .before .before .before .before .before .before .before in
+    turn .loop .inv .room ∙ sym (s .pre .two)
 
 returns : tie.Need-returns Inv-loop μ-loop
 returns c =
-    let s = c .before .before .before .before .before .before .before .before .before .before .before in
-    finished (c .before .loop .inv) (omega (arith, c .before .loop .inv .long)) (s .pre .some) (s .pre .faults)
+    let turn = c .before in
+    let s = turn .before .before .before .before .before .before .before .before .before .before in
+    finished (turn .loop .inv) (omega (arith, turn .loop .inv .long)) (s .pre .some) (s .pre .faults)
 
 pub fill-row-spec : {M : Type 1} → statement M
 fill-row-spec =
