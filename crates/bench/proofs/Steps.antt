@@ -11,7 +11,7 @@ use Rattle.forms.specs.Forms.{gatesIn}
 use Rattle.forms.specs.Owed.{FormsDone}
 use Rattle.forms.proofs.Forms.{forms-length, forms-small}
 use Rattle.statements.specs.Tables.{kindsOf}
-use Rattle.statements.specs.Owed.{DefsReady, DefsDone, OutsRoom, OutsDone, SourcesReady, SourcesDone, KindsRoom}
+use Rattle.statements.specs.Owed.{DefsReady, DefsDone, OutsReady, OutsDone, SourcesReady, SourcesDone, KindsReady}
 use Rattle.statements.proofs.Lengths.{defs-length}
 use Rattle.statements.proofs.Sizes.{few-defs, few-outs, few-gates}
 use Rattle.nets.specs.declared.Read.{Read}
@@ -67,7 +67,7 @@ module _ {t ws es fs : List ℕ} (p : ReadDefsReady t ws es fs) where
 
   -- ---- uses
 
-  pub outs-room : {outs : List ℕ} → length outs ≡ 8193 → OutsRoom es fs outs
+  pub outs-room : {outs : List ℕ} → length outs ≡ 8193 → OutsReady es fs outs
   outs-room r = record { lines = lines; for-outs = record { few = rw (p .forms-are) (few-outs t short); room = r } }
 
   pub gates-room : {firsts seconds : List ℕ} → length firsts ≡ 8193 → length seconds ≡ 8193 → SourcesReady es fs firsts seconds
@@ -78,7 +78,7 @@ module _ {t ws es fs : List ℕ} (p : ReadDefsReady t ws es fs) where
     for-second = record { few = rw (p .forms-are) (few-gates t short); room = b };
   }
 
-  pub kinds-room : {kinds : List ℕ} → length kinds ≡ 8193 → KindsRoom es fs kinds
+  pub kinds-room : {kinds : List ℕ} → length kinds ≡ 8193 → KindsReady es fs kinds
   kinds-room r = record { lines = lines; for-kinds = record { few = rw (p .forms-are) (few-gates t short); room = r } }
 
 -- there are no more gates than definitions

@@ -27,20 +27,20 @@ use Rattle.lists.specs.Faults.{faultAt, faultRules}
 use Rattle.lists.proofs.Faults.{faults-say, good-faults}
 use Rattle.cnf.specs.declared.Size.{Size}
 use Rattle.cnf.specs.Cnf.{Clauses, wordsOf}
-use Rattle.cnf.specs.Write.{Takes}
+use Rattle.cnf.specs.Owed.{Takes}
 use Rattle.cnf.proofs.Sizes.{words-length}
 use Rattle.clauses.specs.declared.Written.{Written}
 use Rattle.clauses.specs.declared.Written.the-variants.{Success, Refused}
 use Rattle.line_clauses.specs.Clauses.{clausesOf, variablesOf}
 use Rattle.clauses.specs.Promise.{roomRules, clausesFor, wordsFor, clauseRules, writtenOf, writtenNumbers, Writes}
-use Rattle.clauses.specs.Owed.{WholeReady, WholeRoom, ClausesDone}
+use Rattle.clauses.specs.Owed.{WholeReady, PutAllReady, ClausesDone}
 
 -- ---- rule by rule
 
 takes-words : {cs : Clauses} {size : Size} → Takes cs size → size .words ≡ length (wordsOf cs)
 takes-words {cs} t = t .words ∙ sym (words-length cs)
 
-pub whole-room : {c : List ℕ} {f : Fault} {n outputs : ℕ} {size : Size} {w : List ℤ} → WholeReady c n outputs → Takes (clausesOf c f n) size → size .words ≤ length w → WholeRoom c f n outputs w
+pub whole-room : {c : List ℕ} {f : Fault} {n outputs : ℕ} {size : Size} {w : List ℤ} → WholeReady c n outputs → Takes (clausesOf c f n) size → size .words ≤ length w → PutAllReady c f n outputs w
 whole-room p t l = record { counted = p; room = omega (arith, takes-words t) }
 
 module _ {cs : Clauses} {v : ℕ} {w : List ℤ} where

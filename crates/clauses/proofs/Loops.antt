@@ -17,7 +17,7 @@ use Rattle.ground.proofs.Gather.{gather-mono}
 use Rattle.cnf.proofs.Decode.{words-append, words-gather}
 use Rattle.ground.proofs.Put.{put-none, put-one, put-long, put-then}
 use Rattle.line_clauses.specs.Clauses.{differenceVar, differenceClauses, differences}
-use Rattle.line_clauses.specs.Owed.{CircuitReady, LineRoom, DifferenceRoom}
+use Rattle.line_clauses.specs.Owed.{CircuitReady, LineClausesReady, DifferenceReady}
 
 -- ---- the lines: the first k of n have been written
 
@@ -35,7 +35,7 @@ piece-inside piece n k l =
     (rw (words-gather piece (suc k), words-gather piece n) (gather-mono (λ i. wordsOf (piece i)) (suc k) n l))
 
 module _ {piece : ℕ → Clauses} {n : ℕ} {w₀ : List ℤ} {at : ℕ} {w : List ℤ} {next k : ℕ} (so : SoFar piece n w₀ at w next k) where
-  pub line-room : {c : List ℕ} → CircuitReady c n → at + length (wordsOf (gather piece n)) ≤ length w₀ → k < n → LineRoom c n k (piece k) w next
+  pub line-room : {c : List ℕ} → CircuitReady c n → at + length (wordsOf (gather piece n)) ≤ length w₀ → k < n → LineClausesReady c n k (piece k) w next
   line-room p r l = record {
     line = record { circuit = p; inside = l };
     room = omega (arith, piece-inside piece n k l, put-long (so .put), so .put .next-is);
@@ -53,7 +53,7 @@ module _ {piece : ℕ → Clauses} {n : ℕ} {w₀ : List ℤ} {at : ℕ} {w : L
       subst (λ (i : ℕ). Put w₀ w at (wordsOf (gather piece i)) next) e (so .put)
 
 -- the differences' lines count the outputs too
-pub difference-room : {c : List ℕ} {n k j : ℕ} {w : List ℤ} {next : ℕ} → LineRoom c n k (differenceClauses c n k) w next → Sum (isOutput c) n k j → DifferenceRoom c n k j w next
+pub difference-room : {c : List ℕ} {n k j : ℕ} {w : List ℤ} {next : ℕ} → LineClausesReady c n k (differenceClauses c n k) w next → Sum (isOutput c) n k j → DifferenceReady c n k j w next
 difference-room r s = record { own = r; below = s .sum; few = sum-small s }
 
 -- ---- the clause of all differences: the first j of its literals have been written

@@ -17,7 +17,7 @@ use Rattle.cnf.specs.declared.Size.{Size}
 use Rattle.ground.specs.Lists.{gather}
 use Rattle.cnf.specs.Cnf.{Clauses}
 use Rattle.cnf.specs.Table.{clauseTable, gateClauses, sites}
-use Rattle.cnf.specs.Write.{sizeOf, Takes}
+use Rattle.cnf.specs.Owed.{sizeOf, Takes}
 use Rattle.cnf.proofs.Sizes.{size-append, Measure, in-words, in-clauses, measure-both}
 use Rattle.line_clauses.specs.Clauses.{differenceVar, goodVar, faultyVar, goodClauses, faultyClauses, differenceClauses, differences, clausesOf}
 use Rattle.line_clauses.specs.Owed.{LineSizeDone}

@@ -11,11 +11,11 @@ use Rattle.lists.specs.declared.Fault.{Fault}
 use Rattle.ground.specs.Lists.{gather}
 use Rattle.cnf.specs.Cnf.{Clauses, wordsOf}
 use Rattle.ground.specs.Put.{Put, laidOn}
-use Rattle.cnf.specs.Write.{single}
+use Rattle.cnf.specs.Owed.{single}
 use Rattle.cnf.proofs.Decode.{words-append}
 use Rattle.ground.proofs.Put.{put-as, put-none, put-then, put-room, put-whole}
 use Rattle.line_clauses.specs.Clauses.{stuckLiteral, goodClauses, faultyClauses, differenceClauses, differences, clausesOf}
-use Rattle.clauses.specs.Owed.{LinesRoom, WholeRoom}
+use Rattle.clauses.specs.Owed.{ClauseLinesReady, PutAllReady}
 use Rattle.clauses.proofs.Sizes.{differences-length}
 
 abbrev lineWords : (ℕ → Clauses) → ℕ → List ℤ
@@ -24,7 +24,7 @@ lineWords piece n = wordsOf (gather piece n)
 abbrev lastWords : ℕ → ℕ → List ℤ
 lastWords n outputs = differences n outputs ++ (pos 0 ∷ [])
 
-module _ {c : List ℕ} {f : Fault} {n outputs : ℕ} {w₀ : List ℤ} (h : WholeRoom c f n outputs w₀) where
+module _ {c : List ℕ} {f : Fault} {n outputs : ℕ} {w₀ : List ℤ} (h : PutAllReady c f n outputs w₀) where
   good : List ℤ
   good = lineWords (goodClauses c) n
 
@@ -50,7 +50,7 @@ module _ {c : List ℕ} {f : Fault} {n outputs : ℕ} {w₀ : List ℤ} (h : Who
   unfolding whole
   fits = rw zero-add (h .room)
 
-  pub room-good : LinesRoom c n (goodClauses c) w₀ 0
+  pub room-good : ClauseLinesReady c n (goodClauses c) w₀ 0
   unfolding good
   room-good = record { circuit = h .counted .circuit; room = put-room whole good _ (put-none w₀ 0) parts fits }
 
@@ -60,12 +60,12 @@ module _ {c : List ℕ} {f : Fault} {n outputs : ℕ} {w₀ : List ℤ} (h : Who
     room-stuck = (h .counted .circuit .few, put-room whole (single (stuckLiteral f n)) _ p1 parts fits)
 
     module _ {w2 : List ℤ} {n2 : ℕ} (p2 : Put w1 w2 n1 (single (stuckLiteral f n)) n2) where
-      pub room-faulty : LinesRoom c n (faultyClauses c f n) w2 n2
+      pub room-faulty : ClauseLinesReady c n (faultyClauses c f n) w2 n2
       unfolding good faulty
       room-faulty = record { circuit = h .counted .circuit; room = put-room whole faulty (difference ++ lastWords n outputs) (put-then p1 p2) (parts ∙ simp append-assoc) fits }
 
       module _ {w3 : List ℤ} {n3 : ℕ} (p3 : Put w2 w3 n2 (lineWords (faultyClauses c f n) n) n3) where
-        pub room-difference : LinesRoom c n (differenceClauses c n) w3 n3
+        pub room-difference : ClauseLinesReady c n (differenceClauses c n) w3 n3
         unfolding good faulty difference
         room-difference = record { circuit = h .counted .circuit; room = put-room whole difference (lastWords n outputs) (put-then (put-then p1 p2) p3) (parts ∙ simp append-assoc) fits }
 

@@ -26,11 +26,11 @@ pub record WholeReady (c : List ℕ) (n outputs : ℕ) : Type 0 where
   pub few-outputs : outputs ≤ 2048
 
 -- room from `at` on for what all the lines bring
-pub record LinesRoom (c : List ℕ) (n : ℕ) (piece : ℕ → Clauses) (w : List ℤ) (at : ℕ) : Type 0 where
+pub record ClauseLinesReady (c : List ℕ) (n : ℕ) (piece : ℕ → Clauses) (w : List ℤ) (at : ℕ) : Type 0 where
   pub circuit : CircuitReady c n
   pub room : at + length (wordsOf (gather piece n)) ≤ length w
 
-pub record WholeRoom (c : List ℕ) (f : Fault) (n outputs : ℕ) (w : List ℤ) : Type 0 where
+pub record PutAllReady (c : List ℕ) (f : Fault) (n outputs : ℕ) (w : List ℤ) : Type 0 where
   pub counted : WholeReady c n outputs
   pub room : length (wordsOf (clausesOf c f n)) ≤ length w
 

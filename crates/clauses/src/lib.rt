@@ -22,12 +22,12 @@ ghost use lib.ListN.{length};
 ghost use Rattle.ground.specs.Lists.{gather};
 ghost use Rattle.cnf.specs.Cnf.{wordsOf};
 ghost use Rattle.ground.specs.Put.{Put, laidOn};
-ghost use Rattle.cnf.specs.Write.{single, Takes};
+ghost use Rattle.cnf.specs.Owed.{single, Takes};
 ghost use Rattle.line_clauses.specs.Clauses.{stuckLiteral, goodClauses, faultyClauses, differenceClauses, differences, clausesOf};
 ghost use Rattle.clauses.specs.Promise.{Writes};
 ghost use Rattle.circuit.specs.Record.{inputsOf};
 ghost use Rattle.circuit.specs.Formed.{Accepts};
-ghost use Rattle.clauses.specs.Owed.{WholeReady, LinesRoom, WholeRoom, FitDone, RestDone};
+ghost use Rattle.clauses.specs.Owed.{WholeReady, ClauseLinesReady, PutAllReady, FitDone, RestDone};
 
 // What the writer answers.
 pub enum Written {
@@ -63,7 +63,7 @@ fn whole_size(circuit: &[u8], fault: Fault, n: usize, outputs: usize) -> Size
 
 // The good lines.
 fn put_goods(circuit: &[u8], n: usize, words: &mut [i32], at: usize) -> usize
-    requires { ⌜ LinesRoom (now circuit) n (goodClauses (now circuit)) (now words) at ⌝ }
+    requires { ⌜ ClauseLinesReady (now circuit) n (goodClauses (now circuit)) (now words) at ⌝ }
     ensures { λ r. ⌜ Put (now (words .entry)) (now (words .exit)) at (wordsOf (gather (goodClauses (now (circuit .entry))) n)) r ⌝ }
 {
     let mut next = at;
@@ -77,7 +77,7 @@ fn put_goods(circuit: &[u8], n: usize, words: &mut [i32], at: usize) -> usize
 
 // The faulty lines.
 fn put_faulties(circuit: &[u8], fault: Fault, n: usize, words: &mut [i32], at: usize) -> usize
-    requires { ⌜ LinesRoom (now circuit) n (faultyClauses (now circuit) fault n) (now words) at ⌝ }
+    requires { ⌜ ClauseLinesReady (now circuit) n (faultyClauses (now circuit) fault n) (now words) at ⌝ }
     ensures { λ r. ⌜ Put (now (words .entry)) (now (words .exit)) at (wordsOf (gather (faultyClauses (now (circuit .entry)) fault n) n)) r ⌝ }
 {
     let mut next = at;
@@ -91,7 +91,7 @@ fn put_faulties(circuit: &[u8], fault: Fault, n: usize, words: &mut [i32], at: u
 
 // The differences.
 fn put_differences(circuit: &[u8], n: usize, words: &mut [i32], at: usize) -> usize
-    requires { ⌜ LinesRoom (now circuit) n (differenceClauses (now circuit) n) (now words) at ⌝ }
+    requires { ⌜ ClauseLinesReady (now circuit) n (differenceClauses (now circuit) n) (now words) at ⌝ }
     ensures { λ r. ⌜ Put (now (words .entry)) (now (words .exit)) at (wordsOf (gather (differenceClauses (now (circuit .entry)) n) n)) r ⌝ }
 {
     let mut next = at;
@@ -133,7 +133,7 @@ fn put_last(n: usize, outputs: usize, words: &mut [i32], at: usize) -> usize
 
 // The whole list.
 fn put_all(circuit: &[u8], fault: Fault, n: usize, outputs: usize, words: &mut [i32])
-    requires { ⌜ WholeRoom (now circuit) fault n outputs (now words) ⌝ }
+    requires { ⌜ PutAllReady (now circuit) fault n outputs (now words) ⌝ }
     ensures { λ _. ⌜ now (words .exit) ≡ laidOn (now (words .entry)) (wordsOf (clausesOf (now (circuit .entry)) fault n)) ⌝ }
 {
     let a = put_goods(circuit, n, words, 0);

@@ -13,7 +13,7 @@ use Rattle.ground.specs.Choose.{choose}
 use Rattle.gates.specs.Gate.{lastKind}
 use Rattle.cnf.specs.Cnf.{wordsOf}
 use Rattle.cnf.specs.Table.{clauseTable, gateClauses, sites}
-use Rattle.cnf.specs.Write.{signed, byShape, shapeWords, isOneOf, gateWords}
+use Rattle.cnf.specs.Owed.{signed, byShape, shapeWords, isOneOf, gateWords}
 use Rattle.cnf.proofs.Gate.{no-clauses}
 
 -- the words of a gate, where t says whether y is negated, and u whether a and b are

@@ -9,7 +9,7 @@ use mir.Syntax.{w32}
 use mir.Val.{SFits, toZ, ofZ}
 use mir.Facts.{toZ-ofZ, toZ-pos}
 use Rattle.ground.specs.Choose.{choose}
-use Rattle.cnf.specs.Write.{Variable, signed}
+use Rattle.cnf.specs.Owed.{Variable, signed}
 
 module _ (v : ℕ) (h : Variable v) where
   pub plus-is : toZ w32 v ≡ pos v

@@ -17,7 +17,7 @@ use Rattle.gates.specs.Gate.{lastKind}
 use Rattle.cnf.specs.declared.Size.{Size}
 use Rattle.cnf.specs.Cnf.{Clauses, wordsOf}
 use Rattle.cnf.specs.Table.{clauseTable, wordOf, gateClauses}
-use Rattle.cnf.specs.Write.{byShape, sizeOf, Takes}
+use Rattle.cnf.specs.Owed.{byShape, sizeOf, Takes}
 
 pub words-length : (clauses : Clauses) → length (wordsOf clauses) ≡ sizeOf clauses
 words-length [] = refl

@@ -1,4 +1,4 @@
 pub mod Lists
 pub mod Cnf
 pub mod Table
-pub mod Write
+pub mod Owed

@@ -6,7 +6,7 @@ ghost use lib.ListN.{length};
 ghost use Rattle.gates.specs.Gate.{lastKind};
 ghost use Rattle.cnf.specs.Table.{clauseTable, sites};
 ghost use Rattle.ground.specs.Put.{Put};
-ghost use Rattle.cnf.specs.Write.{Variable, signed, single, pair, triple, bufferWords, andWords, xorWords, byShape, shapeWords, isOneOf, gateWords, GateRoom, Takes};
+ghost use Rattle.cnf.specs.Owed.{Variable, signed, single, pair, triple, bufferWords, andWords, xorWords, byShape, shapeWords, isOneOf, gateWords, GateClausesReady, Takes};
 
 // What some clauses take: words, the closing 0s included, and clauses.
 pub struct Size {
@@ -156,7 +156,7 @@ fn is_one_of(kind: u8, a: u8, b: u8, c: u8) -> bool
 // The clauses of a gate of this kind, with variable y, whose pins read the variables a and b. NAND, OR and XNOR negate y,
 // and NOT, OR and NOR negate a and b, so that three shapes serve the eight kinds.
 pub fn put_gate(words: &mut [i32], at: usize, kind: u8, y: usize, a: usize, b: usize) -> usize
-    requires { ⌜ GateRoom (now words) at kind y a b ⌝ }
+    requires { ⌜ GateClausesReady (now words) at kind y a b ⌝ }
     ensures { λ r. ⌜ Put (now (words .entry)) (now (words .exit)) at (gateWords kind (sites y a b)) r ⌝ }
 {
     if kind == 0 {

@@ -17,7 +17,7 @@ use Rattle.records.specs.Net.{gatesOf, pinOf}
 use Rattle.bench.specs.Text.{formsIn, defsIn, usesIn, netIn}
 use Rattle.equations.specs.Right.{Line, ReadsFrom, TextWay, last, then, TextCycle}
 use Rattle.equations.specs.Numbers.{nameOf, numberFor}
-use Rattle.equations.proofs.Tables.{Nth, counted, gates-are, gate-line, pin-get}
+use Rattle.equations.proofs.Tables.{NthLine, counted, gates-are, gate-line, pin-get}
 use Rattle.equations.proofs.SameMeaning.{name-of-gate, name-of-pin, number-of-gate}
 
 module _ (t : List ℕ) where
@@ -61,7 +61,7 @@ module _ (t : List ℕ) where
 
     -- ---- and back
 
-    text-reads : {g x : ℕ} (n : Nth saysGate t g) (m : Nth saysGate t x) → Source g x → ReadsFrom t (n .place) (m .place)
+    text-reads : {g x : ℕ} (n : NthLine saysGate t g) (m : NthLine saysGate t x) → Source g x → ReadsFrom t (n .place) (m .place)
     text-reads {g} {x} n m r =
         let p = source-pin g x r in
         let e : pinOf (netIn t) (gatesTo (formsIn t) (n .place)) (p .0) ≡ gatesTo (formsIn t) (m .place) =
@@ -72,7 +72,7 @@ module _ (t : List ℕ) where
           is = sym (name-of-pin t none (n .line) (p .0)) ∙ ap (nameOf t) e ∙ name-of-gate t none (m .line);
         }
 
-    text-way : {g x : ℕ} (n : Nth saysGate t g) (m : Nth saysGate t x) → NetWay g x → TextWay t (n .place) (m .place)
+    text-way : {g x : ℕ} (n : NthLine saysGate t g) (m : NthLine saysGate t x) → NetWay g x → TextWay t (n .place) (m .place)
     text-way n m (order.last r) = last (text-reads n m r)
     text-way n m (order.then r w) = let o = gate-line t (r .gate) in then (text-reads n o r) (text-way o m w)
 

@@ -61,7 +61,7 @@ module _ (t : List ℕ) (f : Formed t) (none : refusal (nameRules t (defsIn t) (
   -- ---- where one can't be
 
   abbrev NetLeft : ℕ → Type 0
-  NetLeft g = order.FirstLeft (netIn t .firsts) (netIn t .seconds) 16 g
+  NetLeft g = order.LowestLeft (netIn t .firsts) (netIn t .seconds) 16 g
 
   pub text-left : (g : ℕ) → NetLeft g → FirstLeft t g
   text-left g e =

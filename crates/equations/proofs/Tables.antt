@@ -38,16 +38,16 @@ abbrev pub placeOf : (List ℕ → ℕ → Bool) → List ℕ → ℕ → ℕ
 placeOf test t k = countBelow k (test (formsIn t))
 
 -- f of each line that passes
-abbrev pub tableOf : (List ℕ → ℕ → Bool) → List ℕ → (ℕ → ℕ) → List ℕ
-tableOf test t f = collect (test (formsIn t)) f (linesIn t)
+abbrev pub textTable : (List ℕ → ℕ → Bool) → List ℕ → (ℕ → ℕ) → List ℕ
+textTable test t f = collect (test (formsIn t)) f (linesIn t)
 
 -- the line of entry j
-pub record Nth (test : List ℕ → ℕ → Bool) (t : List ℕ) (j : ℕ) : Type 0 where
+pub record NthLine (test : List ℕ → ℕ → Bool) (t : List ℕ) (j : ℕ) : Type 0 where
   pub place : ℕ
   pub line : Line test t place
   pub before : placeOf test t place ≡ j
 
-pub nth : (test : List ℕ → ℕ → Bool) (t : List ℕ) {j : ℕ} → j < placeOf test t (linesIn t) → Nth test t j
+pub nth : (test : List ℕ → ℕ → Bool) (t : List ℕ) {j : ℕ} → j < placeOf test t (linesIn t) → NthLine test t j
 nth test t {j} l =
     let w = counting.nth (test (formsIn t)) (linesIn t) j l in
     record { place = w .place; line = record { inside = w .below; passes = w .passes }; before = w .before }
@@ -61,15 +61,15 @@ module _ {test : List ℕ → ℕ → Bool} {t : List ℕ} {k : ℕ} (l : Line t
   counted = count-below (test (formsIn t)) k (linesIn t) (l .inside) (l .passes)
 
   module _ (f : ℕ → ℕ) where
-    pub get : getD (tableOf test t f) (placeOf test t k) 0 ≡ f k
+    pub get : getD (textTable test t f) (placeOf test t k) 0 ≡ f k
     get = collect-get (test (formsIn t)) f (linesIn t) k (l .inside) (l .passes)
 
-    pub get-inside : placeOf test t k < length (tableOf test t f)
+    pub get-inside : placeOf test t k < length (textTable test t f)
     get-inside = omega (arith, counted, collect-length (test (formsIn t)) f (linesIn t))
 
-    pub get-number : getD (map (numberIn t) (tableOf test t f)) (placeOf test t k) 0 ≡ numberFor t (wordAt t (f k))
+    pub get-number : getD (map (numberIn t) (textTable test t f)) (placeOf test t k) 0 ≡ numberFor t (wordAt t (f k))
     unfolding numberFor names.nameNumber
-    get-number = map-get (numberIn t) (tableOf test t f) (placeOf test t k) get-inside ∙ ap (numberIn t) get
+    get-number = map-get (numberIn t) (textTable test t f) (placeOf test t k) get-inside ∙ ap (numberIn t) get
 
 -- ---- the tables of the net
 
@@ -87,13 +87,13 @@ module _ (t : List ℕ) where
   outputs-are = length-map (outsIn t) (numberIn t) ∙ outs-length (wordsIn t) (endsIn t) (formsIn t)
 
 -- the line of a gate, of an input, of an output
-pub gate-line : (t : List ℕ) {g : ℕ} → g < gatesOf (netIn t) → Nth saysGate t g
+pub gate-line : (t : List ℕ) {g : ℕ} → g < gatesOf (netIn t) → NthLine saysGate t g
 gate-line t l = nth saysGate t (omega (arith, gates-are t))
 
-pub input-line : (t : List ℕ) {j : ℕ} → j < netIn t .inputs → Nth saysInput t j
+pub input-line : (t : List ℕ) {j : ℕ} → j < netIn t .inputs → NthLine saysInput t j
 input-line t l = nth saysInput t (omega (arith, inputs-are t))
 
-pub output-line : (t : List ℕ) {i : ℕ} → i < length (netIn t .outputs) → Nth saysOutput t i
+pub output-line : (t : List ℕ) {i : ℕ} → i < length (netIn t .outputs) → NthLine saysOutput t i
 output-line t l = nth saysOutput t (omega (arith, outputs-are t))
 
 module _ {t : List ℕ} {k : ℕ} where

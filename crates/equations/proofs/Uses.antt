@@ -20,32 +20,32 @@ use Rattle.bench.specs.Text.{formsIn, defsIn, outsIn, firstsIn, secondsIn, uses
 use Rattle.shape.specs.Shape.{wordOn}
 use Rattle.equations.specs.Meaning.{linesIn, sourceOn}
 use Rattle.equations.specs.Right.{Line, Defines}
-use Rattle.equations.proofs.Tables.{placeOf, tableOf, Nth, nth, get, get-inside, def-get}
+use Rattle.equations.proofs.Tables.{placeOf, textTable, NthLine, nth, get, get-inside, def-get}
 
 -- ---- what is collected stands in the table, and what stands in the table is collected
 
-collected : {test : List ℕ → ℕ → Bool} {t : List ℕ} {k : ℕ} → Line test t k → (f : ℕ → ℕ) → elem (tableOf test t f) (f k) ≡ true
-collected {test} {t} {k} l f = rw (← get l f) (elem-at (tableOf test t f) (placeOf test t k) (get-inside l f))
+collected : {test : List ℕ → ℕ → Bool} {t : List ℕ} {k : ℕ} → Line test t k → (f : ℕ → ℕ) → elem (textTable test t f) (f k) ≡ true
+collected {test} {t} {k} l f = rw (← get l f) (elem-at (textTable test t f) (placeOf test t k) (get-inside l f))
 
 record Entry (test : List ℕ → ℕ → Bool) (t : List ℕ) (f : ℕ → ℕ) (x : ℕ) : Type 0 where
   place : ℕ
   line : Line test t place
   is : f place ≡ x
 
-entry : (test : List ℕ → ℕ → Bool) (t : List ℕ) (f : ℕ → ℕ) (x : ℕ) → elem (tableOf test t f) x ≡ true → Entry test t f x
+entry : (test : List ℕ → ℕ → Bool) (t : List ℕ) (f : ℕ → ℕ) (x : ℕ) → elem (textTable test t f) x ≡ true → Entry test t f x
 entry test t f x e =
-    let p = elem-place (tableOf test t f) x e in
+    let p = elem-place (textTable test t f) x e in
     let n = nth test t {j = p .0} (omega (arith, p .1, collect-length (test (formsIn t)) f (linesIn t))) in
-    record { place = n .place; line = n .line; is = sym (get (n .line) f) ∙ ap (λ (j : ℕ). getD (tableOf test t f) j 0) (n .before) ∙ p .2 }
+    record { place = n .place; line = n .line; is = sym (get (n .line) f) ∙ ap (λ (j : ℕ). getD (textTable test t f) j 0) (n .before) ∙ p .2 }
 
 -- ---- definitions
 
 module _ (t : List ℕ) where
-  pub def-line : (d : ℕ) → d < length (defsIn t) → Nth defines t d
+  pub def-line : (d : ℕ) → d < length (defsIn t) → NthLine defines t d
   unfolding defsOf
   def-line d l = nth defines t (omega (arith, collect-length (defines (formsIn t)) (definedAt (wordsIn t) (endsIn t) (formsIn t)) (linesIn t)))
 
-  pub def-defines : {d : ℕ} (n : Nth defines t d) {w : List ℕ} → wordAt t (getD (defsIn t) d 0) ≡ w → Defines t (n .place) w
+  pub def-defines : {d : ℕ} (n : NthLine defines t d) {w : List ℕ} → wordAt t (getD (defsIn t) d 0) ≡ w → Defines t (n .place) w
   def-defines n e = record { line = n .line; is = sym (def-get (n .line)) ∙ ap (λ (d : ℕ). wordAt t (getD (defsIn t) d 0)) (n .before) ∙ e }
 
 -- ---- uses

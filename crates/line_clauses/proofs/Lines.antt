@@ -14,7 +14,7 @@ use Rattle.lists.specs.declared.Fault.{Fault}
 use Rattle.cnf.specs.Cnf.{Clauses, wordsOf}
 use Rattle.cnf.specs.Table.{gateClauses, sites}
 use Rattle.ground.specs.Put.{Put}
-use Rattle.cnf.specs.Write.{Variable, GateRoom}
+use Rattle.cnf.specs.Owed.{Variable, GateClausesReady}
 use Rattle.ground.proofs.Put.{put-as}
 use Rattle.cnf.proofs.Gate.{gate-sites, no-clauses}
 use Rattle.lists.specs.Faults.{isAt}
@@ -94,7 +94,7 @@ pub gate-room : {cs : Clauses} (kind y a b : ℕ) → cs ≡ gateClauses kind (s
     → y ≤ 8192
     → a ≤ 8192
     → b ≤ 8192
-    → GateRoom w at kind y a b
+    → GateClausesReady w at kind y a b
 gate-room kind y a b e r last p q s = record { kind-last = last; own = variable p; first = variable q; second = variable s; room = rw e at r }
 
 pub put-line : {cs u : Clauses} → cs ≡ u → {w w′ : List ℤ} {at next : ℕ} → Put w w′ at (wordsOf u) next → Put w w′ at (wordsOf cs) next

@@ -13,7 +13,7 @@ use Rattle.lists.specs.declared.Fault.{Fault}
 use Rattle.cnf.specs.declared.Size.{Size}
 use Rattle.cnf.specs.Cnf.{Clauses}
 use Rattle.cnf.specs.Table.{clauseTable, gateClauses}
-use Rattle.cnf.specs.Write.{sizeOf, Takes}
+use Rattle.cnf.specs.Owed.{sizeOf, Takes}
 use Rattle.cnf.proofs.Sizes.{size-append, gate-size, gate-length, few}
 use Rattle.lists.specs.Faults.{isAt}
 use Rattle.line_clauses.specs.Clauses.{faultySite, goodVar, faultyVar, stuckVar, bufferClauses, goodClauses, faultyClauses}

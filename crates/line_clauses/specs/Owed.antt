@@ -11,7 +11,7 @@ use Rattle.circuit.specs.Formed.{Good}
 use Rattle.lists.specs.declared.Fault.{Fault}
 use Rattle.cnf.specs.declared.Size.{Size}
 use Rattle.cnf.specs.Cnf.{Clauses, wordsOf}
-use Rattle.cnf.specs.Write.{Takes}
+use Rattle.cnf.specs.Owed.{Takes}
 use Rattle.lists.specs.Faults.{isAt}
 use Rattle.line_clauses.specs.Clauses.{goodClauses, faultyClauses, differenceClauses}
 
@@ -46,12 +46,12 @@ pub record LineSizeDone (c : List ℕ) (f : Fault) (n k : ℕ) (r : Size) : Type
 
 -- ---- room from `at` on
 
-pub record LineRoom (c : List ℕ) (n k : ℕ) (cs : Clauses) (w : List ℤ) (at : ℕ) : Type 0 where
+pub record LineClausesReady (c : List ℕ) (n k : ℕ) (cs : Clauses) (w : List ℤ) (at : ℕ) : Type 0 where
   pub line : LineReady c n k
   pub room : at + length (wordsOf cs) ≤ length w
 
 -- for the difference at line k, below which j outputs stand
-pub record DifferenceRoom (c : List ℕ) (n k j : ℕ) (w : List ℤ) (at : ℕ) : Type 0 where
-  pub own : LineRoom c n k (differenceClauses c n k) w at
+pub record DifferenceReady (c : List ℕ) (n k j : ℕ) (w : List ℤ) (at : ℕ) : Type 0 where
+  pub own : LineClausesReady c n k (differenceClauses c n k) w at
   pub below : j ≡ outputsBefore c k
   pub few : j ≤ n

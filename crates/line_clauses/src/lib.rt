@@ -12,7 +12,7 @@ ghost use Rattle.cnf.specs.Cnf.{wordsOf};
 ghost use Rattle.ground.specs.Put.{Put};
 ghost use Rattle.lists.specs.Faults.{isAt};
 ghost use Rattle.line_clauses.specs.Clauses.{faultySite, goodClauses, faultyClauses, differenceClauses};
-ghost use Rattle.line_clauses.specs.Owed.{LineReady, GateReady, faultyKind, LineSizeDone, LineRoom, DifferenceRoom};
+ghost use Rattle.line_clauses.specs.Owed.{LineReady, GateReady, faultyKind, LineSizeDone, LineClausesReady, DifferenceReady};
 
 // The fault is at site s of line k.
 fn is_at(fault: Fault, k: usize, s: u8) -> bool
@@ -54,7 +54,7 @@ pub fn line_size(circuit: &[u8], fault: Fault, n: usize, k: usize) -> Size
 
 // The good line k.
 pub fn put_good(circuit: &[u8], n: usize, k: usize, words: &mut [i32], at: usize) -> usize
-    requires { ⌜ LineRoom (now circuit) n k (goodClauses (now circuit) k) (now words) at ⌝ }
+    requires { ⌜ LineClausesReady (now circuit) n k (goodClauses (now circuit) k) (now words) at ⌝ }
     ensures { λ r. ⌜ Put (now (words .entry)) (now (words .exit)) at (wordsOf (goodClauses (now (circuit .entry)) k)) r ⌝ }
 {
     let kind = circuit[8 * k];
@@ -86,7 +86,7 @@ pub fn put_faulty(
     words: &mut [i32],
     at: usize,
 ) -> usize
-    requires { ⌜ LineRoom (now circuit) n k (faultyClauses (now circuit) fault n k) (now words) at ⌝ }
+    requires { ⌜ LineClausesReady (now circuit) n k (faultyClauses (now circuit) fault n k) (now words) at ⌝ }
     ensures { λ r. ⌜ Put (now (words .entry)) (now (words .exit)) at (wordsOf (faultyClauses (now (circuit .entry)) fault n k)) r ⌝ }
 {
     if is_at(fault, k, 0) {
@@ -110,7 +110,7 @@ pub fn put_difference(
     words: &mut [i32],
     at: usize,
 ) -> usize
-    requires { ⌜ DifferenceRoom (now circuit) n k j (now words) at ⌝ }
+    requires { ⌜ DifferenceReady (now circuit) n k j (now words) at ⌝ }
     ensures { λ r. ⌜ Put (now (words .entry)) (now (words .exit)) at (wordsOf (differenceClauses (now (circuit .entry)) n k)) r ⌝ }
 {
     if circuit[8 * k + 1] != 1 {

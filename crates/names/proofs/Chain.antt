@@ -19,18 +19,18 @@ same-hash : (t defs w : List ℕ) (h : ℕ) → h ≡ hashFrom 0 w → (d : ℕ)
 same-hash t defs w h e d s = eq-eqb (hash-of t defs d) h (ap (hashFrom 0) (same-eq (wordAt t (getD defs d 0)) w s) ∙ sym e)
 
 -- at p, what is left to look at are the definitions below `upto`
-pub record Walk (t defs w : List ℕ) (n h p : ℕ) : Type 0 where
+pub record ChainWalk (t defs w : List ℕ) (n h p : ℕ) : Type 0 where
   pub upto : ℕ
   pub known : upto ≤ n
   pub hash : h ≡ hashFrom 0 w
   pub at : p ≡ lastWith (hashed t defs h) upto
   pub left : definition t defs n w ≡ lastWith (named t defs w) upto
 
-pub start : {t defs w head next : List ℕ} {n h p : ℕ} → Table t defs head next n → h ≡ hashFrom 0 w → h < 8192 → p ≡ getD head h 0 → Walk t defs w n h p
+pub start : {t defs w head next : List ℕ} {n h p : ℕ} → Table t defs head next n → h ≡ hashFrom 0 w → h < 8192 → p ≡ getD head h 0 → ChainWalk t defs w n h p
 unfolding definition
 start {n = n} {h = h} T e l q = record { upto = n; known = omega arith; hash = e; at = q ∙ T .first h l; left = refl }
 
-module _ {t defs w : List ℕ} {n h p : ℕ} (k : Walk t defs w n h p) where
+module _ {t defs w : List ℕ} {n h p : ℕ} (k : ChainWalk t defs w n h p) where
   pub ended : p ≤ 0 → 0 ≡ definition t defs n w
   ended z = sym (k .left ∙ skip-none (named t defs w) (hashed t defs h) (same-hash t defs w h (k .hash)) (k .upto) (sym (k .at) ∙ omega arith))
 
@@ -49,7 +49,7 @@ module _ {t defs w : List ℕ} {n h p : ℕ} (k : Walk t defs w n h p) where
     hit e = sym (skipped ∙ ap (λ (b : Bool). choose b (suc (p - 1)) (lastWith (named t defs w) (p - 1))) e ∙ omega arith)
 
     module _ {head next : List ℕ} (T : Table t defs head next n) where
-      pub more : (p′ : ℕ) → named t defs w (p - 1) ≡ false → p′ ≡ getD next (p - 1) 0 → Walk t defs w n h p′
+      pub more : (p′ : ℕ) → named t defs w (p - 1) ≡ false → p′ ≡ getD next (p - 1) 0 → ChainWalk t defs w n h p′
       more p′ e q = record {
         upto = p - 1;
         known = let i = inside in omega arith;

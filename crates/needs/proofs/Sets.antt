@@ -9,17 +9,17 @@ use Rattle.needs.specs.Needs.{Patterns, whole, detects, apart, lacks, me
 use Rattle.needs.specs.Words.{Detected, Apart, Meets}
 use Rattle.needs.proofs.Words.{detects-is, is-detects, apart-is, is-apart, meets-is, is-meets}
 
-abbrev pub Within : ℕ → Patterns → Patterns → Type 0
-Within P K L = (p : ℕ) → p < P → K p ≡ true → L p ≡ true
+abbrev pub WithinSet : ℕ → Patterns → Patterns → Type 0
+WithinSet P K L = (p : ℕ) → p < P → K p ≡ true → L p ≡ true
 
 module _ (E : Entries) (F P : ℕ) where
-  pub detected-within : {K L : Patterns} → Within P K L → {f : ℕ} → Detected E P K f → Detected E P L f
+  pub detected-within : {K L : Patterns} → WithinSet P K L → {f : ℕ} → Detected E P K f → Detected E P L f
   detected-within in-it w = (w .0, w .1, in-it (w .0) (w .1) (w .2), w .3)
 
-  pub apart-within : {K L : Patterns} → Within P K L → {f g : ℕ} → Apart E P K f g → Apart E P L f g
+  pub apart-within : {K L : Patterns} → WithinSet P K L → {f g : ℕ} → Apart E P K f g → Apart E P L f g
   apart-within in-it w = (w .0, w .1, in-it (w .0) (w .1) (w .2), w .3)
 
-  pub meets-within : {K L : Patterns} → Within P K L → Meets E F P K → Meets E F P L
+  pub meets-within : {K L : Patterns} → WithinSet P K L → Meets E F P K → Meets E F P L
   meets-within in-it h = record {
     faults = λ f l d. detected-within in-it (h .faults f l d);
     pairs = λ f g l k d b w. apart-within in-it (h .pairs f g l k d b w);

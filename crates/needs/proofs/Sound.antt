@@ -17,7 +17,7 @@ use Rattle.tables.specs.Entries.{Entries}
 use Rattle.needs.specs.Needs.{Patterns, whole, lacks, kept, compacted}
 use Rattle.needs.specs.Words.{Detected, Meets, others, LastToFirst, Sound}
 use Rattle.needs.proofs.Words.{meets-is, is-meets}
-use Rattle.needs.proofs.Sets.{Within, meets-within, lacks-same, whole-meets, nothing-detected}
+use Rattle.needs.proofs.Sets.{WithinSet, meets-within, lacks-same, whole-meets, nothing-detected}
 use Rattle.needs.proofs.Turns.{not-kept, kept-other, turns-length, turns-meet, turns-mark}
 
 -- ---- a mark by the words and by the test
@@ -85,7 +85,7 @@ module _ (E : Entries) (F P : ℕ) where
   -- ---- the set that is left
 
   -- no kept pattern can be spared: what is left without it was still in the set at its turn
-  spared-within : (m : List ℕ) (p : ℕ) → Within P (kept (set m p 0)) (others m p)
+  spared-within : (m : List ℕ) (p : ℕ) → WithinSet P (kept (set m p 0)) (others m p)
   spared-within m p q l e = go (decLt q p) (ℕ-discrete q p)
     where
       go : Dec (q < p) → Dec (q ≡ p) → others m p q ≡ true

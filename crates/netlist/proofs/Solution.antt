@@ -16,10 +16,10 @@ use Rattle.netlist.proofs.Numbers.{number-gate, line-input, line-gate, 
 use Rattle.netlist.proofs.Sources.{kind-gate, source-has, pin-inside, pin-before}
 use Rattle.netlist.proofs.Fields.{net-kind, net-pin}
 use Rattle.netlist.proofs.Counts.{input-line, inputs-before, gate-line}
-use Rattle.netlist.proofs.Follows.{Own, Follows}
+use Rattle.netlist.proofs.Follows.{Own, FollowsGates}
 
 module _ {A : Type 0} {gate : ℕ → (ℕ → A) → A} (own : Own gate) {net : Net} (r : Right net) (few : netSize net ≤ 65536)
-    {inputs value : ℕ → A} (follows : Follows gate (recordsOf net) (netSize net) inputs value) where
+    {inputs value : ℕ → A} (follows : FollowsGates gate (recordsOf net) (netSize net) inputs value) where
   on-input : (j : ℕ) → j < net .inputs → value j ≡ inputs j
   on-input j l = follows .at-input j (omega arith) (input-line net j l) ∙ ap inputs (inputs-before net j l)
 

@@ -13,14 +13,14 @@ use Rattle.simulate.specs.Boolean.{Vector, good, gateTruth, lineTruth, truthAt}
 use Rattle.records.specs.Net.{Net, netSize, netLine, recordsOf}
 use Rattle.netlist.specs.Solved.{Solved, Right}
 use Rattle.netlist.proofs.KeepsLayout.{net-layout}
-use Rattle.netlist.proofs.Follows.{Follows, follows}
+use Rattle.netlist.proofs.Follows.{FollowsGates, follows}
 use Rattle.netlist.proofs.Solution.{solution, unique}
 
 module _ (net : Net) (r : Right net) (few : netSize net ≤ 65536) where
   -- ---- three values
 
   module _ (p : List ℕ) where
-    values-follow : Follows gateOf (recordsOf net) (netSize net) (λ j. getD p j 0) (λ k. getD (valuesTo unforced (recordsOf net) p (netSize net)) k 0)
+    values-follow : FollowsGates gateOf (recordsOf net) (netSize net) (λ j. getD p j 0) (λ k. getD (valuesTo unforced (recordsOf net) p (netSize net)) k 0)
     unfolding lineValue gateValue
     values-follow = follows gateOf (recordsOf net) (λ j. getD p j 0) 0 (λ kind v w _ _. gate-same kind v w) (netSize net) (net-layout net r few)
 
@@ -34,7 +34,7 @@ module _ (net : Net) (r : Right net) (few : netSize net ≤ 65536) where
   -- ---- Booleans
 
   module _ (v : Vector) where
-    truths-follow : Follows boolGate (recordsOf net) (netSize net) v (truthAt good (recordsOf net) v (netSize net))
+    truths-follow : FollowsGates boolGate (recordsOf net) (netSize net) v (truthAt good (recordsOf net) v (netSize net))
     unfolding lineTruth gateTruth
     truths-follow = follows boolGate (recordsOf net) v false bool-same (netSize net) (net-layout net r few)
 

@@ -16,7 +16,7 @@ use Rattle.circuit.specs.Formed.{Accepts}
 use Rattle.nets.specs.declared.Read.{Read}
 use Rattle.nets.specs.declared.Read.the-variants.{Records, Refused}
 use Rattle.nets.specs.Rules.{bufferRules}
-use Rattle.nets.specs.Owed.{ReadDone, LayReady}
+use Rattle.nets.specs.Owed.{ReadDone, LayRoom}
 
 module _ {records c : List ℕ} where
   -- a refusal ends it; where there is none, the rules after it decide
@@ -31,7 +31,7 @@ module _ {records c : List ℕ} where
   unfolding bufferRules refusal said
   other-size n = let q : eqb (length c) 16384 ≡ false = ne-eqb (length c) 16384 n in record { answer = rw q; circuit = rw q }
 
-  pub laid : {c′ : List ℕ} {n : ℕ} → length c ≡ 16384 → LayReady records n → c′ ≡ take (length records) records ++ drop (length records) c
+  pub laid : {c′ : List ℕ} {n : ℕ} → length c ≡ 16384 → LayRoom records n → c′ ≡ take (length records) records ++ drop (length records) c
       → ReadDone (bufferRules (length c)) records c c′ (Records n)
   unfolding bufferRules refusal said
   laid e w p =
@@ -39,5 +39,5 @@ module _ {records c : List ℕ} where
       record { answer = rw (q, w .lines); circuit = rw q (p ∙ ap (λ (l : List ℕ). l ++ drop (length records) c) (take-length records)) }
 
 -- records that the check accepts
-pub whole : {records : List ℕ} {n m o : ℕ} → Accepts records n m o → LayReady records n
+pub whole : {records : List ℕ} {n m o : ℕ} → Accepts records n m o → LayRoom records n
 whole {records} a = record { lines = a .lines; fits = omega (arith, a .good .well .size, a .good .most-lines) }

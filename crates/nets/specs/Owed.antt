@@ -29,7 +29,7 @@ abbrev pub NetDone : Net → List ℕ → List ℕ → Read → Type 0
 NetDone net c c′ r = ReadDone (netRules net (length c)) (recordsOf net) c c′ r
 
 -- so many records, no more than a circuit may have
-pub record LayReady (records : List ℕ) (n : ℕ) : Type 0 where
+pub record LayRoom (records : List ℕ) (n : ℕ) : Type 0 where
   pub lines : n ≡ linesOf records
   pub fits : length records ≤ 16384
 

@@ -11,7 +11,7 @@ ghost use lib.ListN.{length};
 ghost use Rattle.records.specs.Net.{recordsOf};
 ghost use Rattle.records.specs.Owed.{netOf, PutRecordsReady};
 ghost use Rattle.nets.specs.Rules.{bufferRules};
-ghost use Rattle.nets.specs.Owed.{ReadDone, RecordsDone, NetDone, NamesDone, LayReady, ReadOrderReady, ReadNetReady, ReadNamesReady, namedOf};
+ghost use Rattle.nets.specs.Owed.{ReadDone, RecordsDone, NetDone, NamesDone, LayRoom, ReadOrderReady, ReadNetReady, ReadNamesReady, namedOf};
 
 // What the reader answers.
 pub enum Read {
@@ -25,7 +25,7 @@ pub enum Read {
 
 // Refusal 10, or the records in the buffer.
 fn lay(records: &[u8], n: usize, circuit: &mut [u8]) -> Read
-    requires { ⌜ LayReady (now records) n ⌝ }
+    requires { ⌜ LayRoom (now records) n ⌝ }
     ensures { λ r. ⌜ ReadDone (bufferRules (length (now (circuit .entry)))) (now (records .entry)) (now (circuit .entry)) (now (circuit .exit)) r ⌝ }
 {
     if circuit.len() != 16384 {

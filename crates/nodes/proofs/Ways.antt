@@ -13,7 +13,7 @@ use Rattle.nodes.specs.Node.{Node, FirstX}
 use Rattle.nodes.specs.Order.{Look, nodes, upto, trail, found, testIn, testOf, lastOr}
 use Rattle.nodes.specs.Budget.{nodesOf, memoryIn, memoryOf, testBy}
 use Rattle.nodes.specs.Owed.{NodeLeft, SideDone}
-use Rattle.nodes.proofs.Verdicts.{Counted, Says, says, said, within}
+use Rattle.nodes.proofs.Verdicts.{VerdictCounted, VerdictSays, says, said, within}
 use Rattle.nodes.proofs.Memory.{leaves, leaves-none, leaves-next, leaves-first, leaves-second}
 use Rattle.nodes.proofs.Trail.{Trail, some-node, fail-trail, left-trail, side, sides-trail, first-trail, second-trail}
 
@@ -28,7 +28,7 @@ test-by look s s′ (Redundant k) t e = refl
 test-by look s s′ (GivenUp k) t e = refl
 
 module _ {look : Look} {after : Node → List ℕ} {b : ℕ} {s : Node} {w : List ℕ} {r : Verdict} {s′ : Node} {w′ : List ℕ} (f : SideDone look after b s w r s′ w′) where
-  told : Says look b (nodes look s) r
+  told : VerdictSays look b (nodes look s) r
   told = says look b (nodes look s) (f .verdict)
 
   -- the same from an equal node
@@ -119,7 +119,7 @@ module _ {look : Look} {after : Node → List ℕ} {b : ℕ} {s : Node} {at m : 
   both-length = omega (arith, told f .count, simp length-append at (ap length (both .looked)))
 
   -- the count of the second side is within what is left of the budget, so the whole count is within the budget
-  both-counted : {fails : Bool} {k : ℕ} → Counted look (b - 1 - m) (side look s at 1) fails k → Counted look b (nodes look s) fails (1 + m + k)
+  both-counted : {fails : Bool} {k : ℕ} → VerdictCounted look (b - 1 - m) (side look s at 1) fails k → VerdictCounted look b (nodes look s) fails (1 + m + k)
   both-counted p = record {
     most = omega (arith, p .most, fits f, o .more);
     fails-is = both .fails-is ∙ p .fails-is;

@@ -22,7 +22,7 @@ use Rattle.answers.specs.declared.Ruling.the-variants.{Fine, Refused}
 use Rattle.order.specs.Order.{there, ready, orderOf, Order, Placed, Source, Way, last, then, Cycle, cycleRules}
 use Rattle.order.proofs.Gates.{count-snoc, sources-placed}
 use Rattle.order.proofs.Unique.{order-placed}
-use Rattle.order.proofs.Says.{FirstLeft, gate-says, all-placed, refused-left}
+use Rattle.order.proofs.Says.{LowestLeft, gate-says, all-placed, refused-left}
 
 -- ---- from a gate that is placed every way leads to gates placed before it
 
@@ -118,7 +118,7 @@ module _ (a b : List ℕ) where
   pub refused-cycle : {m k : ℕ} → refusal (cycleRules a b) ≡ Refused m k → Cycle a b
   refused-cycle {m} {k} e = left-cycle a b (orderOf a b) (order-placed a b) k (w .inside) (go (elem (orderOf a b) k) refl)
     where
-      w : FirstLeft a b m k
+      w : LowestLeft a b m k
       w = refused-left a b e
 
       go : (t : Bool) → elem (orderOf a b) k ≡ t → t ≡ false

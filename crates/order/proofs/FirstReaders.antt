@@ -11,21 +11,21 @@ use lib.Seq.{getD-set-same, getD-set-other}
 use Rattle.order.specs.Owed.{Back}
 
 -- right for the gates from h on
-pub record From (a b reader : List ℕ) (h : ℕ) : Type 0 where
+pub record ReadersFrom (a b reader : List ℕ) (h : ℕ) : Type 0 where
   pub long : length reader ≡ length a
   pub back : (k g : ℕ) → h ≤ k → k < length a → (getD a k 0 ≡ g) ⊎ (getD b k 0 ≡ g) → g < length a → getD reader g 0 ≤ k
 
-pub start : {a b reader : List ℕ} → length reader ≡ length a → From a b reader (length a)
+pub start : {a b reader : List ℕ} → length reader ≡ length a → ReadersFrom a b reader (length a)
 start e = record { long = e; back = λ k g l h s j. absurd (omega arith) }
 
-pub finished : {a b reader : List ℕ} {h : ℕ} → From a b reader h → h ≤ 0 → Back a b reader
+pub finished : {a b reader : List ℕ} {h : ℕ} → ReadersFrom a b reader h → h ≤ 0 → Back a b reader
 finished f z = λ k g l s j. f .back k g (omega arith) l s j
 
-module _ {a b reader : List ℕ} {h : ℕ} (f : From a b reader h) (z : 0 < h) where
+module _ {a b reader : List ℕ} {h : ℕ} (f : ReadersFrom a b reader h) (z : 0 < h) where
   i : ℕ
   i = h - 1
 
-  pub more : From a b (set (set reader (getD a (h - 1) 0) (h - 1)) (getD b (h - 1) 0) (h - 1)) (h - 1)
+  pub more : ReadersFrom a b (set (set reader (getD a (h - 1) 0) (h - 1)) (getD b (h - 1) 0) (h - 1)) (h - 1)
   unfolding i
   more = record {
     long = simp length-set (f .long);

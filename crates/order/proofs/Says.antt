@@ -17,7 +17,7 @@ use Rattle.order.proofs.Gates.{order-full, gate-inside, sources-placed,
 use Rattle.order.proofs.Unique.{order-placed, placed-in}
 
 -- refusal m at gate k: 16, and k is the first gate that can't be placed
-pub record FirstLeft (a b : List ℕ) (m k : ℕ) : Type 0 where
+pub record LowestLeft (a b : List ℕ) (m k : ℕ) : Type 0 where
   pub number : m ≡ 16
   pub inside : k < length a
   pub left : Places a b k → ⊥
@@ -62,7 +62,7 @@ module _ (a b : List ℕ) where
 
   -- ---- where something is
 
-  pub refused-left : {m k : ℕ} → refusal (cycleRules a b) ≡ Refused m k → FirstLeft a b m k
+  pub refused-left : {m k : ℕ} → refusal (cycleRules a b) ≡ Refused m k → LowestLeft a b m k
   unfolding Applies cycleRules
   refused-left {m} {k} e =
       ⊎-elim
@@ -81,7 +81,7 @@ module _ (a b : List ℕ) where
           absurd (omega (arith, low j (omega arith, λ p. false≢true (sym q ∙ gate-says j .tests p))))
 
   -- and the first gate that is left is refused
-  pub left-refused : {k : ℕ} → FirstLeft a b 16 k → refusal (cycleRules a b) ≡ Refused 16 k
+  pub left-refused : {k : ℕ} → LowestLeft a b 16 k → refusal (cycleRules a b) ≡ Refused 16 k
   unfolding Applies cycleRules
   left-refused {k} w =
       refused (cycleRules a b) cycle-says 16 k

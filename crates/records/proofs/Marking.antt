@@ -14,17 +14,17 @@ use Rattle.ground.proofs.Lists.{elem-other, elem-last}
 use Rattle.records.specs.Owed.{MarkOutputsReady, MarkOutputsDone}
 
 -- the first i outputs are marked
-pub record Marked (outs flag₀ flag : List ℕ) (i : ℕ) : Type 0 where
+pub record MarkedTo (outs flag₀ flag : List ℕ) (i : ℕ) : Type 0 where
   pub at-most : i ≤ length outs
   pub long : length flag ≡ length flag₀
   pub flags : MarkOutputsDone (take i outs) flag
 
-pub marked-none : {outs flag : List ℕ} → MarkOutputsReady outs flag → Marked outs flag flag 0
+pub marked-none : {outs flag : List ℕ} → MarkOutputsReady outs flag → MarkedTo outs flag flag 0
 unfolding elem
 marked-none u = record { at-most = omega arith; long = refl; flags = λ x l. u .unset x }
 
-module _ {outs flag₀ flag : List ℕ} {i : ℕ} (m : Marked outs flag₀ flag i) where
-  pub marked-more : i < length outs → Marked outs flag₀ (set flag (getD outs i 0) 1) (i + 1)
+module _ {outs flag₀ flag : List ℕ} {i : ℕ} (m : MarkedTo outs flag₀ flag i) where
+  pub marked-more : i < length outs → MarkedTo outs flag₀ (set flag (getD outs i 0) 1) (i + 1)
   marked-more l = record {
     at-most = omega arith;
     long = length-set flag (getD outs i 0) 1 ∙ m .long;

@@ -15,12 +15,12 @@ use Rattle.ground.specs.Lists.{elem, indexIn}
 use Rattle.records.specs.Owed.{NumberLinesDone}
 
 -- the gates from position i on have their lines
-pub record From (order : List ℕ) (inputs : ℕ) (line₀ line : List ℕ) (i : ℕ) : Type 0 where
+pub record NumberedFrom (order : List ℕ) (inputs : ℕ) (line₀ line : List ℕ) (i : ℕ) : Type 0 where
   pub at-most : i ≤ length order
   pub long : length line ≡ length line₀
   pub lines : (g : ℕ) → elem (drop i order) g ≡ true → getD line g 0 ≡ inputs + i + indexIn (drop i order) g
 
-pub from-none : (order : List ℕ) (inputs : ℕ) (line : List ℕ) → From order inputs line line (length order)
+pub from-none : (order : List ℕ) (inputs : ℕ) (line : List ℕ) → NumberedFrom order inputs line line (length order)
 unfolding elem
 from-none order inputs line = record {
   at-most = omega arith;
@@ -28,9 +28,9 @@ from-none order inputs line = record {
   lines = λ g e. absurd (false≢true (ap (λ (l : List ℕ). elem l g) (sym (drop-of-length-le order {i = length order} (omega arith))) ∙ e));
 }
 
-module _ {order : List ℕ} {inputs : ℕ} {line₀ line : List ℕ} {i : ℕ} (f : From order inputs line₀ line i) where
+module _ {order : List ℕ} {inputs : ℕ} {line₀ line : List ℕ} {i : ℕ} (f : NumberedFrom order inputs line₀ line i) where
   -- y is the gate before position i
-  pub from-more : 0 < i → {y : ℕ} → y ≡ getD order (i - 1) 0 → y < length line₀ → From order inputs line₀ (set line y (inputs + (i - 1))) (i - 1)
+  pub from-more : 0 < i → {y : ℕ} → y ≡ getD order (i - 1) 0 → y < length line₀ → NumberedFrom order inputs line₀ (set line y (inputs + (i - 1))) (i - 1)
   unfolding elem indexIn
   from-more z {y} is h = record {
     at-most = omega (arith, f .at-most);

@@ -8,7 +8,7 @@ use lib.ListN.{length, getD}
 use Rattle.order.proofs.Says.{order-inside}
 use Rattle.records.specs.Net.{Net, gatesOf, netSize, recordsOf}
 use Rattle.records.specs.Owed.{PutRecordsInReady, NumberLinesReady, NumberLinesDone, MarkOutputsReady, MarkOutputsDone, recordsBy, PutLinesReady}
-use Rattle.records.proofs.Written.{Told, lined, same-records}
+use Rattle.records.proofs.Written.{WrittenTold, lined, same-records}
 
 module _ {net : Net} {order line₀ flag₀ records : List ℕ} (m : PutRecordsInReady net order line₀ flag₀ records) where
   gate-inside : (i : ℕ) → i < length order → getD order i 0 < gatesOf net
@@ -38,7 +38,7 @@ module _ {net : Net} {order line₀ flag₀ records : List ℕ} (m : PutRecordsI
       flags = omega (arith, m .flags, m .lines);
     }
 
-    pub told : NumberLinesDone order (net .inputs) line → MarkOutputsDone (net .outputs) flag → Told net order line flag
+    pub told : NumberLinesDone order (net .inputs) line → MarkOutputsDone (net .outputs) flag → WrittenTold net order line flag
     told n o = record {
       order-is = m .fits .order-is;
       placed = m .fits .placed;
@@ -48,6 +48,6 @@ module _ {net : Net} {order line₀ flag₀ records : List ℕ} (m : PutRecordsI
       marked = o;
     }
 
-pub all-written : {net : Net} {order line flag : List ℕ} → Told net order line flag
+pub all-written : {net : Net} {order line flag : List ℕ} → WrittenTold net order line flag
     → {w : List ℕ} → w ≡ recordsBy (lined net order line flag) (net .inputs + length order) → w ≡ recordsOf net
 all-written {net} t p = p ∙ rw (t .placed) (same-records t (netSize net) (omega arith))

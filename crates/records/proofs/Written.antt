@@ -19,7 +19,7 @@ use Rattle.records.specs.Owed.{NumberLinesDone, MarkOutputsDone, lineBy,
 use Rattle.records.proofs.Stands.{record-is, input-number, input-kind, input-source, gate-number, gate-kind}
 
 -- the lines and the flags are those of the net
-pub record Told (net : Net) (order line flag : List ℕ) : Type 0 where
+pub record WrittenTold (net : Net) (order line flag : List ℕ) : Type 0 where
   pub order-is : order ≡ placedOf net
   pub placed : length order ≡ gatesOf net
   pub lines : length line ≡ gatesOf net
@@ -30,7 +30,7 @@ pub record Told (net : Net) (order line flag : List ℕ) : Type 0 where
 abbrev pub lined : Net → List ℕ → List ℕ → List ℕ → Lined
 lined net order line flag = linedOf (net .inputs) (net .kinds) (net .firsts) (net .seconds) order line flag
 
-module _ {net : Net} {order line flag : List ℕ} (t : Told net order line flag) where
+module _ {net : Net} {order line flag : List ℕ} (t : WrittenTold net order line flag) where
   -- a number is an input, or a gate that is placed
   abbrev There : ℕ → Type 0
   There x = x < gatesOf net → elem (placedOf net) x ≡ true

@@ -105,7 +105,7 @@ abbrev pub recordsBy : Lined → ℕ → List ℕ
 recordsBy l n = gather (recordBy l) n
 
 -- gate g has what is read of it
-pub record PutGateReady (kinds firsts seconds flag : List ℕ) (g : ℕ) : Type 0 where
+pub record PutGateRoom (kinds firsts seconds flag : List ℕ) (g : ℕ) : Type 0 where
   pub kind : g < length kinds
   pub first : g < length firsts
   pub second : g < length seconds
@@ -114,7 +114,7 @@ pub record PutGateReady (kinds firsts seconds flag : List ℕ) (g : ℕ) : Type 
 -- so has each gate of the order, and each input its flag
 pub record PutLinesReady (l : Lined) : Type 0 where
   pub few : lineCount l ≤ 2048
-  pub gates : (i : ℕ) → i < length (l .order) → PutGateReady (l .kinds) (l .firsts) (l .seconds) (l .flag) (getD (l .order) i 0)
+  pub gates : (i : ℕ) → i < length (l .order) → PutGateRoom (l .kinds) (l .firsts) (l .seconds) (l .flag) (getD (l .order) i 0)
   pub flags : l .inputs + length (l .line) ≤ length (l .flag)
 
 -- line k is one of the lines, and there is room for its record

@@ -11,7 +11,7 @@ ghost use Rattle.ground.specs.Put.{Put};
 ghost use Rattle.records.specs.Net.{recordsOf};
 ghost use Rattle.records.specs.Owed.{netOf, lineBy, sourceBy, recordOf, gateRecord, linedOf, recordBy, recordsBy};
 ghost use Rattle.records.specs.Owed.{PutRecordsReady, PutRecordsInReady, NumberLinesReady, NumberLinesDone};
-ghost use Rattle.records.specs.Owed.{MarkOutputsReady, MarkOutputsDone, PutGateReady, PutLinesReady, PutLineReady};
+ghost use Rattle.records.specs.Owed.{MarkOutputsReady, MarkOutputsDone, PutGateRoom, PutLinesReady, PutLineReady};
 
 // ---- the line of each gate, and a flag for each number
 
@@ -86,7 +86,7 @@ fn put_gate(
     records: &mut [u8],
     at: usize,
 ) -> usize
-    requires { ⌜ PutGateReady (now kinds) (now firsts) (now seconds) (now flag) g ⌝ }
+    requires { ⌜ PutGateRoom (now kinds) (now firsts) (now seconds) (now flag) g ⌝ }
     requires { ⌜ at + 8 ≤ length (now records) ⌝ }
     ensures { λ r. ⌜ Put (now (records .entry)) (now (records .exit)) at (gateRecord (now (kinds .entry)) (now (firsts .entry)) (now (seconds .entry)) (now (line .entry)) (now (flag .entry)) g) r ⌝ }
 {

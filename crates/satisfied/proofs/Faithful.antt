@@ -15,7 +15,7 @@ use Rattle.simulate.specs.Boolean.{Vector, good, faulty, truthAt, Detects}
 use Rattle.cnf.specs.Cnf.{Assignment, Satisfies, wordsOf}
 use Rattle.line_clauses.specs.Clauses.{goodVar, faultyVar, differenceVar, variablesOf, clausesOf}
 use Rattle.satisfied.specs.Satisfied.{Extension, SameTo, FaithfulWords}
-use Rattle.satisfied.proofs.Places.{placeOf, place-is, at-places}
+use Rattle.satisfied.proofs.Places.{clausePlace, place-is, at-places}
 use Rattle.satisfied.proofs.Columns.{one-column, same-column, truths-column}
 use Rattle.satisfied.proofs.Parts.{list-variables, list-decodes}
 use Rattle.satisfied.proofs.Models.{Models, models, extension}
@@ -40,7 +40,7 @@ unequal-differ false false e q = false≢true e
 
 -- the inputs of an assignment, as a vector
 vectorOf : List ℕ → ℕ → Assignment → Vector
-vectorOf c n σ j = σ (goodVar (placeOf (isInput c) n j))
+vectorOf c n σ j = σ (goodVar (clausePlace (isInput c) n j))
 
 module _ (c : List ℕ) (f : Fault) {m n : ℕ} (w : WellFormed c m n) where
   module _ (x : Vector) where
@@ -79,7 +79,7 @@ module _ (c : List ℕ) (f : Fault) {m n : ℕ} (w : WellFormed c m n) where
     -- ---- the truths make one, where the vector detects the fault
 
     truthful : Assignment
-    truthful = assigned n goodTruth faultyTruth (λ j. unequal (goodTruth (placeOf (isOutput c) n j)) (faultyTruth (placeOf (isOutput c) n j))) (eqb (f .value) 1)
+    truthful = assigned n goodTruth faultyTruth (λ j. unequal (goodTruth (clausePlace (isOutput c) n j)) (faultyTruth (clausePlace (isOutput c) n j))) (eqb (f .value) 1)
 
     truthful-good : (k : ℕ) → k < n → truthful (goodVar k) ≡ goodTruth k
     unfolding truthful

@@ -21,14 +21,14 @@ use Rattle.line_clauses.specs.Clauses.{stuckVar, differenceVar, variablesOf, st
 use Rattle.satisfied.proofs.Lines.{good-variables, faulty-variables, difference-variables}
 
 module _ (t : List ℤ → Bool) (c : List ℕ) (f : Fault) (n : ℕ) where
-  pub record Parts : Type 0 where
+  pub record ClauseParts : Type 0 where
     pub goods : (k : ℕ) → k < n → allOf t (goodClauses c k) ≡ true
     pub stuck-clause : t (stuckLiteral f n ∷ []) ≡ true
     pub faulties : (k : ℕ) → k < n → allOf t (faultyClauses c f n k) ≡ true
     pub differences-each : (k : ℕ) → k < n → allOf t (differenceClauses c n k) ≡ true
     pub last-clause : t (differences n (outputsBefore c n)) ≡ true
 
-  pub to-parts : allOf t (clausesOf c f n) ≡ true → Parts
+  pub to-parts : allOf t (clausesOf c f n) ≡ true → ClauseParts
   unfolding clausesOf
   to-parts e =
       let h1 = both (allOf t (gather (goodClauses c) n)) _ (sym (all-append t (gather (goodClauses c) n) _) ∙ e) in
@@ -43,7 +43,7 @@ module _ (t : List ℤ → Bool) (c : List ℕ) (f : Fault) (n : ℕ) where
         last-clause = sym (and-true _) ∙ h4 .1;
       }
 
-  pub of-parts : Parts → allOf t (clausesOf c f n) ≡ true
+  pub of-parts : ClauseParts → allOf t (clausesOf c f n) ≡ true
   unfolding clausesOf
   of-parts p =
       all-append t (gather (goodClauses c) n) _

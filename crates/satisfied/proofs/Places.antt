@@ -13,14 +13,14 @@ use Rattle.ground.specs.Below.{countBelow}
 use Rattle.ground.proofs.Counting.{count-below, nth}
 
 -- from the top, as the counting goes
-unfoldable pub placeOf : (ℕ → Bool) → ℕ → ℕ → ℕ
-placeOf t zero j = 0
-placeOf t (suc n) j = choose (t n && eqb (countBelow n t) j) n (placeOf t n j)
+unfoldable pub clausePlace : (ℕ → Bool) → ℕ → ℕ → ℕ
+clausePlace t zero j = 0
+clausePlace t (suc n) j = choose (t n && eqb (countBelow n t) j) n (clausePlace t n j)
 
 module _ (t : ℕ → Bool) where
   -- the place of a number at which the test holds is that number
-  pub place-is : (n k : ℕ) → k < n → t k ≡ true → placeOf t n (countBelow k t) ≡ k
-  unfolding placeOf
+  pub place-is : (n k : ℕ) → k < n → t k ≡ true → clausePlace t n (countBelow k t) ≡ k
+  unfolding clausePlace
   place-is zero k l e = absurd (not-suc-le-zero l)
   place-is (suc n) k l e =
       ⊎-elim

@@ -24,11 +24,11 @@ use Rattle.shape.specs.Shape.{wordOn, GateLine}
 use Rattle.shape.proofs.Statements.{line-told}
 
 -- what line k is, by its form
-pub data Says (t : List ℕ) (k : ℕ) : ℕ → Type 0 where
-  nothing : sizeAt (endsIn t) k ≡ 0 → Says t k 0
-  input : sizeAt (endsIn t) k ≡ 2 → wordOn t k 0 ≡ inputWord → Says t k 1
-  output : sizeAt (endsIn t) k ≡ 2 → wordOn t k 0 ≡ outputWord → Says t k 2
-  gate : (n : ℕ) → sizeAt (endsIn t) k ≡ 2 + n → Named n (wordOn t k 1) → Says t k (2 + n)
+pub data LineSays (t : List ℕ) (k : ℕ) : ℕ → Type 0 where
+  nothing : sizeAt (endsIn t) k ≡ 0 → LineSays t k 0
+  input : sizeAt (endsIn t) k ≡ 2 → wordOn t k 0 ≡ inputWord → LineSays t k 1
+  output : sizeAt (endsIn t) k ≡ 2 → wordOn t k 0 ≡ outputWord → LineSays t k 2
+  gate : (n : ℕ) → sizeAt (endsIn t) k ≡ 2 + n → Named n (wordOn t k 1) → LineSays t k (2 + n)
 
 is-input : (w : List ℕ) → w ≡ inputWord → same w inputWord ≡ true
 is-input w e = ap (λ (v : List ℕ). same v inputWord) e ∙ same-refl inputWord
@@ -46,14 +46,14 @@ one-or-two kind l = rw (ne-eqb kind 0 (λ e. omega arith)) (go (leb kind 2))
     go false = inr refl
 
 module _ (t : List ℕ) (f : Formed t) (k : ℕ) (h : k < length (endsIn t)) where
-  port-says : sizeAt (endsIn t) k ≡ 2 → Among portWords (wordOn t k 0) → Says t k (choose (same (wordOn t k 0) inputWord) 1 2)
+  port-says : sizeAt (endsIn t) k ≡ 2 → Among portWords (wordOn t k 0) → LineSays t k (choose (same (wordOn t k 0) inputWord) 1 2)
   port-says e a =
       ⊎-elim (λ i. rw (is-input (wordOn t k 0) i) (input e i))
       (λ m. ⊎-elim (λ o. rw (no-input (wordOn t k 0) o) (output e o)) (λ z. absurd z) m)
       a
 
   -- its form where it has as many words as a kind with n sources
-  gate-says : (n : ℕ) → sizeAt (endsIn t) k ≡ 2 + n → Named n (wordOn t k 1) → Says t k (formOf t (wordsIn t) (endsIn t) k)
+  gate-says : (n : ℕ) → sizeAt (endsIn t) k ≡ 2 + n → Named n (wordOn t k 1) → LineSays t k (formOf t (wordsIn t) (endsIn t) k)
   unfolding formOf
   gate-says n e m =
       ⊎-elim
@@ -61,7 +61,7 @@ module _ (t : List ℕ) (f : Formed t) (k : ℕ) (h : k < length (endsIn t)) whe
       (λ p. let two : n ≡ 2 = sym (m .pins) ∙ p in rw (e, two) (gate 2 (e ∙ ap (λ (i : ℕ). 2 + i) two) (rw two at m)))
       (one-or-two (kindOf (wordOn t k 1)) (m .some))
 
-  pub line-says : Says t k (formOf t (wordsIn t) (endsIn t) k)
+  pub line-says : LineSays t k (formOf t (wordsIn t) (endsIn t) k)
   unfolding formOf
   line-says =
       ⊎-elim (λ e. rw e (nothing e))
@@ -79,12 +79,12 @@ form-inside t k e =
     absurd (omega arith))
     (either k (length (endsIn t)))
 
-pub form-says : (t : List ℕ) → Formed t → (k : ℕ) → 1 ≤ getD (formsOf t (wordsIn t) (endsIn t)) k 0 → Says t k (getD (formsOf t (wordsIn t) (endsIn t)) k 0)
-form-says t f k e = let h = form-inside t k e in subst (Says t k) (sym (forms-get t (wordsIn t) (endsIn t) k h)) (line-says t f k h)
+pub form-says : (t : List ℕ) → Formed t → (k : ℕ) → 1 ≤ getD (formsOf t (wordsIn t) (endsIn t)) k 0 → LineSays t k (getD (formsOf t (wordsIn t) (endsIn t)) k 0)
+form-says t f k e = let h = form-inside t k e in subst (LineSays t k) (sym (forms-get t (wordsIn t) (endsIn t) k h)) (line-says t f k h)
 
 -- ---- the end results
 
-gate-from : {t : List ℕ} {k n : ℕ} → Says t k n → 3 ≤ n → GateLine t k × (n ≡ sizeAt (endsIn t) k)
+gate-from : {t : List ℕ} {k n : ℕ} → LineSays t k n → 3 ≤ n → GateLine t k × (n ≡ sizeAt (endsIn t) k)
 gate-from (nothing e) l = absurd (omega arith)
 gate-from (input e w) l = absurd (omega arith)
 gate-from (output e w) l = absurd (omega arith)

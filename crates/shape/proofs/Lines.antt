@@ -16,7 +16,7 @@ use Rattle.shape.proofs.Symbols.{Gap, hasOwn, no-feed-byte}
 use Rattle.shape.proofs.Pieces as p
 use Rattle.shape.proofs.Pieces.{All, NoFeed, Off, Ends, Pieces, lineWords}
 use Rattle.shape.proofs.Parse.{two, nil, sign-is, all-of, blanks-gap}
-use Rattle.shape.proofs.Spelling.{Spelt, keywords, keys-spelt, worded, named, Marked, marked}
+use Rattle.shape.proofs.Spelling.{Spelt, keywords, keys-spelt, worded, named, SpelledMark, marked}
 
 -- ---- the signs and the keywords
 
@@ -58,7 +58,7 @@ of-two = tt
 
 -- ---- the arguments
 
-signed : {k : ℕ} (r : Re) (l : List ℕ) → Sign k → Has (mark k r) (symbols l) → Marked r l
+signed : {k : ℕ} (r : Re) (l : List ℕ) → Sign k → Has (mark k r) (symbols l) → SpelledMark r l
 signed {k} r l s h = marked k r l (s .own) (s .is-gap) h
 
 -- a part before which a word may end, and its words

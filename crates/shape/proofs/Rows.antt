@@ -31,7 +31,7 @@ full (more {ws = ws} {es = es} row rs s) =
     rw (length-append es (length (ws ++ row) ∷ []), add-one (length es)) (getD-append-seam es (length (ws ++ row)) [] 0)
 
 -- line k
-pub record Row (t ws es : List ℕ) (k : ℕ) : Type 0 where
+pub record StateRow (t ws es : List ℕ) (k : ℕ) : Type 0 where
   pub row : List ℕ
   pub shape : Shape (map (wordAt t) row)
   pub inside : startAt es k + length row ≤ length ws
@@ -40,7 +40,7 @@ pub record Row (t ws es : List ℕ) (k : ℕ) : Type 0 where
 
 module _ {t ws es : List ℕ} (row : List ℕ) where
   -- an earlier line stays
-  earlier : (k n : ℕ) → k < length es → Row t ws es k → Row t (ws ++ row) (es ++ (n ∷ [])) k
+  earlier : (k n : ℕ) → k < length es → StateRow t ws es k → StateRow t (ws ++ row) (es ++ (n ∷ [])) k
   unfolding wordIn
   earlier k n l r =
       let e = start-append es n k (omega arith) in
@@ -52,7 +52,7 @@ module _ {t ws es : List ℕ} (row : List ℕ) where
         words = λ j h. rw e (List·getD-append ws row 0 (startAt es k + j) (omega (arith, r .inside)) ∙ r .words j h);
       }
 
-  last : Rows t ws es → Shape (map (wordAt t) row) → Row t (ws ++ row) (es ++ (length (ws ++ row) ∷ [])) (length es)
+  last : Rows t ws es → Shape (map (wordAt t) row) → StateRow t (ws ++ row) (es ++ (length (ws ++ row) ∷ [])) (length es)
   unfolding wordIn
   last rs s =
       let e : startAt (es ++ (length (ws ++ row) ∷ [])) (length es) ≡ length ws = start-append es _ (length es) (omega arith) ∙ full rs in
@@ -64,7 +64,7 @@ module _ {t ws es : List ℕ} (row : List ℕ) where
         words = λ j h. rw e (getD-append-add ws row j 0);
       }
 
-pub row-at : {t ws es : List ℕ} → Rows t ws es → (k : ℕ) → k < length es → Row t ws es k
+pub row-at : {t ws es : List ℕ} → Rows t ws es → (k : ℕ) → k < length es → StateRow t ws es k
 row-at none k h = absurd (not-suc-le-zero h)
 row-at {t = t} (more {ws = ws} {es = es} row rs s) k h =
     let n : suc k ≤ suc (length es) = rw (← add-one (length es), ← length-append es (length (ws ++ row) ∷ [])) h in

@@ -138,13 +138,13 @@ pub named : (r : Re) (l : List ℕ) → Has (name r) (symbols l) → Worded Any 
 unfolding name
 named r l h = worded (seq wordSymbol (upTo 15)) r name-spelt l h
 
-pub record Marked (r : Re) (l : List ℕ) : Type 0 where
+pub record SpelledMark (r : Re) (l : List ℕ) : Type 0 where
   pub rest : List ℕ
   pub follows : Has r (symbols rest)
   pub off : Off l
   pub pieces : {ws : List (List ℕ)} → Pieces rest ws → Pieces l ws
 
-pub marked : (k : ℕ) (r : Re) (l : List ℕ) → T (hasOwn k) → Gap k → Has (mark k r) (symbols l) → Marked r l
+pub marked : (k : ℕ) (r : Re) (l : List ℕ) → T (hasOwn k) → Gap k → Has (mark k r) (symbols l) → SpelledMark r l
 unfolding mark
 marked k r l t i h =
     let v = two (sign k) (seq blanks r) l h in

@@ -14,12 +14,12 @@ use Rattle.syntax.specs.Kinds.{portWords, kindWords, Among}
 use Rattle.syntax.specs.Syntax.{Formed}
 use Rattle.forms.specs.Lines.{wordIn, sizeAt}
 use Rattle.shape.specs.Shape.{Shape, blank, port, gate, wordsOn, wordOn}
-use Rattle.shape.proofs.Rows.{Row, row-at}
+use Rattle.shape.proofs.Rows.{StateRow, row-at}
 use Rattle.shape.proofs.Texts.{rows-of}
 
 -- ---- the words of line k
 
-row-table : {t ws es : List ℕ} {k : ℕ} (r : Row t ws es k) → r .row ≡ table (wordIn ws es k) (sizeAt es k)
+row-table : {t ws es : List ℕ} {k : ℕ} (r : StateRow t ws es k) → r .row ≡ table (wordIn ws es k) (sizeAt es k)
 unfolding sizeAt
 row-table {t} {ws} {es} {k} r =
     let n : length (r .row) ≡ sizeAt es k = omega (arith, r .end) in
@@ -49,14 +49,14 @@ module _ (t : List ℕ) (k : ℕ) where
 -- ---- what a line says
 
 -- by its number of words, its first and its second: nothing, INPUT or OUTPUT, or a gate with n sources
-abbrev pub Told : ℕ → List ℕ → List ℕ → Type 0
-Told size first second = (size ≡ 0) ⊎ (((size ≡ 2) × Among portWords first) ⊎ ((n : ℕ) × (size ≡ 2 + n) × Among (kindWords n) second))
+abbrev pub StatementTold : ℕ → List ℕ → List ℕ → Type 0
+StatementTold size first second = (size ≡ 0) ⊎ (((size ≡ 2) × Among portWords first) ⊎ ((n : ℕ) × (size ≡ 2 + n) × Among (kindWords n) second))
 
 told : {ws : List (List ℕ)} → Shape ws → {size : ℕ} → length ws ≡ size → (d : List ℕ) {word : ℕ → List ℕ} → ((j : ℕ) → j < size → getD ws j d ≡ word j)
-    → Told size (word 0) (word 1)
+    → StatementTold size (word 0) (word 1)
 told blank e d f = inl (sym e)
 told (port p x a) e d f = inr (inl (sym e, subst (Among portWords) (f 0 (omega arith)) a))
 told (gate x k s a) e d f = inr (inr (length s, omega arith, subst (Among (kindWords (length s))) (f 1 (omega arith)) a))
 
-pub line-told : (t : List ℕ) → Formed t → (k : ℕ) → k < length (endsIn t) → Told (sizeAt (endsIn t) k) (wordOn t k 0) (wordOn t k 1)
+pub line-told : (t : List ℕ) → Formed t → (k : ℕ) → k < length (endsIn t) → StatementTold (sizeAt (endsIn t) k) (wordOn t k 0) (wordOn t k 1)
 line-told t f k h = told (line-shape t f k h) (words-long t k) (wordAt t 0) (words-at t k)

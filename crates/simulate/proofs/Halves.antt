@@ -1,4 +1,4 @@
--- The two halves of the work memory: the second gets what the first has, and is lent to get the faulty values.
+-- The two halves of the work memory: the second gets what the first has, and is lentHalf to get the faulty values.
 -- Assumes nothing.
 use mathlib.Core.Path.{_≡_, refl, sym, ap, _∙_}
 use mathlib.Core.List.{List, _++_, append-nil}
@@ -43,16 +43,16 @@ module _ {n k : ℕ} {w₀ w : List ℕ} (two : length w₀ ≡ n + n) (so : SoF
       let half : length (drop n w) ≡ n = rw (length-drop n w) (omega (arith, so .long)) in
       sym (take-append-drop n w) ∙ rw (so .first, ← take-all k (drop n w) (omega arith), so .second, e)
 
--- ---- the second half, lent
+-- ---- the second half, lentHalf
 
--- what is lent of w, and what the whole holds when u has come back
-abbrev pub lent : ℕ → List ℕ → List ℕ
-lent n w = take (length w - n) (drop n w)
+-- what is lentHalf of w, and what the whole holds when u has come back
+abbrev pub lentHalf : ℕ → List ℕ → List ℕ
+lentHalf n w = take (length w - n) (drop n w)
 
 abbrev pub filled : ℕ → List ℕ → List ℕ → List ℕ
 filled n w u = take n w ++ (u ++ drop (length w - n) (drop n w))
 
-pub lent-long : (n : ℕ) (w : List ℕ) → length w ≡ n + n → length (lent n w) ≡ n
+pub lent-long : (n : ℕ) (w : List ℕ) → length w ≡ n + n → length (lentHalf n w) ≡ n
 lent-long n w e = simp (length-take, length-drop) (omega arith)
 
 module _ (fault : Fault) (c : List ℕ) (n : ℕ) (w w′ u : List ℕ) (two : length w ≡ n + n) (copied : w′ ≡ take n w ++ take n w) where
@@ -62,7 +62,7 @@ module _ (fault : Fault) (c : List ℕ) (n : ℕ) (w w′ u : List ℕ) (two : l
   pub copied-long : length w′ ≡ n + n
   copied-long = ap length copied ∙ simp (length-append, half-long)
 
-  lent-is : lent n w′ ≡ take n w
+  lent-is : lentHalf n w′ ≡ take n w
   lent-is =
       take-all (length w′ - n) (drop n w′) (simp length-drop (omega arith))
       ∙ ap (drop n) copied
@@ -72,8 +72,8 @@ module _ (fault : Fault) (c : List ℕ) (n : ℕ) (w w′ u : List ℕ) (two : l
   filled-is =
       rw (drop-of-length-le (drop n w′) {i = length w′ - n} (simp length-drop (omega arith)), append-nil, copied, take-at (take n w) (take n w) n half-long)
 
-  pub adds-faulty : SimulateFaultDone fault c (lent n w′) u → FaultyValuesDone fault c n w (filled n w′ u)
+  pub adds-faulty : SimulateFaultDone fault c (lentHalf n w′) u → FaultyValuesDone fault c n w (filled n w′ u)
   adds-faulty makes p good =
-      let long : length (lent n w′) ≡ n = lent-long n w′ copied-long in
+      let long : length (lentHalf n w′) ≡ n = lent-long n w′ copied-long in
       let u-is : u ≡ faultyOf fault c p n = makes p (lent-is ∙ good ∙ ap (goodOf c p) (sym long)) ∙ ap (faultyOf fault c p) long in
       filled-is ∙ rw (good, u-is)

@@ -12,7 +12,7 @@ use Rattle.ground.specs.Below.{countBelow}
 use Rattle.ground.specs.Lists.{collect}
 use Rattle.ground.proofs.Counting.{count-mono}
 use Rattle.ground.proofs.Lists.{Collected, collected-none, collected-more}
-use Rattle.statements.specs.Owed.{FewRoom}
+use Rattle.statements.specs.Owed.{FewReady}
 
 -- k of n lines are looked at, and d of them have passed
 pub record Filling (test : ℕ → Bool) (f : ℕ → ℕ) (n : ℕ) (out : List ℕ) (d k : ℕ) : Type 0 where
@@ -22,7 +22,7 @@ pub record Filling (test : ℕ → Bool) (f : ℕ → ℕ) (n : ℕ) (out : List
   pub in-room : d ≤ 8192
   pub so-far : Collected test f out d k
 
-pub begun : {fs out : List ℕ} {test : ℕ → Bool} (f : ℕ → ℕ) → FewRoom fs test out → Filling test f (length fs) out 0 0
+pub begun : {fs out : List ℕ} {test : ℕ → Bool} (f : ℕ → ℕ) → FewReady fs test out → Filling test f (length fs) out 0 0
 begun f r = record {
   at-most = omega arith;
   few = r .few;

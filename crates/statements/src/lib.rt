@@ -11,7 +11,7 @@ ghost use lib.ListN.{take};
 ghost use Rattle.ground.specs.Choose.{choose};
 ghost use Rattle.forms.specs.Forms.{gatesIn};
 ghost use Rattle.statements.specs.Tables.{kindsOf};
-ghost use Rattle.statements.specs.Owed.{DefsReady, DefsDone, OutsRoom, OutsDone, SourcesReady, SourcesDone, KindsRoom};
+ghost use Rattle.statements.specs.Owed.{DefsReady, DefsDone, OutsReady, OutsDone, SourcesReady, SourcesDone, KindsReady};
 
 // The word of a line that is defined there.
 fn def_word(form: u8) -> usize
@@ -67,7 +67,7 @@ pub fn put_defs(
 
 // The names of the outputs, as often as they are written. How many there are.
 pub fn put_outs(words: &[u16], ends: &[u16], forms: &[u8], outs: &mut [u16]) -> usize
-    requires { ⌜ OutsRoom (now ends) (now forms) (now outs) ⌝ }
+    requires { ⌜ OutsReady (now ends) (now forms) (now outs) ⌝ }
     ensures { λ r. ⌜ OutsDone (now (words .entry)) (now (ends .entry)) (now (forms .entry)) (now (outs .exit)) r ⌝ }
 {
     let mut d = 0;
@@ -115,7 +115,7 @@ pub fn put_sources(
 
 // The kind of each gate.
 pub fn put_kinds(text: &[u8], words: &[u16], ends: &[u16], forms: &[u8], kinds: &mut [u8])
-    requires { ⌜ KindsRoom (now ends) (now forms) (now kinds) ⌝ }
+    requires { ⌜ KindsReady (now ends) (now forms) (now kinds) ⌝ }
     ensures { λ _. ⌜ take (gatesIn (now (forms .entry))) (now (kinds .exit)) ≡ kindsOf (now (text .entry)) (now (words .entry)) (now (ends .entry)) (now (forms .entry)) ⌝ }
 {
     let mut g = 0;

@@ -13,20 +13,20 @@ use Rattle.syntax.specs.Owed.{StateTable, Row, Follows, RowTable, stateO
 use Rattle.syntax.proofs.Table.{state-at}
 
 -- the row of the state with a character
-abbrev pub rowOf : List ℕ → ℕ → ℕ
-rowOf states k = 23 * (getD states k 0 - 46)
+abbrev pub rowStart : List ℕ → ℕ → ℕ
+rowStart states k = 23 * (getD states k 0 - 46)
 
-pub record Filling (states rows : List ℕ) (k : ℕ) : Type 0 where
+pub record RowsFilling (states rows : List ℕ) (k : ℕ) : Type 0 where
   pub at-most : k ≤ 1817
   pub long : length rows ≡ 1817
-  pub rows-are : take k rows ≡ table (rowOf states) k
+  pub rows-are : take k rows ≡ table (rowStart states) k
 
-pub start : (states : List ℕ) {rows : List ℕ} → length rows ≡ 1817 → Filling states rows 0
+pub start : (states : List ℕ) {rows : List ℕ} → length rows ≡ 1817 → RowsFilling states rows 0
 unfolding grow
 start states e = record { at-most = omega arith; long = e; rows-are = refl }
 
-module _ {states rows : List ℕ} {k : ℕ} (f : Filling states rows k) where
-  pub more : k < 1817 → {x : ℕ} → x ≡ rowOf states k → Filling states (set rows k x) (k + 1)
+module _ {states rows : List ℕ} {k : ℕ} (f : RowsFilling states rows k) where
+  pub more : k < 1817 → {x : ℕ} → x ≡ rowStart states k → RowsFilling states (set rows k x) (k + 1)
   unfolding grow
   more l {x} e = record {
     at-most = omega arith;
@@ -37,10 +37,10 @@ module _ {states rows : List ℕ} {k : ℕ} (f : Filling states rows k) where
   pub all : StateTable states → 1817 ≤ k → RowTable rows
   all s l =
       let e : k ≡ 1817 = omega (arith, f .at-most) in
-      let whole : rows ≡ table (rowOf states) 1817 = sym (take-all k rows (omega (arith, f .long))) ∙ f .rows-are ∙ ap (table (rowOf states)) e in
-      record { long = f .long; follows = λ q c h g. go q c h g (ap (λ (t : List ℕ). getD t (23 * q + 2 + c) 0) whole ∙ table-at (rowOf states) 1817 0 (23 * q + 2 + c) (omega arith)) }
+      let whole : rows ≡ table (rowStart states) 1817 = sym (take-all k rows (omega (arith, f .long))) ∙ f .rows-are ∙ ap (table (rowStart states)) e in
+      record { long = f .long; follows = λ q c h g. go q c h g (ap (λ (t : List ℕ). getD t (23 * q + 2 + c) 0) whole ∙ table-at (rowStart states) 1817 0 (23 * q + 2 + c) (omega arith)) }
     where
-      go : (q c : ℕ) → q < 79 → c < 21 → getD rows (23 * q + 2 + c) 0 ≡ rowOf states (23 * q + 2 + c) → Follows q c (getD rows (23 * q + 2 + c) 0)
+      go : (q c : ℕ) → q < 79 → c < 21 → getD rows (23 * q + 2 + c) 0 ≡ rowStart states (23 * q + 2 + c) → Follows q c (getD rows (23 * q + 2 + c) 0)
       go q c h g e =
           let w = state-at states s q c h g in
           let n : getD rows (23 * q + 2 + c) 0 / 23 ≡ getD states (23 * q + 2 + c) 0 - 46 = omega (arith, e) in

@@ -2,7 +2,7 @@
 -- Assumes nothing.
 use borrow.Author.Tests.{eq-eqb, ne-eqb}
 use mathlib.Core.Bool.{or-true}
-use Rattle.cnf.specs.Write.{isOneOf}
+use Rattle.cnf.specs.Owed.{isOneOf}
 use Rattle.cnf.proofs.is_one_of.Statement.{statement}
 use Rattle.cnf.proofs.is_one_of.Tie as tie
 

@@ -2,7 +2,7 @@
 -- Assumes nothing.
 use borrow.Author.Needs.{needs}
 use Rattle.cnf.proofs.Signed.{plus-back, minus-back}
-use Rattle.cnf.specs.Write.{signed}
+use Rattle.cnf.specs.Owed.{signed}
 use Rattle.cnf.proofs.literal.Statement.{statement}
 use Rattle.cnf.proofs.literal.Tie as tie
 

@@ -4,7 +4,7 @@ use borrow.Author.Tests.{le-leb, lt-leb}
 use mir.Facts.{toZ-ofZ}
 use native.Mathlib.Omega.{arith}
 use borrow.Author.Needs.{needs}
-use Rattle.cnf.specs.Write.{byShape}
+use Rattle.cnf.specs.Owed.{byShape}
 use Rattle.cnf.proofs.put_shape.Statement.{statement}
 use Rattle.cnf.proofs.put_shape.Tie as tie
 

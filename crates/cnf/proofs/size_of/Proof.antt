@@ -2,7 +2,7 @@
 -- Assumes nothing.
 use borrow.Author.Tests.{eq-eqb, ne-eqb, le-leb, lt-leb}
 use Rattle.cnf.proofs.Sizes.{byKind, takes}
-use Rattle.cnf.specs.Write.{byShape}
+use Rattle.cnf.specs.Owed.{byShape}
 use Rattle.cnf.proofs.size_of.Statement.{statement}
 use Rattle.cnf.proofs.size_of.Tie as tie
 

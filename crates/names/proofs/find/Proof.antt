@@ -5,12 +5,12 @@ use Prim.Native.Nat.{ℕ}
 use native.Mathlib.Omega.{arith}
 use borrow.Author.Needs.{needs}
 use Rattle.words.specs.Words.{wordAt, same}
-use Rattle.names.proofs.Chain.{Walk, start, ended, inside, hit, more, falls}
+use Rattle.names.proofs.Chain.{ChainWalk, start, ended, inside, hit, more, falls}
 use Rattle.names.proofs.find.Statement.{statement}
 use Rattle.names.proofs.find.Tie as tie
 
 abbrev Inv-loop : tie.InvT-loop
-Inv-loop text defs head next n h at p₀ p = Walk text defs (wordAt text at) n h p
+Inv-loop text defs head next n h at p₀ p = ChainWalk text defs (wordAt text at) n h p
 
 abbrev μ-loop : tie.MeasureT-loop
 μ-loop text defs head next n h at p₀ p = p

@@ -4,12 +4,12 @@ use Prim.Native.Nat.{_≤_}
 use native.Mathlib.Omega.{arith}
 use lib.ListN.{length}
 use borrow.Author.Needs.{needs}
-use Rattle.order.proofs.FirstReaders.{From, start, more, finished}
+use Rattle.order.proofs.FirstReaders.{ReadersFrom, start, more, finished}
 use Rattle.order.proofs.readers.Statement.{statement}
 use Rattle.order.proofs.readers.Tie as tie
 
 abbrev Inv-loop : tie.InvT-loop
-Inv-loop a b reader₀ h₀ reader h = (h ≤ length a) × From a b reader h
+Inv-loop a b reader₀ h₀ reader h = (h ≤ length a) × ReadersFrom a b reader h
 
 abbrev μ-loop : tie.MeasureT-loop
 μ-loop a b reader₀ h₀ reader h = h

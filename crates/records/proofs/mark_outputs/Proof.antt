@@ -4,12 +4,12 @@ use Prim.Native.Nat.{_-_}
 use lib.ListN.{length}
 use native.Mathlib.Omega.{arith}
 use borrow.Author.Needs.{needs}
-use Rattle.records.proofs.Marking.{Marked, marked-none, marked-more, marked-all}
+use Rattle.records.proofs.Marking.{MarkedTo, marked-none, marked-more, marked-all}
 use Rattle.records.proofs.mark_outputs.Statement.{statement}
 use Rattle.records.proofs.mark_outputs.Tie as tie
 
 abbrev Inv-loop : tie.InvT-loop
-Inv-loop outs flag₀ i₀ flag i = Marked outs flag₀ flag i
+Inv-loop outs flag₀ i₀ flag i = MarkedTo outs flag₀ flag i
 
 abbrev μ-loop : tie.MeasureT-loop
 μ-loop outs flag₀ i₀ flag i = length outs - i

@@ -3,12 +3,12 @@
 use Prim.Native.Nat.{_-_}
 use native.Mathlib.Omega.{arith}
 use borrow.Author.Needs.{needs}
-use Rattle.records.proofs.Numbering.{From, from-none, from-more, from-all}
+use Rattle.records.proofs.Numbering.{NumberedFrom, from-none, from-more, from-all}
 use Rattle.records.proofs.number_lines.Statement.{statement}
 use Rattle.records.proofs.number_lines.Tie as tie
 
 abbrev Inv-loop : tie.InvT-loop
-Inv-loop order inputs line₀ i₀ line i = From order inputs line₀ line i
+Inv-loop order inputs line₀ i₀ line i = NumberedFrom order inputs line₀ line i
 
 abbrev μ-loop : tie.MeasureT-loop
 μ-loop order inputs line₀ i₀ line i = i

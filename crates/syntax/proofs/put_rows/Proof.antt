@@ -1,6 +1,6 @@
 -- `syntax::put_rows` meets its contract: each character is put as the beginning of its row.
 -- Assumes nothing.
-use Rattle.syntax.proofs.Rows.{Filling, start, more, all}
+use Rattle.syntax.proofs.Rows.{RowsFilling, start, more, all}
 use Prim.Native.Nat.{_-_}
 use native.Mathlib.Omega.{arith}
 use borrow.Author.Needs.{needs}
@@ -8,7 +8,7 @@ use Rattle.syntax.proofs.put_rows.Statement.{statement}
 use Rattle.syntax.proofs.put_rows.Tie as tie
 
 abbrev Inv-loop : tie.InvT-loop
-Inv-loop states rows₀ k₀ rows k = Filling states rows k
+Inv-loop states rows₀ k₀ rows k = RowsFilling states rows k
 
 abbrev μ-loop : tie.MeasureT-loop
 μ-loop states rows₀ k₀ rows k = 1817 - k

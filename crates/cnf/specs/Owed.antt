@@ -1,4 +1,4 @@
--- What the functions that write words owe each other; no reader of the clauses needs it.
+-- What the functions that write words owe each other and their callers; no reader of the promises needs it.
 -- Assumes nothing.
 use mathlib.Core.Path.{_≡_}
 use mathlib.Core.Bool.{Bool, _||_}
@@ -56,7 +56,7 @@ isOneOf kind a b c = eqb kind a || (eqb kind b || eqb kind c)
 abbrev pub gateWords : ℕ → (ℕ → ℕ) → List ℤ
 gateWords kind number = wordsOf (gateClauses kind number)
 
-pub record GateRoom (w : List ℤ) (at kind y a b : ℕ) : Type 0 where
+pub record GateClausesReady (w : List ℤ) (at kind y a b : ℕ) : Type 0 where
   pub kind-last : kind ≤ lastKind
   pub own : Variable y
   pub first : Variable a
