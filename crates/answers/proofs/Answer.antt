@@ -1,14 +1,15 @@
 -- One law of an answer, whatever its good case: its numbers are those that its ruling tells, and it refuses exactly when a rule applies.
+-- And what is done with the rules, whatever the memory: a step's rules first, then those after it.
 -- Assumes nothing.
 use mathlib.Core.Path.{_≡_, refl, sym, ap, _∙_}
-use mathlib.Core.List.{List}
+use mathlib.Core.List.{List, _++_}
 use Prim.Native.Nat.{ℕ}
 use Rattle.answers.specs.declared.Ruling.{Ruling}
 use Rattle.answers.specs.declared.Ruling.the-variants.{Fine, Refused}
 use Rattle.answers.specs.Rules.{Rule, refusal, Applies, AllSay}
 use Rattle.answers.specs.Area.{Numbers, refusedAt, told}
-use Rattle.answers.specs.Answer.{answered}
-use Rattle.answers.proofs.Rules.{applies, refused}
+use Rattle.answers.specs.Answer.{answered, RulesDone}
+use Rattle.answers.proofs.Rules.{applies, refused, after-refused, after-fine}
 
 -- the numbers of an answer are those of its ruling
 pub numbers-told : {A : Type 0} {refuse : ℕ → ℕ → A} (numbersOf : A → Numbers)
@@ -40,3 +41,21 @@ module _ {A : Type 0} {refuse : ℕ → ℕ → A} {rulingOf : A → Ruling} {go
     -- and where one applies, it is given
     pub applies-refused : Applies rules number place → r ≡ refuse number place
     applies-refused a = is ∙ ap (λ (v : Ruling). answered refuse v good) (refused rules says number place a)
+
+-- ---- what is done with the rules
+
+module _ {A M : Type 0} {refuse : ℕ → ℕ → A} {good : A} {m new : M} where
+  -- a refusal is the answer, and leaves the memory
+  pub refused-done : {rules : List Rule} {number place : ℕ} → refusal rules ≡ Refused number place → RulesDone refuse rules good m new (refuse number place) m
+  refused-done e = record { answer = rw e; memory = rw e }
+
+  -- where there is none, the good case is, with the new memory
+  pub fine-done : {rules : List Rule} {r : A} {m′ : M} → refusal rules ≡ Fine → r ≡ good → m′ ≡ new → RulesDone refuse rules good m new r m′
+  fine-done e is new-is = record { answer = rw e is; memory = rw e new-is }
+
+  -- a refusal ends it; where there is none, the rules after it decide
+  pub first-refused : (rules more : List Rule) {number place : ℕ} → refusal rules ≡ Refused number place → RulesDone refuse (rules ++ more) good m new (refuse number place) m
+  first-refused rules more e = refused-done (after-refused rules more e)
+
+  pub first-fine : (rules more : List Rule) {r : A} {m′ : M} → refusal rules ≡ Fine → RulesDone refuse more good m new r m′ → RulesDone refuse (rules ++ more) good m new r m′
+  first-fine rules more e p = record { answer = rw (after-fine rules more e) (p .answer); memory = rw (after-fine rules more e) (p .memory) }

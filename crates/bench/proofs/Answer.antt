@@ -15,7 +15,7 @@ unfolding readOf readNumbers
 reads {t} {c} p = record {
   answer = p .answer;
   numbers = ap readNumbers (p .answer) ∙ numbers-told readNumbers (λ x y. refl) (refusal (benchRules t (length c))) _;
-  circuit = p .circuit;
+  circuit = p .memory;
 }
 
 -- two allowed results are equal

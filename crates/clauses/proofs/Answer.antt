@@ -2,7 +2,7 @@
 -- Assumes nothing.
 use mathlib.Core.Path.{_≡_, refl, sym, ap, _∙_}
 use mathlib.Core.Bool.{true, false}
-use mathlib.Core.List.{List, _++_}
+use mathlib.Core.List.{List}
 use Prim.Native.Nat.{ℕ, _≤_, _<_}
 use native.Mathlib.Omega.{arith}
 use lib.Dec.{leb}
@@ -12,10 +12,10 @@ use borrow.Author.Tests.{le-leb, lt-leb}
 use Rattle.ground.proofs.Counting.{count-most}
 use Rattle.ground.specs.Put.{laidOn}
 use Rattle.answers.specs.declared.Ruling.{Ruling}
-use Rattle.answers.specs.Rules.{Rule, said, refusal, Applies, AllSay}
-use Rattle.answers.proofs.Rules.{after-refused, after-fine, both-say}
+use Rattle.answers.specs.Rules.{said, refusal, Applies, AllSay}
+use Rattle.answers.proofs.Rules.{both-say}
 use Rattle.answers.proofs.Answer as answer
-use Rattle.answers.proofs.Answer.{numbers-told, Ruled}
+use Rattle.answers.proofs.Answer.{numbers-told, Ruled, refused-done, fine-done}
 use Rattle.answers.proofs.Records.{one-record}
 use Rattle.answers.proofs.Same.{le-same}
 use Rattle.circuit.specs.Record.{linesOf, inputsOf, isOutput, outputsBefore, Inside}
@@ -48,21 +48,14 @@ module _ {cs : Clauses} {v : ℕ} {w : List ℤ} where
   unfolding roomRules refusal said
   short {size} t l =
       let q : leb (length (wordsOf cs)) (length w) ≡ false = lt-leb (length (wordsOf cs)) (length w) (omega (arith, takes-words t)) in
-      record { answer = rw (q, takes-words t); words = rw q }
+      refused-done (rw (q, takes-words t))
 
   pub fits : {size : Size} {w′ : List ℤ} {variables : ℕ} → Takes cs size → variables ≡ v → size .words ≤ length w → w′ ≡ laidOn w (wordsOf cs)
       → ClausesDone (roomRules (length (wordsOf cs)) (length w)) cs v w w′ (Success (size .words) (size .clauses) variables)
   unfolding roomRules refusal said
   fits {size} t d l e =
       let q : leb (length (wordsOf cs)) (length w) ≡ true = le-leb (length (wordsOf cs)) (length w) (omega (arith, takes-words t)) in
-      record { answer = rw (q, takes-words t, t .clauses, d); words = rw q e }
-
-  -- a refusal ends it; where there is none, the rules after it decide
-  pub first-refused : (rules more : List Rule) {number place : ℕ} → refusal rules ≡ Ruling.Refused number place → ClausesDone (rules ++ more) cs v w w (Refused number place)
-  first-refused rules more e = record { answer = rw (after-refused rules more e); words = rw (after-refused rules more e) }
-
-  pub first-fine : (rules more : List Rule) {w′ : List ℤ} {r : Written} → refusal rules ≡ Ruling.Fine → ClausesDone more cs v w w′ r → ClausesDone (rules ++ more) cs v w w′ r
-  first-fine rules more e p = record { answer = rw (after-fine rules more e) (p .answer); words = rw (after-fine rules more e) (p .words) }
+      fine-done (rw q) (rw (takes-words t, t .clauses, d)) e
 
 -- the fault that is not refused is one record
 pub one-fault : (c fs : List ℕ) → refusal (faultRules 1 c fs) ≡ Ruling.Fine → Inside fs 0
@@ -88,7 +81,7 @@ unfolding writtenOf writtenNumbers
 writes {c} {fs} {w} p = record {
   answer = p .answer;
   numbers = ap writtenNumbers (p .answer) ∙ numbers-told writtenNumbers (λ x y. refl) (refusal (clauseRules c fs (length w))) _;
-  words = p .words;
+  words = p .memory;
 }
 
 -- ---- two allowed results are equal

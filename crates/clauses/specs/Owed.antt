@@ -5,8 +5,8 @@ use mathlib.Core.List.{List, _++_}
 use Prim.Native.Nat.{ℕ, _+_, _≤_}
 use lib.IntN.{ℤ}
 use lib.ListN.{length}
-use Rattle.answers.specs.Rules.{Rule, refusal, unless}
-use Rattle.answers.specs.Answer.{answered}
+use Rattle.answers.specs.Rules.{Rule}
+use Rattle.answers.specs.Answer.{RulesDone}
 use Rattle.circuit.specs.Record.{outputsBefore}
 use Rattle.lists.specs.declared.Fault.{Fault}
 use Rattle.lists.specs.Faults.{faultAt, faultRules}
@@ -36,9 +36,8 @@ pub record PutAllReady (c : List ℕ) (f : Fault) (n outputs : ℕ) (w : List �
 
 -- ---- the answer and the words afterwards, where these are the rules, the clauses and the number of variables
 
-pub record ClausesDone (rules : List Rule) (cs : Clauses) (variables : ℕ) (w w′ : List ℤ) (r : Written) : Type 0 where
-  pub answer : r ≡ answered Refused (refusal rules) (Success (length (wordsOf cs)) (length cs) variables)
-  pub words : w′ ≡ unless (refusal rules) w (laidOn w (wordsOf cs))
+abbrev pub ClausesDone : List Rule → Clauses → ℕ → List ℤ → List ℤ → Written → Type 0
+ClausesDone rules cs variables w w′ r = RulesDone Refused rules (Success (length (wordsOf cs)) (length cs) variables) w (laidOn w (wordsOf cs)) r w′
 
 -- the rules left once the fault is read
 abbrev pub fitRules : List ℕ → Fault → ℕ → ℕ → List Rule

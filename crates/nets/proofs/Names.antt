@@ -21,7 +21,7 @@ use Rattle.records.specs.Net.{Net}
 use Rattle.records.specs.Owed.{netOf, NumbersBelow}
 use Rattle.nets.specs.declared.Read.{Read}
 use Rattle.nets.specs.Owed.{NetDone, ReadNetReady, NamedNet, usesOf, numbered, NamesDone, ReadNamesReady}
-use Rattle.nets.proofs.Answer.{first-fine}
+use Rattle.answers.proofs.Answer.{first-fine}
 
 within-both : (t l m : List ℕ) → Within t l → Within t m → Within t (l ++ m)
 within-both t l m p q k h = ⊎-elim first second (either k (length l))

@@ -17,7 +17,7 @@ use Rattle.records.proofs.Size.{records-length}
 use Rattle.nets.specs.declared.Read.the-variants.{Refused}
 use Rattle.nets.specs.Rules.{bufferRules, recordRules}
 use Rattle.nets.specs.Owed.{ReadDone, ReadNetReady, ReadOrderReady}
-use Rattle.nets.proofs.Answer.{first-refused}
+use Rattle.answers.proofs.Answer.{first-refused}
 
 pub ordered : {net : Net} {order : List ℕ} {r : Ruling} → ReadNetReady net → ArrangeDone (net .firsts) (net .seconds) order r → r ≡ Fine → ReadOrderReady net order
 ordered {net} p q e =

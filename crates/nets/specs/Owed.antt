@@ -5,8 +5,8 @@ use mathlib.Core.List.{List, _++_, map}
 use Prim.Native.Nat.{ℕ, _+_, _≤_}
 use lib.ListN.{length}
 use Rattle.ground.specs.Put.{laidOn}
-use Rattle.answers.specs.Answer.{answered}
-use Rattle.answers.specs.Rules.{Rule, refusal, unless}
+use Rattle.answers.specs.Answer.{RulesDone}
+use Rattle.answers.specs.Rules.{Rule}
 use Rattle.circuit.specs.Record.{linesOf}
 use Rattle.names.specs.Names.{nameRules, nameNumber}
 use Rattle.names.specs.Owed.{Within}
@@ -17,9 +17,8 @@ use Rattle.nets.specs.declared.Read.the-variants.{Records, Refused}
 use Rattle.nets.specs.Rules.{recordRules, netRules}
 
 -- the answer and the buffer afterwards, where these are the rules and the records
-pub record ReadDone (rules : List Rule) (records c c′ : List ℕ) (r : Read) : Type 0 where
-  pub answer : r ≡ answered Refused (refusal rules) (Records (linesOf records))
-  pub circuit : c′ ≡ unless (refusal rules) c (laidOn c records)
+abbrev pub ReadDone : List Rule → List ℕ → List ℕ → List ℕ → Read → Type 0
+ReadDone rules records c c′ r = RulesDone Refused rules (Records (linesOf records)) c (laidOn c records) r c′
 
 -- of records, and of a net
 abbrev pub RecordsDone : List ℕ → List ℕ → List ℕ → Read → Type 0

@@ -1,6 +1,6 @@
 -- `bench::bench` meets its contract: refusal 14, or what the words say.
 -- Assumes nothing.
-use Rattle.nets.proofs.Answer.{first-refused, first-fine}
+use Rattle.answers.proofs.Answer.{first-refused, first-fine}
 use Rattle.bench.proofs.Answer.{reads}
 use Rattle.syntax.proofs.Says.{right-text}
 use mathlib.Core.Path.{sym, _∙_}

@@ -2,7 +2,8 @@
 -- Assumes nothing.
 use mathlib.Core.Path.{sym, _∙_}
 use borrow.Author.Needs.{needs}
-use Rattle.clauses.proofs.Answer.{counted, first-refused, first-fine, one-fault}
+use Rattle.answers.proofs.Answer.{first-refused, first-fine}
+use Rattle.clauses.proofs.Answer.{counted, one-fault}
 use Rattle.clauses.proofs.accepted.Statement.{statement}
 use Rattle.clauses.proofs.accepted.Tie as tie
 

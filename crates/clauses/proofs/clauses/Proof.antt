@@ -2,7 +2,8 @@
 -- Assumes nothing.
 use mathlib.Core.Path.{sym, _∙_}
 use borrow.Author.Needs.{needs}
-use Rattle.clauses.proofs.Answer.{first-refused, first-fine, any-inputs, writes}
+use Rattle.answers.proofs.Answer.{first-refused, first-fine}
+use Rattle.clauses.proofs.Answer.{any-inputs, writes}
 use Rattle.circuit.proofs.Accepted.{accepts, refuses}
 use Rattle.clauses.proofs.clauses.Statement.{statement}
 use Rattle.clauses.proofs.clauses.Tie as tie

@@ -1,6 +1,7 @@
 -- `nets::hand_over` meets its contract: a refusal of the check is handed on, else the buffer decides.
 -- Assumes nothing.
-use Rattle.nets.proofs.Answer.{first-refused, first-fine, whole}
+use Rattle.answers.proofs.Answer.{first-refused, first-fine}
+use Rattle.nets.proofs.Answer.{whole}
 use Rattle.circuit.proofs.Accepted.{accepts, refuses}
 use mathlib.Core.Path.{sym, _∙_}
 use borrow.Author.Needs.{needs}

@@ -1,5 +1,6 @@
 -- `nets::lay` meets its contract: refusal 10, or the records in the buffer.
 -- Assumes nothing.
+use Rattle.answers.proofs.Answer.{refused-done}
 use Rattle.nets.proofs.Answer.{other-size, laid}
 use native.Mathlib.Omega.{arith}
 use borrow.Author.Needs.{needs}
@@ -7,7 +8,7 @@ use Rattle.nets.proofs.lay.Statement.{statement}
 use Rattle.nets.proofs.lay.Tie as tie
 
 returns : tie.Need-returns
-returns c = other-size (c .if1 .taken)
+returns c = refused-done (other-size (c .if1 .taken))
 
 copy-requires : tie.Need-copy-requires
 copy-requires c κs = omega (arith, c .before .before .before .before .pre .fits)

@@ -1,6 +1,6 @@
 -- `nets::read_names_in` meets its contract: refusal 15, or the net with numbers for names.
 -- Assumes nothing.
-use Rattle.nets.proofs.Answer.{first-refused}
+use Rattle.answers.proofs.Answer.{first-refused}
 use Rattle.nets.proofs.Names.{unresolved, resolved, read-numbers}
 use mathlib.Core.Path.{sym, _∙_}
 use borrow.Author.Needs.{needs}

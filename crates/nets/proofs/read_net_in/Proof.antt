@@ -1,7 +1,7 @@
 -- `nets::read_net_in` meets its contract: refusal 16, or the records in the order of the gates.
 -- Assumes nothing.
 use Rattle.nets.proofs.Order.{ordered}
-use Rattle.nets.proofs.Answer.{first-refused, first-fine}
+use Rattle.answers.proofs.Answer.{first-refused, first-fine}
 use mathlib.Core.Path.{sym, _∙_}
 use borrow.Author.Needs.{needs}
 use Rattle.nets.proofs.read_net_in.Statement.{statement}
