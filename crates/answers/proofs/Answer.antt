@@ -6,7 +6,7 @@ use mathlib.Core.List.{List, _++_}
 use Prim.Native.Nat.{ℕ}
 use Rattle.answers.specs.declared.Ruling.{Ruling}
 use Rattle.answers.specs.declared.Ruling.the-variants.{Fine, Refused}
-use Rattle.answers.specs.Rules.{Rule, refusal, Applies, AllSay}
+use Rattle.answers.specs.Rules.{Rule, refusal, Applies, AllSay, unless}
 use Rattle.answers.specs.Area.{Numbers, refusedAt, told}
 use Rattle.answers.specs.Answer.{answered, RulesDone}
 use Rattle.answers.proofs.Rules.{applies, refused, after-refused, after-fine}
@@ -59,3 +59,11 @@ module _ {A M : Type 0} {refuse : ℕ → ℕ → A} {good : A} {m new : M} wher
 
   pub first-fine : (rules more : List Rule) {r : A} {m′ : M} → refusal rules ≡ Fine → RulesDone refuse more good m new r m′ → RulesDone refuse (rules ++ more) good m new r m′
   first-fine rules more e p = record { answer = rw (after-fine rules more e) (p .answer); memory = rw (after-fine rules more e) (p .memory) }
+
+  -- two memories are one, a pair: each part of it is as it would be alone
+  pub memory-part : {K : Type 0} (part : M → K) {rules : List Rule} {r : A} {m′ : M} → RulesDone refuse rules good m new r m′ → part m′ ≡ unless (refusal rules) (part m) (part new)
+  memory-part part {rules} p = ap part (p .memory) ∙ go (refusal rules)
+    where
+      go : (v : Ruling) → part (unless v m new) ≡ unless v (part m) (part new)
+      go Fine = refl
+      go (Refused x y) = refl

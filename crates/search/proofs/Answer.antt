@@ -6,30 +6,27 @@ use Prim.Native.Nat.{ℕ, _*_, _≤_}
 use native.Mathlib.Omega.{arith}
 use lib.ListN.{length, length-replicate}
 use Rattle.answers.specs.declared.Ruling.{Ruling}
-use Rattle.answers.specs.Rules.{refusal, Applies, AllSay}
-use Rattle.answers.specs.Answer.{answered}
-use Rattle.answers.proofs.Rules.{refused, after-refused, after-fine, both-fine, both-say}
+use Rattle.answers.specs.Rules.{Rule, refusal, Applies, AllSay}
+use Rattle.answers.proofs.Rules.{refused, both-fine, both-say}
 use Rattle.answers.proofs.Lent.{lent-says, lent-sizes}
 use Rattle.answers.proofs.Answer as answer
-use Rattle.answers.proofs.Answer.{numbers-told, Ruled}
+use Rattle.answers.proofs.Answer.{numbers-told, Ruled, fine-done, memory-part}
 use Rattle.circuit.specs.Record.{linesOf, inputsOf, Inside}
 use Rattle.circuit.specs.Promise.{circuitRules}
-use Rattle.circuit.specs.Formed.{Accepts, Known}
+use Rattle.circuit.specs.Formed.{Known}
 use Rattle.circuit.proofs.Answer.{circuit-says}
 use Rattle.lists.specs.declared.Fault.{Fault}
 use Rattle.lists.specs.Faults.{faultAt, faultRules}
 use Rattle.lists.proofs.Faults.{faults-say, good-faults}
 use Rattle.nodes.specs.declared.Verdict.{Verdict}
 use Rattle.nodes.specs.Node.{start}
-use Rattle.nodes.specs.Order.{testOf}
-use Rattle.nodes.specs.Budget.{testBy}
 use Rattle.nodes.proofs.Node.{start-is}
 use Rattle.search.specs.declared.Searched.{Searched}
 use Rattle.search.specs.declared.Searched.the-variants as searched
 use Rattle.sides.specs.Look.{lookOf, lookWork}
 use Rattle.sides.proofs.Look.{prepared}
 use Rattle.search.specs.Promise.{searchRestRules, searchRules, verdictFor, testFor, workFor, searchedNumbers, Searches}
-use Rattle.search.specs.Owed.{RunReady, RunDone, SearchDone}
+use Rattle.search.specs.Owed.{RunReady, RunDone, SearchedBy}
 
 -- ---- the rules in words
 
@@ -64,46 +61,31 @@ module _ (c f : List ℕ) (n inputs test work : ℕ) (fine : refusal (searchRest
         },
       )
 
--- ---- the answer for an accepted circuit
+-- ---- where nothing is refused, what the run leaves is owed
 
-module _ {c f : List ℕ} {inputs n b : ℕ} {t w : List ℕ} where
-  pub rest-refused : {x y : ℕ} → refusal (searchRestRules c f inputs n (length t) (length w)) ≡ Ruling.Refused x y → SearchDone c f inputs n b t w (searched.Refused x y) t w
-  rest-refused e = record { answer = rw e; test = rw e; work = rw e }
-
-  pub rest-fine : {at : Fault} {r : Verdict} {t′ w′ : List ℕ}
-      → refusal (searchRestRules c f inputs n (length t) (length w)) ≡ Ruling.Fine
-      → at ≡ faultAt f 0
-      → Known c n inputs
-      → RunDone (lookOf at c n) (lookWork at c n) (start inputs) b t w r t′ w′
-      → SearchDone c f inputs n b t w (searched.Verdict r) t′ w′
-  unfolding verdictFor testFor workFor
-  rest-fine {at} e at-is known p = record {
-    answer = rw (e, ← known .inputs, ← known .lines, ← at-is) (ap searched.Verdict (p .verdict));
-    test = rw (e, ← known .inputs, ← known .lines, ← at-is) (p .test ∙ ap (λ (v : Verdict). testBy v t (testOf (lookOf at c n) (start inputs))) (p .verdict));
-    work = rw (e, ← known .inputs, ← known .lines, ← at-is) (p .work);
-  }
+pub rest-fine : {rules : List Rule} {c : List ℕ} {inputs n b : ℕ} {t w : List ℕ} {at fault : Fault} {r : Verdict} {t′ w′ : List ℕ}
+    → refusal rules ≡ Ruling.Fine
+    → at ≡ fault
+    → Known c n inputs
+    → RunDone (lookOf at c n) (lookWork at c n) (start inputs) b t w r t′ w′
+    → SearchedBy rules c fault b t w (searched.Verdict r) t′ w′
+unfolding verdictFor testFor workFor
+rest-fine e at-is known p =
+    fine-done e
+    (rw (← known .inputs, ← known .lines, ← at-is, p .verdict))
+    (rw (← known .inputs, ← known .lines, ← at-is, p .test, p .verdict, p .work))
 
 -- ---- the promise
 
 module _ {c f : List ℕ} {b : ℕ} {t w : List ℕ} where
-  pub circuit-refused : {x y : ℕ} → refusal (circuitRules c) ≡ Ruling.Refused x y → Searches c f b t w (searched.Refused x y) t w
+  pub searches : {r : Searched} {t′ w′ : List ℕ} → SearchedBy (searchRules c f (length t) (length w)) c (faultAt f 0) b t w r t′ w′ → Searches c f b t w r t′ w′
   unfolding searchedNumbers
-  circuit-refused e =
-      let a = after-refused (circuitRules c) (searchRestRules c f (inputsOf c) (linesOf c) (length t) (length w)) e in
-      record { answer = rw a; numbers = rw a; test = rw a; work = rw a }
-
-  pub circuit-fine : {n m o : ℕ} {r : Searched} {t′ w′ : List ℕ} → Accepts c n m o → SearchDone c f m n b t w r t′ w′ → Searches c f b t w r t′ w′
-  unfolding searchedNumbers
-  circuit-fine {n} {m} {o} {r} {t′} {w′} k p =
-      let q : SearchDone c f (inputsOf c) (linesOf c) b t w r t′ w′ = rw (k .inputs, k .lines) at p in
-      let a = after-fine (circuitRules c) (searchRestRules c f (inputsOf c) (linesOf c) (length t) (length w)) (k .fine) in
-      let answer : r ≡ answered searched.Refused (refusal (searchRules c f (length t) (length w))) (searched.Verdict (verdictFor c (faultAt f 0) b)) = rw a (q .answer) in
-      record {
-        answer = answer;
-        numbers = ap searchedNumbers answer ∙ numbers-told searchedNumbers (λ x y. refl) (refusal (searchRules c f (length t) (length w))) (searched.Verdict (verdictFor c (faultAt f 0) b));
-        test = rw a (q .test);
-        work = rw a (q .work);
-      }
+  searches p = record {
+    answer = p .answer;
+    numbers = ap searchedNumbers (p .answer) ∙ numbers-told searchedNumbers (λ x y. refl) (refusal (searchRules c f (length t) (length w))) _;
+    test = memory-part (λ (lent : List ℕ × List ℕ). lent .0) p;
+    work = memory-part (λ (lent : List ℕ × List ℕ). lent .1) p;
+  }
 
   -- two allowed results are equal
   pub one-result : {r s : Searched} {t′ t″ w′ w″ : List ℕ} → Searches c f b t w r t′ w′ → Searches c f b t w s t″ w″ → (r ≡ s) × (t′ ≡ t″) × (w′ ≡ w″)

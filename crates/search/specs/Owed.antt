@@ -4,8 +4,8 @@ use mathlib.Core.Path.{_≡_}
 use mathlib.Core.List.{List}
 use Prim.Native.Nat.{ℕ}
 use lib.ListN.{length}
-use Rattle.answers.specs.Rules.{refusal, unless}
-use Rattle.answers.specs.Answer.{answered}
+use Rattle.answers.specs.Rules.{Rule}
+use Rattle.answers.specs.Answer.{RulesDone}
 use Rattle.circuit.specs.Record.{inputsBefore}
 use Rattle.lists.specs.declared.Fault.{Fault}
 use Rattle.lists.specs.Faults.{faultAt}
@@ -29,8 +29,11 @@ pub record RunDone (look : Look) (after : Node → List ℕ) (s : Node) (b : ℕ
   pub test : t′ ≡ testBy r t (testOf look s)
   pub work : w′ ≡ memoryOf look after b w s
 
--- the answer for an accepted circuit
-pub record SearchDone (c f : List ℕ) (inputs n b : ℕ) (t w : List ℕ) (r : Searched) (t′ w′ : List ℕ) : Type 0 where
-  pub answer : r ≡ answered searched.Refused (refusal (searchRestRules c f inputs n (length t) (length w))) (searched.Verdict (verdictFor c (faultAt f 0) b))
-  pub test : t′ ≡ unless (refusal (searchRestRules c f inputs n (length t) (length w))) t (testFor c (faultAt f 0) b t)
-  pub work : w′ ≡ unless (refusal (searchRestRules c f inputs n (length t) (length w))) w (workFor c (faultAt f 0) b w)
+-- the answer and both memories afterwards, where these are the rules
+abbrev pub SearchedBy : List Rule → List ℕ → Fault → ℕ → List ℕ → List ℕ → Searched → List ℕ → List ℕ → Type 0
+SearchedBy rules c fault b t w r t′ w′ =
+    RulesDone {M = List ℕ × List ℕ} searched.Refused rules (searched.Verdict (verdictFor c fault b)) (t, w) (testFor c fault b t, workFor c fault b w) r (t′, w′)
+
+-- for an accepted circuit
+abbrev pub SearchDone : List ℕ → List ℕ → ℕ → ℕ → ℕ → List ℕ → List ℕ → Searched → List ℕ → List ℕ → Type 0
+SearchDone c f inputs n b t w r t′ w′ = SearchedBy (searchRestRules c f inputs n (length t) (length w)) c (faultAt f 0) b t w r t′ w′

@@ -6,7 +6,8 @@ use lib.ListN.{length}
 use Rattle.answers.specs.declared.Ruling.the-variants.{Fine}
 use Rattle.answers.specs.Rules.{refusal}
 use Rattle.search.specs.Promise.{searchRestRules}
-use Rattle.search.proofs.Answer.{fault-inside, runs, rest-refused, rest-fine}
+use Rattle.answers.proofs.Answer.{refused-done}
+use Rattle.search.proofs.Answer.{fault-inside, runs, rest-fine}
 use Rattle.search.proofs.accepted.Statement.{statement}
 use Rattle.search.proofs.accepted.Tie as tie
 
@@ -33,7 +34,7 @@ run-all-x-requires c κs =
     runs _ _ _ _ _ _ (fine told) (read .read-fault .ensures) (entry (checked told) .pre)
 
 returns : tie.Need-returns
-returns c = rest-refused (sym (c .before .before .before .check-rest .ensures) ∙ c .before .v .given .1)
+returns c = refused-done (sym (c .before .before .before .check-rest .ensures) ∙ c .before .v .given .1)
 
 returns-2 : tie.Need-returns-2
 returns-2 c =

@@ -2,7 +2,8 @@
 -- Assumes nothing.
 use mathlib.Core.Path.{sym, _∙_}
 use borrow.Author.Needs.{needs}
-use Rattle.search.proofs.Answer.{circuit-refused, circuit-fine}
+use Rattle.answers.proofs.Answer.{first-refused, first-fine}
+use Rattle.search.proofs.Answer.{searches}
 use Rattle.circuit.proofs.Accepted.{accepts, refuses, known}
 use Rattle.search.proofs.search.Statement.{statement}
 use Rattle.search.proofs.search.Tie as tie
@@ -13,13 +14,14 @@ accepted-requires c κs =
     known (accepts _ _ _ _ (sym (told .v2 .given .1) ∙ told .before .before .check .ensures .answer))
 
 returns : tie.Need-returns
-returns c = circuit-refused (refuses _ _ _ (sym (c .before .v .given .1) ∙ c .before .before .before .check .ensures .answer))
+returns c = searches (first-refused _ _ (refuses _ _ _ (sym (c .before .v .given .1) ∙ c .before .before .before .check .ensures .answer)))
 
 returns-2 : tie.Need-returns-2
 returns-2 c =
     let rest = c .before .before .before .before in
     let told = rest .before .before .before .before in
-    circuit-fine (accepts _ _ _ _ (sym (told .v2 .given .1) ∙ told .before .before .check .ensures .answer)) (rest .accepted .ensures)
+    let k = accepts _ _ _ _ (sym (told .v2 .given .1) ∙ told .before .before .check .ensures .answer) in
+    searches (first-fine _ _ (k .fine) (rw (k .inputs, k .lines) at (rest .accepted .ensures)))
 
 pub search-spec : {M : Type 1} → statement M
 search-spec =
