@@ -21,7 +21,7 @@ use Rattle.circuit.specs.Record.{kindAt, linesOf, inputsOf, outputsOf}
 use Rattle.circuit.specs.Layout.{Layout}
 use Rattle.circuit.specs.Promise.{layoutRules, countRules, circuitRules, checkOf}
 use Rattle.circuit.specs.Formed.{Lower, Good, Accepts, Known}
-use Rattle.circuit.proofs.Answer.{circuit-says, rulingOf, ruled}
+use Rattle.circuit.proofs.Says.{circuit-says, rulingOf, ruled}
 
 -- a gate has a first pin
 pub gate-pin : (kind : ℕ) → (kind ≡ 0 → ⊥) → 1 ≤ pinsOf kind

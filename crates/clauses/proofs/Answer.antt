@@ -21,7 +21,7 @@ use Rattle.answers.proofs.Same.{le-same}
 use Rattle.circuit.specs.Record.{linesOf, inputsOf, isOutput, outputsBefore, Inside}
 use Rattle.circuit.specs.Promise.{circuitRules}
 use Rattle.circuit.specs.Formed.{Accepts}
-use Rattle.circuit.proofs.Answer.{circuit-says}
+use Rattle.circuit.proofs.Says.{circuit-says}
 use Rattle.lists.specs.declared.Fault.{Fault}
 use Rattle.lists.specs.Faults.{faultAt, faultRules}
 use Rattle.lists.proofs.Faults.{faults-say, good-faults}

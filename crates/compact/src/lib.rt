@@ -22,16 +22,16 @@ fn keep_all(marks: &mut [u8])
 }
 
 // Counts all patterns in, and notes the detected faults.
-fn count_all(counts: &mut [u8], seen: &mut [u8], table: &[u8], n: usize, patterns: usize)
-    requires { ⌜ CountsRoom (now counts) (now seen) (now table) n patterns ⌝ }
+fn count_all(counts: &mut [u8], seen: &mut [u8], table: &[u8], faults: usize, patterns: usize)
+    requires { ⌜ CountsRoom (now counts) (now seen) (now table) faults patterns ⌝ }
     requires { ⌜ Zeros (now counts) × Zeros (now seen) ⌝ }
-    ensures { λ _. ⌜ CountAllDone (now (table .entry)) n patterns (now (counts .exit)) (now (seen .exit)) ⌝ }
+    ensures { λ _. ⌜ CountAllDone (now (table .entry)) faults patterns (now (counts .exit)) (now (seen .exit)) ⌝ }
 {
     let mut p = 0;
     while p < patterns {
-        let from = p * n;
-        counts::count_pattern(counts, table, from, n, true);
-        counts::see_pattern(seen, table, from, n);
+        let from = p * faults;
+        counts::count_pattern(counts, table, from, faults, true);
+        counts::see_pattern(seen, table, from, faults);
         p += 1;
     }
 }
@@ -42,20 +42,20 @@ fn turn(
     seen: &[u8],
     marks: &mut [u8],
     table: &[u8],
-    n: usize,
+    faults: usize,
     patterns: usize,
     p: usize,
 )
-    requires { ⌜ CountsRoom (now counts) (now seen) (now table) n patterns ⌝ }
+    requires { ⌜ CountsRoom (now counts) (now seen) (now table) faults patterns ⌝ }
     requires { ⌜ TurnRoom (now marks) patterns p ⌝ }
-    requires { ⌜ TurnReady (now table) n patterns (p + 1) (now marks) (now counts) (now seen) ⌝ }
-    ensures { λ _. ⌜ TurnDone (now (table .entry)) n patterns p (now (marks .entry)) (now (marks .exit)) (now (counts .exit)) (now (seen .entry)) ⌝ }
+    requires { ⌜ TurnReady (now table) faults patterns (p + 1) (now marks) (now counts) (now seen) ⌝ }
+    ensures { λ _. ⌜ TurnDone (now (table .entry)) faults patterns p (now (marks .entry)) (now (marks .exit)) (now (counts .exit)) (now (seen .entry)) ⌝ }
 {
-    let from = p * n;
-    if counts::needed(counts, seen, table, from, n) {
+    let from = p * faults;
+    if counts::needed(counts, seen, table, from, faults) {
         return;
     }
-    counts::count_pattern(counts, table, from, n, false);
+    counts::count_pattern(counts, table, from, faults, false);
     marks[p] = 0;
 }
 
@@ -65,18 +65,18 @@ fn drop_spare(
     seen: &[u8],
     marks: &mut [u8],
     table: &[u8],
-    n: usize,
+    faults: usize,
     patterns: usize,
 )
-    requires { ⌜ CountsRoom (now counts) (now seen) (now table) n patterns ⌝ }
+    requires { ⌜ CountsRoom (now counts) (now seen) (now table) faults patterns ⌝ }
     requires { ⌜ now marks ≡ replicate patterns 1 ⌝ }
-    requires { ⌜ CountAllDone (now table) n patterns (now counts) (now seen) ⌝ }
-    ensures { λ _. ⌜ now (marks .exit) ≡ compacted (entriesOf n (now (table .entry))) n patterns ⌝ }
+    requires { ⌜ CountAllDone (now table) faults patterns (now counts) (now seen) ⌝ }
+    ensures { λ _. ⌜ now (marks .exit) ≡ compacted (entriesOf faults (now (table .entry))) faults patterns ⌝ }
 {
     let mut left = patterns;
     while 0 < left {
         let p = left - 1;
-        turn(counts, seen, marks, table, n, patterns, p);
+        turn(counts, seen, marks, table, faults, patterns, p);
         left = left - 1;
     }
 }
@@ -87,54 +87,54 @@ fn mark_all(
     seen: &mut [u8],
     marks: &mut [u8],
     table: &[u8],
-    n: usize,
+    faults: usize,
     patterns: usize,
 )
-    requires { ⌜ CountsRoom (now counts) (now seen) (now table) n patterns ⌝ }
+    requires { ⌜ CountsRoom (now counts) (now seen) (now table) faults patterns ⌝ }
     requires { ⌜ Zeros (now counts) × Zeros (now seen) ⌝ }
     requires { ⌜ length (now marks) ≡ patterns ⌝ }
-    ensures { λ _. ⌜ now (marks .exit) ≡ compacted (entriesOf n (now (table .entry))) n patterns ⌝ }
+    ensures { λ _. ⌜ now (marks .exit) ≡ compacted (entriesOf faults (now (table .entry))) faults patterns ⌝ }
 {
     keep_all(marks);
-    count_all(counts, seen, table, n, patterns);
-    drop_spare(counts, seen, marks, table, n, patterns);
+    count_all(counts, seen, table, faults, patterns);
+    drop_spare(counts, seen, marks, table, faults, patterns);
 }
 
 // The marks of a table with few faults: a row of 256 for the pairs of each, and one for the faults.
-fn mark_few(n: usize, patterns: usize, table: &[u8], marks: &mut [u8])
-    requires { ⌜ Sized n patterns (length (now table)) × (n < 16) ⌝ }
+fn mark_few(faults: usize, patterns: usize, table: &[u8], marks: &mut [u8])
+    requires { ⌜ Sized faults patterns (length (now table)) × (faults < 16) ⌝ }
     requires { ⌜ length (now marks) ≡ patterns ⌝ }
-    ensures { λ _. ⌜ now (marks .exit) ≡ compacted (entriesOf n (now (table .entry))) n patterns ⌝ }
+    ensures { λ _. ⌜ now (marks .exit) ≡ compacted (entriesOf faults (now (table .entry))) faults patterns ⌝ }
 {
     let mut counts = [0u8; 4096];
     let mut seen = [0u8; 256];
-    mark_all(&mut counts, &mut seen, marks, table, n, patterns);
+    mark_all(&mut counts, &mut seen, marks, table, faults, patterns);
 }
 
 // The same for any number of faults. Memory for all rows takes longer to clear than a small table to compact.
-fn mark_many(n: usize, patterns: usize, table: &[u8], marks: &mut [u8])
-    requires { ⌜ Sized n patterns (length (now table)) ⌝ }
+fn mark_many(faults: usize, patterns: usize, table: &[u8], marks: &mut [u8])
+    requires { ⌜ Sized faults patterns (length (now table)) ⌝ }
     requires { ⌜ length (now marks) ≡ patterns ⌝ }
-    ensures { λ _. ⌜ now (marks .exit) ≡ compacted (entriesOf n (now (table .entry))) n patterns ⌝ }
+    ensures { λ _. ⌜ now (marks .exit) ≡ compacted (entriesOf faults (now (table .entry))) faults patterns ⌝ }
 {
     let mut counts = [0u8; 65792];
     let mut seen = [0u8; 256];
-    mark_all(&mut counts, &mut seen, marks, table, n, patterns);
+    mark_all(&mut counts, &mut seen, marks, table, faults, patterns);
 }
 
 // Over a table that keeps its rules.
-fn compact_table(n: usize, patterns: usize, table: &[u8], marks: &mut [u8]) -> Ruling
-    requires { ⌜ Sized n patterns (length (now table)) ⌝ }
-    ensures { λ r. ⌜ CompactDone n patterns (now (table .entry)) (now (marks .entry)) r (now (marks .exit)) ⌝ }
+fn compact_table(faults: usize, patterns: usize, table: &[u8], marks: &mut [u8]) -> Ruling
+    requires { ⌜ Sized faults patterns (length (now table)) ⌝ }
+    ensures { λ r. ⌜ CompactDone faults patterns (now (table .entry)) (now (marks .entry)) r (now (marks .exit)) ⌝ }
 {
     if marks.len() != patterns {
         return Ruling::Refused(10, 0);
     }
-    if n < 16 {
-        mark_few(n, patterns, table, marks);
+    if faults < 16 {
+        mark_few(faults, patterns, table, marks);
         return Ruling::Fine;
     }
-    mark_many(n, patterns, table, marks);
+    mark_many(faults, patterns, table, marks);
     Ruling::Fine
 }
 

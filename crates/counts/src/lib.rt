@@ -36,15 +36,15 @@ fn count_row(
     at: usize,
     table: &[u8],
     from: usize,
-    n: usize,
+    faults: usize,
     want: u8,
     into: bool,
 )
-    requires { ⌜ RowRoom (now counts) at (now table) from n ⌝ }
-    ensures { λ _. ⌜ CellsDone into (hitRow (now (table .entry)) from want at n) (now (counts .entry)) (now (counts .exit)) ⌝ }
+    requires { ⌜ RowRoom (now counts) at (now table) from faults ⌝ }
+    ensures { λ _. ⌜ CellsDone into (hitRow (now (table .entry)) from want at faults) (now (counts .entry)) (now (counts .exit)) ⌝ }
 {
     let mut f = 0;
-    while f < n {
+    while f < faults {
         let x = same(table[from + f], want);
         counts[at + f] = count_cell(counts[at + f], x, into);
         f += 1;
@@ -65,25 +65,25 @@ fn count_pairs(counts: &mut [u8], table: &[u8], from: usize, g: usize, into: boo
 }
 
 // Counts a pattern in or out.
-pub fn count_pattern(counts: &mut [u8], table: &[u8], from: usize, n: usize, into: bool)
-    requires { ⌜ CellsRoom (now counts) (now table) from n ⌝ }
-    ensures { λ _. ⌜ CellsDone into (hit (now (table .entry)) from n) (now (counts .entry)) (now (counts .exit)) ⌝ }
+pub fn count_pattern(counts: &mut [u8], table: &[u8], from: usize, faults: usize, into: bool)
+    requires { ⌜ CellsRoom (now counts) (now table) from faults ⌝ }
+    ensures { λ _. ⌜ CellsDone into (hit (now (table .entry)) from faults) (now (counts .entry)) (now (counts .exit)) ⌝ }
 {
     let mut g = 0;
-    while g < n {
+    while g < faults {
         count_pairs(counts, table, from, g, into);
         g += 1;
     }
-    count_row(counts, 256 * n, table, from, n, 1, into);
+    count_row(counts, 256 * faults, table, from, faults, 1, into);
 }
 
 // Notes the faults that a pattern fails.
-pub fn see_pattern(seen: &mut [u8], table: &[u8], from: usize, n: usize)
-    requires { ⌜ RowRoom (now seen) 0 (now table) from n ⌝ }
-    ensures { λ _. ⌜ SeeDone (now (table .entry)) from n (now (seen .entry)) (now (seen .exit)) ⌝ }
+pub fn see_pattern(seen: &mut [u8], table: &[u8], from: usize, faults: usize)
+    requires { ⌜ RowRoom (now seen) 0 (now table) from faults ⌝ }
+    ensures { λ _. ⌜ SeeDone (now (table .entry)) from faults (now (seen .entry)) (now (seen .exit)) ⌝ }
 {
     let mut f = 0;
-    while f < n {
+    while f < faults {
         let x = same(table[from + f], 1);
         seen[f] = seen[f] | x;
         f += 1;
@@ -106,16 +106,16 @@ fn sole_in(
     at: usize,
     table: &[u8],
     from: usize,
-    n: usize,
+    faults: usize,
     want: u8,
 ) -> u8
-    requires { ⌜ RowRoom (now counts) at (now table) from n ⌝ }
-    requires { ⌜ n ≤ length (now seen) ⌝ }
-    ensures { λ r. ⌜ r ≡ one (anyBelow n (soleIn (now (counts .entry)) (now (seen .entry)) at (now (table .entry)) from want)) ⌝ }
+    requires { ⌜ RowRoom (now counts) at (now table) from faults ⌝ }
+    requires { ⌜ faults ≤ length (now seen) ⌝ }
+    ensures { λ r. ⌜ r ≡ one (anyBelow faults (soleIn (now (counts .entry)) (now (seen .entry)) at (now (table .entry)) from want)) ⌝ }
 {
     let mut r: u8 = 0;
     let mut f = 0;
-    while f < n {
+    while f < faults {
         let x = sole(counts[at + f], seen[f], table[from + f], want);
         r = r | x;
         f += 1;
@@ -141,16 +141,16 @@ fn sole_at(counts: &[u8], seen: &[u8], table: &[u8], from: usize, g: usize) -> b
 }
 
 // Whether the counted patterns, without this one of them, would lack something.
-pub fn needed(counts: &[u8], seen: &[u8], table: &[u8], from: usize, n: usize) -> bool
-    requires { ⌜ CellsRoom (now counts) (now table) from n ⌝ }
-    requires { ⌜ n ≤ length (now seen) ⌝ }
-    ensures { λ r. ⌜ r ≡ neededOf (now (counts .entry)) (now (seen .entry)) (now (table .entry)) from n ⌝ }
+pub fn needed(counts: &[u8], seen: &[u8], table: &[u8], from: usize, faults: usize) -> bool
+    requires { ⌜ CellsRoom (now counts) (now table) from faults ⌝ }
+    requires { ⌜ faults ≤ length (now seen) ⌝ }
+    ensures { λ r. ⌜ r ≡ neededOf (now (counts .entry)) (now (seen .entry)) (now (table .entry)) from faults ⌝ }
 {
-    if sole_in(counts, seen, 256 * n, table, from, n, 1) != 0 {
+    if sole_in(counts, seen, 256 * faults, table, from, faults, 1) != 0 {
         return true;
     }
     let mut g = 0;
-    while g < n {
+    while g < faults {
         if sole_at(counts, seen, table, from, g) {
             return true;
         }

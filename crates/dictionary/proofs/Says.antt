@@ -12,7 +12,7 @@ use Rattle.answers.proofs.Rules as rules
 use Rattle.answers.proofs.Rules.{applies, refused, not-fine, both-say}
 use Rattle.circuit.specs.Record.{linesOf, inputsOf}
 use Rattle.circuit.specs.Promise.{circuitRules}
-use Rattle.circuit.proofs.Answer.{circuit-says}
+use Rattle.circuit.proofs.Says.{circuit-says}
 use Rattle.rows.specs.Table.{tableOf, tableWork}
 use Rattle.rows.specs.Words.{Made}
 use Rattle.rows.proofs.Entries.{made, one-made}

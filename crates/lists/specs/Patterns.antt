@@ -8,20 +8,20 @@ use Rattle.answers.specs.Rules.Rule.{whole, each}
 use Rattle.answers.specs.Small.{smallOk, Small}
 use Rattle.answers.specs.Records.{recordsOk, Records}
 
--- of patterns with n inputs: how many there are, and pattern i
+-- of patterns with m inputs: how many there are, and pattern i
 abbrev pub patternCount : ℕ → List ℕ → ℕ
-patternCount n ps = length ps / n
+patternCount m ps = length ps / m
 
 abbrev pub patternAt : ℕ → List ℕ → ℕ → List ℕ
-patternAt n ps i = take n (drop (i * n) ps)
+patternAt m ps i = take m (drop (i * m) ps)
 
 unfoldable pub patternRules : ℕ → List ℕ → List Rule
-patternRules n ps =
-    whole 8 (recordsOk n 256 (length ps)) (Records n 256 (length ps)) 0
+patternRules m ps =
+    whole 8 (recordsOk m 256 (length ps)) (Records m 256 (length ps)) 0
     ∷ each 9 (length ps) (smallOk ps) (Small ps)
     ∷ []
 
 -- what a list is that is not refused
-pub record GoodPatterns (n : ℕ) (ps : List ℕ) : Type 0 where
-  pub records : Records n 256 (length ps)
+pub record GoodPatterns (m : ℕ) (ps : List ℕ) : Type 0 where
+  pub records : Records m 256 (length ps)
   pub bytes : (i : ℕ) → i < length ps → Small ps i

@@ -5,7 +5,7 @@ use Rattle.answers.specs.Rules.{AllSay}
 use Rattle.answers.proofs.Rules.{both-say}
 use Rattle.answers.proofs.Same.{eq-same}
 use Rattle.circuit.specs.Promise.{circuitRules}
-use Rattle.circuit.proofs.Answer.{circuit-says}
+use Rattle.circuit.proofs.Says.{circuit-says}
 use Rattle.order.specs.Order.{cycleRules}
 use Rattle.order.proofs.Says.{cycle-says}
 use Rattle.records.specs.Net.{Net, recordsOf}

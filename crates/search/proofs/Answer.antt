@@ -14,7 +14,7 @@ use Rattle.answers.proofs.Answer.{numbers-told, Ruled, fine-done, memory-part}
 use Rattle.circuit.specs.Record.{linesOf, inputsOf, Inside}
 use Rattle.circuit.specs.Promise.{circuitRules}
 use Rattle.circuit.specs.Formed.{Known}
-use Rattle.circuit.proofs.Answer.{circuit-says}
+use Rattle.circuit.proofs.Says.{circuit-says}
 use Rattle.lists.specs.declared.Fault.{Fault}
 use Rattle.lists.specs.Faults.{faultAt, faultRules}
 use Rattle.lists.proofs.Faults.{faults-say, good-faults}

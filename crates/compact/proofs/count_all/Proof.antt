@@ -20,7 +20,7 @@ mul-from : tie.Need-mul-from Inv-loop μ-loop
 mul-from c =
     let turn = c .before in
     let s = turn .before .before .before .before in
-    omega (arith, row-inside (turn .loop .p) (s .args .patterns) (s .args .n) (search needs))
+    omega (arith, row-inside (turn .loop .p) (s .args .patterns) (s .args .faults) (search needs))
 
 count-pattern-requires : tie.Need-count-pattern-requires Inv-loop μ-loop
 count-pattern-requires c κs =

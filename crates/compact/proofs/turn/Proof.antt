@@ -9,7 +9,7 @@ use Rattle.compact.proofs.turn.Tie as tie
 mul-from : tie.Need-mul-from
 mul-from c =
     let s = c .before .before .before .before in
-    omega (arith, row-inside (s .args .p) (s .args .patterns) (s .args .n) (search needs))
+    omega (arith, row-inside (s .args .p) (s .args .patterns) (s .args .faults) (search needs))
 
 needed-requires : tie.Need-needed-requires
 needed-requires c κs = let s = c .before .before .before .before .before in (row-cells (s .pre .0) _ (s .pre .1 .0 .below), search needs)

@@ -34,7 +34,7 @@ returns : tie.Need-returns Inv-loop μ-loop
 returns c =
     let s = c .before .before .before .before .before .before .before .before in
     let l = c .before .before .before .before .before .loop in
-    let q : l .g ≡ s .args .n = omega arith in
+    let q : l .g ≡ s .args .faults = omega arith in
     faults-next _ _ _ (rw q at (l .inv .2)) (s .pre .few) (c .before .before .count-row .ensures)
 
 pub count-pattern-spec : {M : Type 1} → statement M

@@ -32,7 +32,7 @@ same-length c = c .before .loop .inv .1
 returns : tie.Need-returns Inv-loop μ-loop
 returns c =
     let l = c .before .loop in
-    let q : l .f ≡ c .before .before .before .before .args .n = omega arith in
+    let q : l .f ≡ c .before .before .before .before .args .faults = omega arith in
     rw (← q) (l .inv .2)
 
 pub count-row-spec : {M : Type 1} → statement M
