@@ -1,4 +1,4 @@
--- The promise of the clause writer: reached rule by rule, read in the paper's words, and met by one result only.
+-- The promise of the clause writer: reached rule by rule, and met by one result only.
 -- Assumes nothing.
 use mathlib.Core.Path.{_≡_, refl, sym, ap, _∙_}
 use mathlib.Core.Bool.{true, false}
@@ -12,19 +12,15 @@ use borrow.Author.Tests.{le-leb, lt-leb}
 use Rattle.ground.proofs.Counting.{count-most}
 use Rattle.ground.specs.Put.{laidOn}
 use Rattle.answers.specs.declared.Ruling.{Ruling}
-use Rattle.answers.specs.Rules.{said, refusal, Applies, AllSay}
-use Rattle.answers.proofs.Rules.{both-say}
+use Rattle.answers.specs.Rules.{said, refusal}
 use Rattle.answers.proofs.Answer as answer
-use Rattle.answers.proofs.Answer.{numbers-told, Ruled, refused-done, fine-done}
+use Rattle.answers.proofs.Answer.{numbers-told, refused-done, fine-done}
 use Rattle.answers.proofs.Records.{one-record}
-use Rattle.answers.proofs.Same.{le-same}
 use Rattle.circuit.specs.Record.{linesOf, inputsOf, isOutput, outputsBefore, Inside}
-use Rattle.circuit.specs.Promise.{circuitRules}
 use Rattle.circuit.specs.Formed.{Accepts}
-use Rattle.circuit.proofs.Says.{circuit-says}
 use Rattle.lists.specs.declared.Fault.{Fault}
 use Rattle.lists.specs.Faults.{faultAt, faultRules}
-use Rattle.lists.proofs.Faults.{faults-say, good-faults}
+use Rattle.lists.proofs.Faults.{good-faults}
 use Rattle.cnf.specs.declared.Size.{Size}
 use Rattle.cnf.specs.Cnf.{Clauses, wordsOf}
 use Rattle.cnf.specs.Owed.{Takes}
@@ -32,7 +28,7 @@ use Rattle.cnf.proofs.Sizes.{words-length}
 use Rattle.clauses.specs.declared.Written.{Written}
 use Rattle.clauses.specs.declared.Written.the-variants.{Success, Refused}
 use Rattle.line_clauses.specs.Clauses.{clausesOf, variablesOf}
-use Rattle.clauses.specs.Promise.{roomRules, clausesFor, wordsFor, clauseRules, writtenOf, writtenNumbers, Writes}
+use Rattle.clauses.specs.Promise.{roomRules, clausesFor, clauseRules, writtenOf, writtenNumbers, Writes}
 use Rattle.clauses.specs.Owed.{WholeReady, PutAllReady, ClausesDone}
 
 -- ---- rule by rule
@@ -88,31 +84,3 @@ writes {c} {fs} {w} p = record {
 
 pub one-result : {c fs : List ℕ} {w w′ w″ : List ℤ} {r s : Written} → Writes c fs w w′ r → Writes c fs w w″ s → (r ≡ s) × (w′ ≡ w″)
 one-result p q = (cc, cc)
-
--- ---- the refusals in the paper's words
-
-pub room-says : (need room : ℕ) → AllSay (roomRules need room)
-unfolding roomRules AllSay
-room-says need room = (le-same need room, tt)
-
-pub clause-says : (c fs : List ℕ) (room : ℕ) → AllSay (clauseRules c fs room)
-clause-says c fs room = both-say (circuitRules c) _ (circuit-says c) (both-say (faultRules 1 c fs) _ (faults-say 1 c fs) (room-says (length (wordsFor c (faultAt fs 0))) room))
-
--- what was ruled, by the answer
-abbrev pub rulingOf : Written → Ruling
-rulingOf (Success w l v) = Ruling.Fine
-rulingOf (Refused number place) = Ruling.Refused number place
-
-pub ruled : (w l v : ℕ) → Ruled Refused rulingOf (Success w l v)
-ruled w l v = record { refuses = λ x y. refl; accepts = refl }
-
-module _ {c fs : List ℕ} {w w′ : List ℤ} {r : Written} (p : Writes c fs w w′ r) (number place : ℕ) where
-  -- a refusal is the first that applies, with the lowest place
-  pub refused-applies : r ≡ Refused number place → Applies (clauseRules c fs (length w)) number place
-  unfolding writtenOf
-  refused-applies = answer.refused-applies (ruled _ _ _) (clauseRules c fs (length w)) (clause-says c fs (length w)) (p .answer) number place
-
-  -- and where one applies, it is given
-  pub applies-refused : Applies (clauseRules c fs (length w)) number place → r ≡ Refused number place
-  unfolding writtenOf
-  applies-refused = answer.applies-refused (ruled _ _ _) (clauseRules c fs (length w)) (clause-says c fs (length w)) (p .answer) number place

@@ -2,3 +2,4 @@ pub mod Loops
 pub mod Sizes
 pub mod Whole
 pub mod Answer
+pub mod Says

@@ -20,7 +20,7 @@ use Rattle.simulate.specs.Boolean.{Vector, Detects}
 use Rattle.clauses.specs.declared.Written.the-variants.{Success}
 use Rattle.line_clauses.specs.Clauses.{variablesOf}
 use Rattle.clauses.specs.Promise.{clausesFor, wordsFor, clauseRules, writtenOf, Writes}
-use Rattle.clauses.proofs.Answer.{ruled}
+use Rattle.clauses.proofs.Says.{ruled}
 use Rattle.satisfied.specs.Satisfied.{FaithfulWords}
 use Rattle.satisfied.proofs.Faithful.{faithful}
 

@@ -1,4 +1,4 @@
--- The promise of the search: reached from its parts, read in the paper's words, and met by one result only.
+-- The promise of the search: reached from its parts, and met by one result only.
 -- Assumes nothing.
 use mathlib.Core.Path.{_≡_, refl, sym, ap, _∙_}
 use mathlib.Core.List.{List}
@@ -6,18 +6,16 @@ use Prim.Native.Nat.{ℕ, _*_, _≤_}
 use native.Mathlib.Omega.{arith}
 use lib.ListN.{length, length-replicate}
 use Rattle.answers.specs.declared.Ruling.{Ruling}
-use Rattle.answers.specs.Rules.{Rule, refusal, Applies, AllSay}
-use Rattle.answers.proofs.Rules.{refused, both-fine, both-say}
-use Rattle.answers.proofs.Lent.{lent-says, lent-sizes}
+use Rattle.answers.specs.Rules.{Rule, refusal}
+use Rattle.answers.proofs.Rules.{both-fine}
+use Rattle.answers.proofs.Lent.{lent-sizes}
 use Rattle.answers.proofs.Answer as answer
-use Rattle.answers.proofs.Answer.{numbers-told, Ruled, fine-done, memory-part}
-use Rattle.circuit.specs.Record.{linesOf, inputsOf, Inside}
-use Rattle.circuit.specs.Promise.{circuitRules}
+use Rattle.answers.proofs.Answer.{numbers-told, fine-done, memory-part}
+use Rattle.circuit.specs.Record.{inputsOf, Inside}
 use Rattle.circuit.specs.Formed.{Known}
-use Rattle.circuit.proofs.Says.{circuit-says}
 use Rattle.lists.specs.declared.Fault.{Fault}
 use Rattle.lists.specs.Faults.{faultAt, faultRules}
-use Rattle.lists.proofs.Faults.{faults-say, good-faults}
+use Rattle.lists.proofs.Faults.{good-faults}
 use Rattle.nodes.specs.declared.Verdict.{Verdict}
 use Rattle.nodes.specs.Node.{start}
 use Rattle.nodes.proofs.Node.{start-is}
@@ -27,14 +25,6 @@ use Rattle.sides.specs.Look.{lookOf, lookWork}
 use Rattle.sides.proofs.Look.{prepared}
 use Rattle.search.specs.Promise.{searchRestRules, searchRules, verdictFor, testFor, workFor, searchedNumbers, Searches}
 use Rattle.search.specs.Owed.{RunReady, RunDone, SearchedBy}
-
--- ---- the rules in words
-
-rest-says : (c f : List ℕ) (inputs lines test work : ℕ) → AllSay (searchRestRules c f inputs lines test work)
-rest-says c f inputs lines test work = both-say (faultRules 1 c f) _ (faults-say 1 c f) (lent-says inputs test (2 * lines) work)
-
-pub search-says : (c f : List ℕ) (test work : ℕ) → AllSay (searchRules c f test work)
-search-says c f test work = both-say (circuitRules c) _ (circuit-says c) (rest-says c f (inputsOf c) (linesOf c) test work)
 
 -- ---- what is not refused can be searched
 
@@ -90,24 +80,3 @@ module _ {c f : List ℕ} {b : ℕ} {t w : List ℕ} where
   -- two allowed results are equal
   pub one-result : {r s : Searched} {t′ t″ w′ w″ : List ℕ} → Searches c f b t w r t′ w′ → Searches c f b t w s t″ w″ → (r ≡ s) × (t′ ≡ t″) × (w′ ≡ w″)
   one-result p q = (cc, cc, cc)
-
--- ---- the refusals in the paper's words
-
--- what was ruled, by the answer
-abbrev pub rulingOf : Searched → Ruling
-rulingOf (searched.Verdict v) = Ruling.Fine
-rulingOf (searched.Refused number place) = Ruling.Refused number place
-
-pub ruled : (v : Verdict) → Ruled searched.Refused rulingOf (searched.Verdict v)
-ruled v = record { refuses = λ x y. refl; accepts = refl }
-
-module _ {c f : List ℕ} {b : ℕ} {t w : List ℕ} {r : Searched} {t′ w′ : List ℕ} (p : Searches c f b t w r t′ w′) (number place : ℕ) where
-  -- a refusal is the first that applies, with the lowest place
-  pub refused-applies : r ≡ searched.Refused number place → Applies (searchRules c f (length t) (length w)) number place
-  refused-applies = answer.refused-applies (ruled (verdictFor c (faultAt f 0) b)) (searchRules c f (length t) (length w)) (search-says c f (length t) (length w)) (p .answer) number place
-
-  -- and where one applies, it is given, and nothing is written
-  pub applies-refused : Applies (searchRules c f (length t) (length w)) number place → (r ≡ searched.Refused number place) × (t′ ≡ t) × (w′ ≡ w)
-  applies-refused a =
-      let e = refused (searchRules c f (length t) (length w)) (search-says c f (length t) (length w)) number place a in
-      (p .answer ∙ rw e, p .test ∙ rw e, p .work ∙ rw e)

@@ -28,7 +28,7 @@ use Rattle.nodes.proofs.Walk.{answers}
 use Rattle.nodes.proofs.Budget as budget
 use Rattle.search.specs.declared.Searched.the-variants as searched
 use Rattle.search.specs.Promise.{searchRestRules, searchRules, look, verdictFor, testFor, workFor, Searches}
-use Rattle.search.proofs.Answer.{ruled}
+use Rattle.search.proofs.Says.{ruled}
 use Rattle.verdicts.specs.Meaning.{FaithfulLook}
 use Rattle.verdicts.specs.Told.{Tells, allNodes, works}
 use Rattle.verdicts.proofs.Look.{means}
