@@ -8,7 +8,8 @@ use Rattle.answers.specs.declared.Ruling.{Ruling}
 use Rattle.answers.specs.declared.Ruling.the-variants.{Fine, Refused}
 use Rattle.answers.specs.Rules.{Rule, refusal, Applies, AllSay, unless}
 use Rattle.answers.specs.Area.{Numbers, refusedAt, told}
-use Rattle.answers.specs.Answer.{answered, RulesDone}
+use Rattle.answers.specs.Answer.{answered}
+use Rattle.answers.specs.Owed.{RulesDone}
 use Rattle.answers.proofs.Rules.{applies, refused, after-refused, after-fine}
 
 -- the numbers of an answer are those of its ruling

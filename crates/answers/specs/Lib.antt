@@ -4,3 +4,4 @@ pub mod Small
 pub mod Area
 pub mod Answer
 pub mod Lent
+pub mod Owed

@@ -6,7 +6,7 @@ use Prim.Native.Nat.{ℕ, _+_, _≤_}
 use lib.IntN.{ℤ}
 use lib.ListN.{length}
 use Rattle.answers.specs.Rules.{Rule}
-use Rattle.answers.specs.Answer.{RulesDone}
+use Rattle.answers.specs.Owed.{RulesDone}
 use Rattle.circuit.specs.Record.{outputsBefore}
 use Rattle.lists.specs.declared.Fault.{Fault}
 use Rattle.lists.specs.Faults.{faultAt, faultRules}

@@ -5,7 +5,7 @@ use mathlib.Core.List.{List, _++_, map}
 use Prim.Native.Nat.{ℕ, _+_, _≤_}
 use lib.ListN.{length}
 use Rattle.ground.specs.Put.{laidOn}
-use Rattle.answers.specs.Answer.{RulesDone}
+use Rattle.answers.specs.Owed.{RulesDone}
 use Rattle.answers.specs.Rules.{Rule}
 use Rattle.circuit.specs.Record.{linesOf}
 use Rattle.names.specs.Names.{nameRules, nameNumber}

@@ -5,7 +5,7 @@ use mathlib.Core.List.{List}
 use Prim.Native.Nat.{ℕ}
 use lib.ListN.{length}
 use Rattle.answers.specs.Rules.{Rule}
-use Rattle.answers.specs.Answer.{RulesDone}
+use Rattle.answers.specs.Owed.{RulesDone}
 use Rattle.circuit.specs.Record.{inputsBefore}
 use Rattle.lists.specs.declared.Fault.{Fault}
 use Rattle.lists.specs.Faults.{faultAt}
