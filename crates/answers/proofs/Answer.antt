@@ -43,6 +43,11 @@ module _ {A : Type 0} {refuse : ℕ → ℕ → A} {rulingOf : A → Ruling} {go
     pub applies-refused : Applies rules number place → r ≡ refuse number place
     applies-refused a = is ∙ ap (λ (v : Ruling). answered refuse v good) (refused rules says number place a)
 
+-- a ruling is an answer too
+pub ruling-is : (v : Ruling) → answered Refused v Fine ≡ v
+ruling-is Fine = refl
+ruling-is (Refused m k) = refl
+
 -- ---- what is done with the rules
 
 module _ {A M : Type 0} {refuse : ℕ → ℕ → A} {good : A} {m new : M} where

@@ -2,7 +2,8 @@
 -- Assumes nothing.
 use mathlib.Core.Path.{sym, _∙_}
 use borrow.Author.Needs.{needs}
-use Rattle.dictionary.proofs.Answer.{ready, refused-answer, filled-answer}
+use Rattle.answers.proofs.Answer.{refused-done}
+use Rattle.dictionary.proofs.Answer.{ready, table-filled}
 use Rattle.dictionary.proofs.accepted.Statement.{statement}
 use Rattle.dictionary.proofs.accepted.Tie as tie
 
@@ -21,14 +22,14 @@ fill-table-requires c κs =
 returns : tie.Need-returns
 returns c =
     let checked = c .before .before .before in
-    refused-answer _ _ _ _ _ _ _ _ (sym (checked .check-rest .ensures) ∙ c .before .v .given .1)
+    refused-done (sym (checked .check-rest .ensures) ∙ c .before .v .given .1)
 
 returns-2 : tie.Need-returns-2
 returns-2 c =
     let filled = c .before .before .before .before in
     let told = filled .before .before .before in
     let checked = told .before .before in
-    filled-answer _ _ _ _ _ _ _ _ (sym (checked .check-rest .ensures) ∙ told .enum-told .given .1) (filled .fill-table .ensures)
+    table-filled (sym (checked .check-rest .ensures) ∙ told .enum-told .given .1) (filled .fill-table .ensures)
 
 pub accepted-spec : {M : Type 1} → statement M
 accepted-spec =

@@ -2,7 +2,8 @@
 -- Assumes nothing.
 use mathlib.Core.Path.{sym, _∙_}
 use borrow.Author.Needs.{needs}
-use Rattle.dictionary.proofs.Answer.{circuit-refused, circuit-accepted}
+use Rattle.answers.proofs.Answer.{first-refused, first-fine}
+use Rattle.dictionary.proofs.Answer.{dictionaries}
 use Rattle.circuit.proofs.Accepted.{accepts, refuses, known}
 use Rattle.dictionary.proofs.dictionary.Statement.{statement}
 use Rattle.dictionary.proofs.dictionary.Tie as tie
@@ -13,15 +14,14 @@ accepted-requires c κs =
     known (accepts _ _ _ _ (sym (told .v2 .given .1) ∙ told .before .before .check .ensures .answer))
 
 returns : tie.Need-returns
-returns c =
-    circuit-refused _ _ _ _ _ (refuses _ _ _ (sym (c .before .v .given .1) ∙ c .before .before .before .check .ensures .answer))
+returns c = dictionaries (first-refused _ _ (refuses _ _ _ (sym (c .before .v .given .1) ∙ c .before .before .before .check .ensures .answer)))
 
 returns-2 : tie.Need-returns-2
 returns-2 c =
     let rest = c .before .before .before .before in
     let told = rest .before .before .before .before in
-    let accept = accepts _ _ _ _ (sym (told .v2 .given .1) ∙ told .before .before .check .ensures .answer) in
-    circuit-accepted _ _ _ _ _ accept (rest .accepted .ensures)
+    let k = accepts _ _ _ _ (sym (told .v2 .given .1) ∙ told .before .before .check .ensures .answer) in
+    dictionaries (first-fine _ _ (k .fine) (rw (k .lines, k .inputs) at (rest .accepted .ensures)))
 
 pub dictionary-spec : {M : Type 1} → statement M
 dictionary-spec =
