@@ -1,15 +1,14 @@
 -- The reader's refusals in the paper's words: a refusal is the first that applies, with the lowest place, and where one applies it is given.
 -- Assumes nothing.
-use mathlib.Core.Path.{_≡_, refl, _∙_}
+use mathlib.Core.Path.{_≡_, refl}
 use mathlib.Core.List.{List}
 use Prim.Native.Nat.{ℕ}
 use lib.ListN.{length}
 use Rattle.answers.specs.declared.Ruling.{Ruling}
-use Rattle.answers.specs.Rules.{Applies, AllHold, AllSay}
-use Rattle.answers.proofs.Rules.{fine, both-say}
+use Rattle.answers.specs.Rules.{Applies, AllSay}
+use Rattle.answers.proofs.Rules.{both-say}
 use Rattle.answers.proofs.Answer as answer
 use Rattle.answers.proofs.Answer.{Ruled}
-use Rattle.circuit.specs.Record.{linesOf}
 use Rattle.syntax.specs.Syntax.{syntaxRules}
 use Rattle.syntax.proofs.Says.{syntax-says}
 use Rattle.names.specs.Names.{nameRules}
@@ -18,7 +17,7 @@ use Rattle.nets.specs.declared.Read.{Read}
 use Rattle.nets.specs.declared.Read.the-variants.{Records, Refused}
 use Rattle.nets.proofs.Says.{net-says}
 use Rattle.bench.specs.Text.{defsIn, usesIn, netIn}
-use Rattle.bench.specs.Promise.{benchRules, recordsIn, readOf, Reads}
+use Rattle.bench.specs.Promise.{benchRules, readOf, Reads}
 
 pub bench-says : (t : List ℕ) (room : ℕ) → AllSay (benchRules t room)
 bench-says t room =
@@ -42,8 +41,3 @@ module _ {t c c′ : List ℕ} {r : Read} (p : Reads t c c′ r) where
     pub applies-refused : Applies (benchRules t (length c)) number place → r ≡ Refused number place
     unfolding readOf
     applies-refused = answer.applies-refused (ruled _) (benchRules t (length c)) (bench-says t (length c)) (p .answer) number place
-
-  -- where all that is asked holds, the text is read
-  pub holds-success : AllHold (benchRules t (length c)) → r ≡ Records (linesOf (recordsIn t))
-  unfolding readOf
-  holds-success a = p .answer ∙ rw (fine (benchRules t (length c)) (bench-says t (length c)) a)

@@ -6,7 +6,7 @@ use lib.ListN.{length}
 use Rattle.answers.specs.declared.Ruling.{Ruling}
 use Rattle.answers.specs.declared.Ruling.the-variants.{Fine, Refused}
 use Rattle.answers.specs.Rules.{Rule}
-use Rattle.answers.specs.Answer.{RulesDone}
+use Rattle.answers.specs.Owed.{RulesDone}
 use Rattle.rows.specs.Table.{tableOf, tableWork}
 use Rattle.dictionary.specs.Promise.{dictionaryRestRules}
 
