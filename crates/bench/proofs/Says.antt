@@ -32,12 +32,11 @@ rulingOf (Refused number place) = Ruling.Refused number place
 pub ruled : (n : ℕ) → Ruled Refused rulingOf (Records n)
 ruled n = record { refuses = λ x y. refl; accepts = refl }
 
-module _ {t c c′ : List ℕ} {r : Read} (p : Reads t c c′ r) where
-  module _ (number place : ℕ) where
-    pub refused-applies : r ≡ Refused number place → Applies (benchRules t (length c)) number place
-    unfolding readOf
-    refused-applies = answer.refused-applies (ruled _) (benchRules t (length c)) (bench-says t (length c)) (p .answer) number place
+module _ {t c c′ : List ℕ} {r : Read} (p : Reads t c c′ r) (number place : ℕ) where
+  pub refused-applies : r ≡ Refused number place → Applies (benchRules t (length c)) number place
+  unfolding readOf
+  refused-applies = answer.refused-applies (ruled _) (benchRules t (length c)) (bench-says t (length c)) (p .answer) number place
 
-    pub applies-refused : Applies (benchRules t (length c)) number place → r ≡ Refused number place
-    unfolding readOf
-    applies-refused = answer.applies-refused (ruled _) (benchRules t (length c)) (bench-says t (length c)) (p .answer) number place
+  pub applies-refused : Applies (benchRules t (length c)) number place → r ≡ Refused number place
+  unfolding readOf
+  applies-refused = answer.applies-refused (ruled _) (benchRules t (length c)) (bench-says t (length c)) (p .answer) number place
