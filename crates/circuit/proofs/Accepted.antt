@@ -1,6 +1,6 @@
 -- What is not refused is well formed: the law that callers use.
 -- Assumes nothing.
-use mathlib.Core.Path.{_≡_, refl, _∙_}
+use mathlib.Core.Path.{_≡_, refl, sym, ap, _∙_}
 use mathlib.Core.Logic.{⊎-elim}
 use mathlib.Core.Bool.{Bool, true, false}
 use mathlib.Core.List.{List}
@@ -19,7 +19,7 @@ use Rattle.circuit.specs.declared.Checked.{Checked}
 use Rattle.circuit.specs.declared.Checked.the-variants.{Accepted, Refused}
 use Rattle.circuit.specs.Record.{kindAt, linesOf, inputsOf, outputsOf}
 use Rattle.circuit.specs.Layout.{Layout}
-use Rattle.circuit.specs.Promise.{layoutRules, countRules, circuitRules, checkOf}
+use Rattle.circuit.specs.Promise.{layoutRules, countRules, circuitRules, checkOf, Checks}
 use Rattle.circuit.specs.Formed.{Lower, Good, Accepts, Known}
 use Rattle.circuit.proofs.Says.{circuit-says, rulingOf, ruled}
 
@@ -57,20 +57,20 @@ good c e =
     }
 
 -- what the check's answer says
-module _ (c : List ℕ) where
-  was : {r : Checked} → r ≡ checkOf c → refusal (circuitRules c) ≡ rulingOf r
+module _ {c : List ℕ} {r : Checked} where
+  was : Checks c r → refusal (circuitRules c) ≡ rulingOf r
   unfolding checkOf
-  was e = was-ruled (ruled (linesOf c) (inputsOf c) (outputsOf c)) e refl
+  was p = was-ruled (ruled (linesOf c) (inputsOf c) (outputsOf c)) (p .answer) refl
 
-  pub accepts : (n m o : ℕ) → Accepted n m o ≡ checkOf c → Accepts c n m o
+  pub accepts : {n m o : ℕ} → r ≡ Accepted n m o → Checks c r → Accepts c n m o
   unfolding checkOf
-  accepts n m o e =
-      let q : refusal (circuitRules c) ≡ Ruling.Fine = was e in
-      let so : Accepted n m o ≡ Accepted (linesOf c) (inputsOf c) (outputsOf c) = e ∙ rw q in
+  accepts {n} {m} {o} told p =
+      let q : refusal (circuitRules c) ≡ Ruling.Fine = was p ∙ ap rulingOf told in
+      let so : Accepted n m o ≡ Accepted (linesOf c) (inputsOf c) (outputsOf c) = sym told ∙ p .answer ∙ rw q in
       record { lines = cc; inputs = cc; outputs = cc; fine = q; good = good c q }
 
-  pub refuses : (x y : ℕ) → Refused x y ≡ checkOf c → refusal (circuitRules c) ≡ Ruling.Refused x y
-  refuses x y e = was e
+  pub refuses : {x y : ℕ} → r ≡ Refused x y → Checks c r → refusal (circuitRules c) ≡ Ruling.Refused x y
+  refuses told p = was p ∙ ap rulingOf told
 
 -- where the number of outputs does not matter
 pub known : {c : List ℕ} {n m o : ℕ} → Accepts c n m o → Known c n m

@@ -1,6 +1,5 @@
 -- `clauses::clauses` meets its contract: a refusal of the circuit is handed on, else the fault and the room decide.
 -- Assumes nothing.
-use mathlib.Core.Path.{sym, _∙_}
 use borrow.Author.Needs.{needs}
 use Rattle.answers.proofs.Answer.{first-refused, first-fine}
 use Rattle.clauses.proofs.Answer.{any-inputs, writes}
@@ -9,14 +8,14 @@ use Rattle.clauses.proofs.clauses.Statement.{statement}
 use Rattle.clauses.proofs.clauses.Tie as tie
 
 accepted-requires : tie.Need-accepted-requires
-accepted-requires c κs = any-inputs (accepts _ _ _ _ (sym (c .before .before .v2 .given .1) ∙ c .before .before .before .before .check .ensures .answer))
+accepted-requires c κs = any-inputs (accepts (c .before .before .v2 .given .1) (c .before .before .before .before .check .ensures))
 
 returns : tie.Need-returns
-returns c = writes (first-refused _ _ (refuses _ _ _ (sym (c .before .v .given .1) ∙ c .before .before .before .check .ensures .answer)))
+returns c = writes (first-refused _ _ (refuses (c .before .v .given .1) (c .before .before .before .check .ensures)))
 
 returns-2 : tie.Need-returns-2
 returns-2 c =
-    let a = accepts _ _ _ _ (sym (c .before .before .before .before .v2 .given .1) ∙ c .before .before .before .before .before .before .check .ensures .answer) in
+    let a = accepts (c .before .before .before .before .v2 .given .1) (c .before .before .before .before .before .before .check .ensures) in
     writes (first-fine _ _ (a .fine) (rw (a .lines) at (c .before .accepted .ensures)))
 
 pub clauses-spec : {M : Type 1} → statement M

@@ -1,6 +1,5 @@
 -- `listing::listing` meets its contract: a refusal of the circuit, or the rest.
 -- Assumes nothing.
-use mathlib.Core.Path.{sym, _∙_}
 use native.Mathlib.Omega.{arith}
 use borrow.Author.Needs.{needs}
 use Rattle.listing.proofs.Whole.{circuit-listed}
@@ -9,10 +8,10 @@ use Rattle.listing.proofs.listing.Statement.{statement}
 use Rattle.listing.proofs.listing.Tie as tie
 
 put-accepted-requires : tie.Need-put-accepted-requires
-put-accepted-requires c κs = (known (accepts _ _ _ _ (sym (c .before .before .before .v2 .given .1) ∙ c .before .before .before .before .before .check .ensures .answer)), omega arith, omega arith)
+put-accepted-requires c κs = (known (accepts (c .before .before .before .v2 .given .1) (c .before .before .before .before .before .check .ensures)), omega arith, omega arith)
 
 returns : tie.Need-returns
-returns c = circuit-listed (omega arith) (refuses _ _ _ (sym (c .before .before .before .v .given .1) ∙ c .before .before .before .before .before .check .ensures .answer)) (c .put-refused .ensures)
+returns c = circuit-listed (omega arith) (refuses (c .before .before .before .v .given .1) (c .before .before .before .before .before .check .ensures)) (c .put-refused .ensures)
 
 pub listing-spec : {M : Type 1} → statement M
 listing-spec =

@@ -1,6 +1,5 @@
 -- `search::search` meets its contract: a refusal of the circuit is handed on, else the rest decides.
 -- Assumes nothing.
-use mathlib.Core.Path.{sym, _∙_}
 use borrow.Author.Needs.{needs}
 use Rattle.answers.proofs.Answer.{first-refused, first-fine}
 use Rattle.search.proofs.Answer.{searches}
@@ -11,16 +10,16 @@ use Rattle.search.proofs.search.Tie as tie
 accepted-requires : tie.Need-accepted-requires
 accepted-requires c κs =
     let told = c .before .before .before in
-    known (accepts _ _ _ _ (sym (told .v2 .given .1) ∙ told .before .before .check .ensures .answer))
+    known (accepts (told .v2 .given .1) (told .before .before .check .ensures))
 
 returns : tie.Need-returns
-returns c = searches (first-refused _ _ (refuses _ _ _ (sym (c .before .v .given .1) ∙ c .before .before .before .check .ensures .answer)))
+returns c = searches (first-refused _ _ (refuses (c .before .v .given .1) (c .before .before .before .check .ensures)))
 
 returns-2 : tie.Need-returns-2
 returns-2 c =
     let rest = c .before .before .before .before in
     let told = rest .before .before .before .before in
-    let k = accepts _ _ _ _ (sym (told .v2 .given .1) ∙ told .before .before .check .ensures .answer) in
+    let k = accepts (told .v2 .given .1) (told .before .before .check .ensures) in
     searches (first-fine _ _ (k .fine) (rw (k .inputs, k .lines) at (rest .accepted .ensures)))
 
 pub search-spec : {M : Type 1} → statement M
