@@ -1,4 +1,4 @@
--- The laws of the gates as tests over the kinds below 9 and the values below 3, each computed whole.
+-- The laws of the gates as tests over the table's kinds and the three values at each pin, each computed whole.
 -- Assumes nothing.
 use mathlib.Core.Bool.{Bool, true, false, not, _&&_, _||_}
 use Prim.Native.Nat.{ℕ, _<_}
@@ -7,10 +7,12 @@ use mir.Facts.{and-yes}
 use Rattle.ground.specs.Choose.{one}
 use Rattle.ground.specs.Below.{allBelow}
 use Rattle.ground.proofs.Below.{at-below}
-use Rattle.gates.specs.Gate.{pinsOf, bufOf, notOf, andOf, orOf, xorOf, gateOf, atPins}
+use Rattle.gates.specs.Gate.{pinsOf, gateTable, threeOf, gateOf, atPins}
+use Rattle.gates.specs.Rule.{bufOf, notOf, andOf, orOf, xorOf, ruleOf}
 use Rattle.gates.specs.Boolean.{boolGate}
+use Rattle.gates.proofs.Table.{tableAt}
 
--- a test of a kind and two values: at all of them, and so at each
+-- a test of a kind and two values: at all 81 places, and so at each
 abbrev pub allGates : (ℕ → ℕ → ℕ → Bool) → Bool
 allGates t = allBelow 9 (λ k. allBelow 3 (λ a. allBelow 3 (λ b. t k a b)))
 
@@ -18,13 +20,22 @@ pub at-gates : (t : ℕ → ℕ → ℕ → Bool) → T (allGates t) → (k a b 
 at-gates t h k a b hk ha hb =
     at-below 3 (λ y. t k a y) (at-below 3 (λ x. allBelow 3 (λ y. t k x y)) (at-below 9 (λ m. allBelow 3 (λ x. allBelow 3 (λ y. t m x y))) h k hk) a ha) b hb
 
+-- ---- the table says what the gate rule says in words
+
+unfoldable pub wordsTest : ℕ → ℕ → ℕ → Bool
+wordsTest k a b = eqb (tableAt k a b) (ruleOf k (atPins a b))
+
+pub words-all : T (allGates wordsTest)
+unfolding wordsTest gateTable ruleOf bufOf notOf andOf orOf xorOf
+words-all = tt
+
 -- ---- a gate's value is 0, 1 or 2
 
 unfoldable pub smallTest : ℕ → ℕ → ℕ → Bool
-smallTest k a b = leb (gateOf k (atPins a b)) 2
+smallTest k a b = leb (tableAt k a b) 2
 
 pub small-all : T (allGates smallTest)
-unfolding smallTest gateOf bufOf notOf andOf orOf xorOf
+unfolding smallTest gateTable
 small-all = tt
 
 -- ---- where each pin that the kind has sees a known value, the gate's value is known
@@ -34,10 +45,10 @@ abbrev pub seesX : ℕ → ℕ → ℕ → Bool
 seesX k s x = leb s (pinsOf k) && leb 2 x
 
 unfoldable pub knownTest : ℕ → ℕ → ℕ → Bool
-knownTest k a b = eqb k 0 || (seesX k 1 a || (seesX k 2 b || ltb (gateOf k (atPins a b)) 2))
+knownTest k a b = eqb k 0 || (seesX k 1 a || (seesX k 2 b || ltb (tableAt k a b) 2))
 
 pub known-all : T (allGates knownTest)
-unfolding knownTest pinsOf gateOf bufOf notOf andOf orOf xorOf
+unfolding knownTest pinsOf gateTable
 known-all = tt
 
 -- ---- where each pin that the kind has sees a refinement, the gate's value is refined
@@ -50,10 +61,10 @@ pinRefines k s x y = not (leb s (pinsOf k)) || refines x y
 
 unfoldable pub refineTest : ℕ → ℕ → ℕ → ℕ → ℕ → Bool
 refineTest k a b a′ b′ =
-    not (pinRefines k 1 a a′) || (not (pinRefines k 2 b b′) || refines (gateOf k (atPins a b)) (gateOf k (atPins a′ b′)))
+    not (pinRefines k 1 a a′) || (not (pinRefines k 2 b b′) || refines (tableAt k a b) (tableAt k a′ b′))
 
 refine-all : T (allGates (λ k a b. allBelow 3 (λ a′. allBelow 3 (λ b′. refineTest k a b a′ b′))))
-unfolding refineTest pinsOf gateOf bufOf notOf andOf orOf xorOf
+unfolding refineTest pinsOf gateTable
 refine-all = tt
 
 pub at-refined : (k a b a′ b′ : ℕ) → k < 9 → a < 3 → b < 3 → a′ < 3 → b′ < 3 → T (refineTest k a b a′ b′)
@@ -79,7 +90,7 @@ at-bool t h false true = and-yes (t false true) _ (and-yes (t true false) _ (and
 at-bool t h false false = and-yes (t false true) _ (and-yes (t true false) _ (and-yes (t true true) _ h .1) .1) .1
 
 bool-all : T (allBelow 9 (λ k. allBool (boolTest k)))
-unfolding boolTest allBool boolGate gateOf bufOf notOf andOf orOf xorOf
+unfolding boolTest allBool boolGate gateTable threeOf gateOf
 bool-all = tt
 
 pub at-booleans : (k : ℕ) (x y : Bool) → k < 9 → T (eqb k 0 || eqb (gateOf k (atPins (one x) (one y))) (one (boolGate k (atPins x y))))

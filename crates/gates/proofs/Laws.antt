@@ -9,9 +9,10 @@ use lib.Dec.{T, leb, eqb, leb→le, ltb→lt, eqb→eq}
 use borrow.Author.Tests.{eq-eqb, ne-eqb, lt-leb, leb-true, leb-false}
 use Rattle.ground.specs.Choose.{choose, one}
 use Rattle.ground.proofs.Tests.{either, one-same}
-use Rattle.gates.specs.Gate.{lastKind, pinsOf, bufOf, gateOf, Refines}
+use Rattle.gates.specs.Gate.{lastKind, pinsOf, threeOf, gateOf, Refines}
 use Rattle.gates.specs.Boolean.{boolGate}
-use Rattle.gates.proofs.Clip.{buf-small, buf-known, buf-refines, other, clipped}
+use Rattle.gates.proofs.Values.{three-small, three-known, three-refines}
+use Rattle.gates.proofs.Table.{other}
 use Rattle.gates.proofs.Computed.{at-gates, smallTest, small-all, seesX, knownTest, known-all, refines, pinRefines, refineTest, at-refined, at-booleans}
 
 -- at each pin that the kind has
@@ -34,26 +35,26 @@ few-pins kind = omega (arith, two-pins kind)
 
 -- a gate's value is 0, 1 or 2
 pub gate-small : (k : ℕ) (v : ℕ → ℕ) → gateOf k v ≤ 2
-unfolding smallTest
+unfolding smallTest gateOf
 gate-small k v =
     ⊎-elim
-    (λ l. rw (clipped k v) (leb→le _ 2 (at-gates smallTest small-all k (bufOf (v 1)) (bufOf (v 2)) l (buf-small (v 1)) (buf-small (v 2)))))
+    (λ l. leb→le _ 2 (at-gates smallTest small-all k (threeOf (v 1)) (threeOf (v 2)) l (three-small (v 1)) (three-small (v 2))))
     (λ l. omega (arith, other k v l))
     (either k 9)
 
 -- known values at its pins give a known value
 pub gate-known : (k : ℕ) (v : ℕ → ℕ) → 1 ≤ k → k ≤ lastKind → AtPins k (λ s. v s < 2) → gateOf k v < 2
-unfolding knownTest
+unfolding knownTest gateOf
 gate-known k v some last h =
-    rw (clipped k v)
-    (ltb→lt _ 2 (simp (ne-eqb k 0 (omega arith), sees 1 (omega arith), sees 2 (omega arith)) at
-    (at-gates knownTest known-all k (bufOf (v 1)) (bufOf (v 2)) (omega arith) (buf-small (v 1)) (buf-small (v 2)))))
+    ltb→lt _ 2
+    (simp (ne-eqb k 0 (omega arith), sees 1 (omega arith), sees 2 (omega arith)) at
+    (at-gates knownTest known-all k (threeOf (v 1)) (threeOf (v 2)) (omega arith) (three-small (v 1)) (three-small (v 2))))
   where
-    sees : (s : ℕ) → 1 ≤ s → seesX k s (bufOf (v s)) ≡ false
+    sees : (s : ℕ) → 1 ≤ s → seesX k s (threeOf (v s)) ≡ false
     sees s l = go (leb s (pinsOf k)) refl
       where
-        go : (t : Bool) → leb s (pinsOf k) ≡ t → (t && leb 2 (bufOf (v s))) ≡ false
-        go true e = lt-leb 2 (bufOf (v s)) (buf-known (v s) (h s l (leb-true s (pinsOf k) e)))
+        go : (t : Bool) → leb s (pinsOf k) ≡ t → (t && leb 2 (threeOf (v s))) ≡ false
+        go true e = lt-leb 2 (threeOf (v s)) (three-known (v s) (h s l (leb-true s (pinsOf k) e)))
         go false e = refl
 
 refines-of : (x y : ℕ) → Refines x y → refines x y ≡ true
@@ -68,21 +69,20 @@ of-refines x y t h = eqb→eq y x (simp (lt-leb 2 x h) at t)
 
 -- where a gate's value is known, every refinement of what its pins see gives the same
 pub gate-mono : (k : ℕ) (v w : ℕ → ℕ) → AtPins k (λ s. Refines (v s) (w s)) → Refines (gateOf k v) (gateOf k w)
-unfolding refineTest
+unfolding refineTest gateOf
 gate-mono k v w h =
     ⊎-elim
-    (λ l. rw (clipped k v, clipped k w)
-    (of-refines _ _
+    (λ l. of-refines _ _
     (simp (pin 1 (omega arith), pin 2 (omega arith)) at
-    (at-refined k (bufOf (v 1)) (bufOf (v 2)) (bufOf (w 1)) (bufOf (w 2)) l (buf-small (v 1)) (buf-small (v 2)) (buf-small (w 1)) (buf-small (w 2))))))
+    (at-refined k (threeOf (v 1)) (threeOf (v 2)) (threeOf (w 1)) (threeOf (w 2)) l (three-small (v 1)) (three-small (v 2)) (three-small (w 1)) (three-small (w 2)))))
     (λ l m. absurd (omega (arith, other k v l)))
     (either k 9)
   where
-    pin : (s : ℕ) → 1 ≤ s → pinRefines k s (bufOf (v s)) (bufOf (w s)) ≡ true
+    pin : (s : ℕ) → 1 ≤ s → pinRefines k s (threeOf (v s)) (threeOf (w s)) ≡ true
     pin s l = go (leb s (pinsOf k)) refl
       where
-        go : (t : Bool) → leb s (pinsOf k) ≡ t → (not t || refines (bufOf (v s)) (bufOf (w s))) ≡ true
-        go true e = refines-of _ _ (buf-refines (v s) (w s) (h s l (leb-true s (pinsOf k) e)))
+        go : (t : Bool) → leb s (pinsOf k) ≡ t → (not t || refines (threeOf (v s)) (threeOf (w s))) ≡ true
+        go true e = refines-of _ _ (three-refines (v s) (w s) (h s l (leb-true s (pinsOf k) e)))
         go false e = refl
 
 -- a gate sees its own pins alone

@@ -1,3 +1,6 @@
-pub mod Clip
+pub mod Values
+pub mod Table
 pub mod Computed
 pub mod Laws
+pub mod Words
+pub mod Digits

@@ -1,9 +1,11 @@
 -- The gate rule: kinds 0 to 8; values 0, 1 and 2 for X. Total: every number from 2 on counts as X, a kind without a rule gives X.
 -- Assumes nothing.
 use mathlib.Core.Path.{_≡_}
-use mathlib.Core.Bool.{Bool, _&&_, _||_}
-use Prim.Native.Nat.{ℕ, _<_}
+use mathlib.Core.Bool.{Bool}
+use mathlib.Core.List.{List, [], _∷_}
+use Prim.Native.Nat.{ℕ, _+_, _*_, _<_}
 use lib.Dec.{ltb, leb, eqb}
+use lib.ListN.{getD}
 use Rattle.ground.specs.Choose.{choose}
 
 -- a value is known if it is 0 or 1
@@ -17,37 +19,61 @@ lastKind = 8
 unfoldable pub pinsOf : ℕ → ℕ
 pinsOf kind = choose (eqb kind 0) 0 (choose (leb kind 2) 1 2)
 
-unfoldable pub bufOf : ℕ → ℕ
-bufOf a = choose (known a) a 2
+abbrev X : ℕ
+X = 2
 
--- NOT X is X
-unfoldable pub notOf : ℕ → ℕ
-notOf a = choose (eqb a 0) 1 (choose (eqb a 1) 0 2)
+-- nine values a kind, in three rows: the row by what the first pin sees, the place in it by what the second sees, each in the order 0, 1, X
+unfoldable pub gateTable : List ℕ
+gateTable =
+    -- input, never used
+    X ∷ X ∷ X ∷
+    X ∷ X ∷ X ∷
+    X ∷ X ∷ X ∷
+    -- buffer
+    0 ∷ 0 ∷ 0 ∷
+    1 ∷ 1 ∷ 1 ∷
+    X ∷ X ∷ X ∷
+    -- NOT
+    1 ∷ 1 ∷ 1 ∷
+    0 ∷ 0 ∷ 0 ∷
+    X ∷ X ∷ X ∷
+    -- AND
+    0 ∷ 0 ∷ 0 ∷
+    0 ∷ 1 ∷ X ∷
+    0 ∷ X ∷ X ∷
+    -- NAND
+    1 ∷ 1 ∷ 1 ∷
+    1 ∷ 0 ∷ X ∷
+    1 ∷ X ∷ X ∷
+    -- OR
+    0 ∷ 1 ∷ X ∷
+    1 ∷ 1 ∷ 1 ∷
+    X ∷ 1 ∷ X ∷
+    -- NOR
+    1 ∷ 0 ∷ X ∷
+    0 ∷ 0 ∷ 0 ∷
+    X ∷ 0 ∷ X ∷
+    -- XOR
+    0 ∷ 1 ∷ X ∷
+    1 ∷ 0 ∷ X ∷
+    X ∷ X ∷ X ∷
+    -- XNOR
+    1 ∷ 0 ∷ X ∷
+    0 ∷ 1 ∷ X ∷
+    X ∷ X ∷ X ∷
+    []
 
--- with a 0 it is 0, of 1 and 1 it is 1, otherwise X
-unfoldable pub andOf : ℕ → ℕ → ℕ
-andOf a b = choose (eqb a 0 || eqb b 0) 0 (choose (eqb a 1 && eqb b 1) 1 2)
+-- 0 and 1 as they are, every other number as X
+unfoldable pub threeOf : ℕ → ℕ
+threeOf v = choose (known v) v X
 
--- with a 1 it is 1, of 0 and 0 it is 0, otherwise X
-unfoldable pub orOf : ℕ → ℕ → ℕ
-orOf a b = choose (eqb a 1 || eqb b 1) 1 (choose (eqb a 0 && eqb b 0) 0 2)
-
--- with an X it is X
-unfoldable pub xorOf : ℕ → ℕ → ℕ
-xorOf a b = choose (known a && known b) (choose (eqb a b) 0 1) 2
+-- what a table of nine values a kind has for a kind whose pin s sees v s; beyond its end that is X
+abbrev pub valueIn : List ℕ → ℕ → (ℕ → ℕ) → ℕ
+valueIn values kind v = getD values (9 * kind + 3 * threeOf (v 1) + threeOf (v 2)) X
 
 -- the value of a gate, by its kind and the value v s that each pin s sees
 unfoldable pub gateOf : ℕ → (ℕ → ℕ) → ℕ
-gateOf kind v =
-    choose (eqb kind 1) (bufOf (v 1))
-    (choose (eqb kind 2) (notOf (v 1))
-    (choose (eqb kind 3) (andOf (v 1) (v 2))
-    (choose (eqb kind 4) (notOf (andOf (v 1) (v 2)))
-    (choose (eqb kind 5) (orOf (v 1) (v 2))
-    (choose (eqb kind 6) (notOf (orOf (v 1) (v 2)))
-    (choose (eqb kind 7) (xorOf (v 1) (v 2))
-    (choose (eqb kind 8) (notOf (xorOf (v 1) (v 2)))
-    2)))))))
+gateOf kind v = valueIn gateTable kind v
 
 -- a at pin 1, b at pin 2
 abbrev pub atPins : {A : Type 0} → A → A → ℕ → A

@@ -1,2 +1,4 @@
 pub mod Gate
+pub mod Rule
 pub mod Boolean
+pub mod Owed

@@ -1,6 +1,9 @@
 // The gates: three values, 0, 1 and 2 for X, and the rule that gives a gate's value by its kind.
+use ground::wide;
 ghost use mathlib.Core.Path.{_≡_};
-ghost use Rattle.gates.specs.Gate.{bufOf, notOf, andOf, orOf, xorOf, pinsOf, atPins, gateOf};
+ghost use Prim.Native.Nat.{_≤_};
+ghost use Rattle.gates.specs.Gate.{pinsOf, threeOf, gateOf, atPins};
+ghost use Rattle.gates.specs.Owed.{blockOf};
 
 // Kinds are 0, an input, to this one.
 pub const LAST_KIND: u8 = 8;
@@ -18,79 +21,40 @@ pub fn pins(kind: u8) -> usize
     2
 }
 
-fn buf3(a: u8) -> u8
-    ensures { λ r. ⌜ r ≡ bufOf a ⌝ }
+// The gate rule. A kind has nine digits in three rows: its first pin chooses the row, its second the digit in it, each in the order 0, 1, X. 2 is X.
+fn block(kind: u8) -> u64
+    ensures { λ r. ⌜ r ≡ blockOf kind ⌝ }
 {
-    if a < 2 {
-        return a;
+    match kind {
+        //     0   1   X    at the first pin
+        0 => 0x222_222_222, // input, never used
+        1 => 0x000_111_222, // buffer
+        2 => 0x111_000_222, // NOT
+        3 => 0x000_012_022, // AND
+        4 => 0x111_102_122, // NAND
+        5 => 0x012_111_212, // OR
+        6 => 0x102_000_202, // NOR
+        7 => 0x012_102_222, // XOR
+        8 => 0x102_012_222, // XNOR
+        _ => 0x222_222_222, // no kind
     }
-    2
 }
 
-fn not3(a: u8) -> u8
-    ensures { λ r. ⌜ r ≡ notOf a ⌝ }
+// 0 and 1 as they are, every other number as X.
+fn three(v: u8) -> usize
+    ensures { λ r. ⌜ (r ≡ threeOf v) × (r ≤ 2) ⌝ }
 {
-    if a == 0 {
-        return 1;
-    }
-    if a == 1 {
-        return 0;
-    }
-    2
+    if v < 2 { wide(v) } else { 2 }
 }
 
-fn and3(a: u8, b: u8) -> u8
-    ensures { λ r. ⌜ r ≡ andOf a b ⌝ }
-{
-    if a == 0 || b == 0 {
-        return 0;
-    }
-    if a == 1 && b == 1 {
-        return 1;
-    }
-    2
-}
-
-fn or3(a: u8, b: u8) -> u8
-    ensures { λ r. ⌜ r ≡ orOf a b ⌝ }
-{
-    if a == 1 || b == 1 {
-        return 1;
-    }
-    if a == 0 && b == 0 {
-        return 0;
-    }
-    2
-}
-
-fn xor3(a: u8, b: u8) -> u8
-    ensures { λ r. ⌜ r ≡ xorOf a b ⌝ }
-{
-    if 2 <= a {
-        return 2;
-    }
-    if 2 <= b {
-        return 2;
-    }
-    if a == b {
-        return 0;
-    }
-    1
-}
-
-// The value of a gate whose pins see a and b; a kind with one pin takes no notice of b, an input has no value of its own: X.
+// The value of a gate whose pins see a and b; a kind with one pin takes no notice of b. It is the digit in row a, place b: those before it are
+// shifted out at the left, those after it at the right. A kind without a rule gives X; asked here, that is not asked again for its block.
 pub fn gate(kind: u8, a: u8, b: u8) -> u8
     ensures { λ r. ⌜ r ≡ gateOf kind (atPins a b) ⌝ }
 {
-    match kind {
-        1 => buf3(a),
-        2 => not3(a),
-        3 => and3(a, b),
-        4 => not3(and3(a, b)),
-        5 => or3(a, b),
-        6 => not3(or3(a, b)),
-        7 => xor3(a, b),
-        8 => not3(xor3(a, b)),
-        _ => 2,
+    if LAST_KIND < kind {
+        return 2;
     }
+    let before = 12 * three(a) + 4 * three(b);
+    (block(kind) << 28 << before >> 60) as u8
 }

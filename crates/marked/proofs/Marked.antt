@@ -6,7 +6,7 @@ use Rattle.ground.specs.Lists.{grow}
 use Rattle.answers.specs.Rules.{said, refusal}
 use Rattle.answers.specs.Records.{recordsOk}
 use Rattle.answers.specs.Small.{smallOk}
-use Rattle.gates.specs.Gate.{pinsOf, notOf, andOf, orOf, gateOf}
+use Rattle.gates.specs.Gate.{pinsOf, gateTable, threeOf, gateOf}
 use Rattle.little.specs.Little.{pairAt}
 use Rattle.answers.specs.Lent.{lentRules}
 use Rattle.circuit.specs.Layout.{pinOk, fieldOk, lineOk}
@@ -43,7 +43,7 @@ _and_ a b = (a, b)
 -- what is computed: rules; circuits and lists; the dictionary; the compactor; the listing; the search; clauses
 pub all-hold : AllYield marked
 unfolding countBelow firstNot said refusal recordsOk smallOk lentRules
-    pairAt pinsOf notOf andOf orOf gateOf pinOk fieldOk lineOk layoutRules countRules checkOf faultOk faultRules patternRules
+    pairAt pinsOf gateTable threeOf gateOf pinOk fieldOk lineOk layoutRules countRules checkOf faultOk faultRules patternRules
     stuckAt gateValue lineValue grow differ agree entryBy entryAt tableOf
     tells lost lostPair lacks turn turns compacted sizesOk tableRules marksRules
     digits letterOf markOf outputOf

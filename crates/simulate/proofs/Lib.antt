@@ -7,3 +7,4 @@ pub mod Mono
 pub mod Known
 pub mod Truths
 pub mod Sites
+pub mod Unused

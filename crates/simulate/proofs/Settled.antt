@@ -15,7 +15,7 @@ use Rattle.ground.specs.Lists.{grow}
 use Rattle.ground.proofs.Tests.{either}
 use Rattle.gates.specs.Gate.{lastKind}
 use Rattle.gates.proofs.Laws.{gate-same, few-pins}
-use Rattle.gates.proofs.Clip.{other}
+use Rattle.gates.proofs.Table.{other}
 use Rattle.circuit.specs.Record.{kindAt, pinAt, isInput, inputsBefore}
 use Rattle.circuit.specs.Formed.{Lower, WellFormed}
 use Rattle.simulate.specs.Simulate.{Forcing, unforced, gateValue, lineValue, valuesTo}

@@ -4,3 +4,4 @@ pub mod Vectors
 pub mod Work
 pub mod Sites
 pub mod Owed
+pub mod Unused

@@ -6,6 +6,7 @@ pub mod check;
 pub mod clauses;
 pub mod compact;
 pub mod dictionary;
+pub mod gates;
 pub mod search;
 mod simulate;
 

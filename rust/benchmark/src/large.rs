@@ -1,4 +1,5 @@
 //! Inputs of the largest sizes.
+use crate::baseline::gates::{Branches, Table};
 use crate::parts::{self, Files};
 use crate::timing::Row;
 use cases::circuits::{circuit, record, AND, INPUT, NOT, XOR};
@@ -44,12 +45,14 @@ fn chain_of_xors() -> Files {
 }
 
 pub fn rows() -> impl Iterator<Item = Row> {
-    let rows: [fn() -> Row; 9] = [
+    let rows: [fn() -> Row; 11] = [
         || parts::check("check: 2,048 lines", &files()),
-        || parts::dictionary("dictionary: 2,048 lines, 256 faults, 256 patterns", &files()),
+        || parts::dictionary::<Branches>("dictionary: 2,048 lines, 256 faults, 256 patterns", &files()),
+        || parts::dictionary::<Table>("the same beside Rust that looks gates up too", &files()),
         || parts::compact("compactor: 256 faults, 256 patterns", 256, &table()),
         || parts::compact_naively("compactor beside its definition run naively, 128", 128, &smaller_table()),
-        || parts::search("search: 500 lines, 20 inputs, 100,000 nodes at most", &redundant(), 100_000),
+        || parts::search::<Branches>("search: 500 lines, 20 inputs, 100,000 nodes at most", &redundant(), 100_000),
+        || parts::search::<Table>("the same beside Rust that looks gates up too", &redundant(), 100_000),
         || parts::clauses("clauses: 2,048 lines of XOR", &chain_of_xors()),
         // as many bytes, lines and statements as a text may have and be read, in any order
         || parts::bench("bench: 32,768 bytes, 2,048 lines", &texts::largest(&mut Random::new(6), 2048, 64)),

@@ -1,5 +1,5 @@
 //! Each part beside its baseline, on any input.
-use crate::baseline;
+use crate::baseline::{self, gates::Gates};
 use crate::timing::{race, Row};
 use std::hint::black_box;
 use ullimaqsu::raw::{enter, Call};
@@ -48,7 +48,8 @@ pub fn check(name: &str, files: &Files) -> Row {
     row
 }
 
-pub fn dictionary(name: &str, files: &Files) -> Row {
+/// The dictionary beside Rust with one of the forms of the gate rule.
+pub fn dictionary<G: Gates>(name: &str, files: &Files) -> Row {
     let Files { circuit, faults, patterns } = files;
     let mut proved = (vec![0; files.fault_count() * files.pattern_count()], vec![0; 2 * files.lines()], [0; 32]);
     let mut plain = proved.clone();
@@ -58,7 +59,7 @@ pub fn dictionary(name: &str, files: &Files) -> Row {
             let (table, work, answer) = &mut proved;
             enter(Call::Dictionary { circuit: black_box(circuit), faults, patterns, table, work, answer })
         },
-        || baseline::dictionary::enter(black_box(circuit), faults, patterns, &mut plain.0, &mut plain.1, &mut plain.2),
+        || baseline::dictionary::enter::<G>(black_box(circuit), faults, patterns, &mut plain.0, &mut plain.1, &mut plain.2),
     );
     assert_eq!(proved, plain);
     row
@@ -96,8 +97,8 @@ pub fn compact_naively(name: &str, faults: usize, table: &[u8]) -> Row {
     row
 }
 
-/// The search for the first of the faults.
-pub fn search(name: &str, files: &Files, budget: u64) -> Row {
+/// The search for the first of the faults, likewise.
+pub fn search<G: Gates>(name: &str, files: &Files, budget: u64) -> Row {
     let (circuit, fault) = (&files.circuit, &files.faults[..8]);
     let mut proved = (vec![0; files.inputs()], vec![0; 2 * files.lines()], [0; 32]);
     let mut plain = proved.clone();
@@ -107,7 +108,7 @@ pub fn search(name: &str, files: &Files, budget: u64) -> Row {
             let (test, work, answer) = &mut proved;
             enter(Call::Search { circuit: black_box(circuit), fault, budget, test, work, answer })
         },
-        || baseline::search::enter(black_box(circuit), fault, budget, &mut plain.0, &mut plain.1, &mut plain.2),
+        || baseline::search::enter::<G>(black_box(circuit), fault, budget, &mut plain.0, &mut plain.1, &mut plain.2),
     );
     assert_eq!(proved, plain);
     row

@@ -1,4 +1,5 @@
 //! Calls of the size of example A and of c17: here it shows what a call costs whatever it is given.
+use crate::baseline::gates::Branches;
 use crate::parts::{self, Files};
 use crate::timing::Row;
 use std::fs;
@@ -22,9 +23,9 @@ pub fn rows() -> impl Iterator<Item = Row> {
     let examples = [("example A", files("a"), A.to_vec()), ("c17", files("c17"), example("bench/c17.bench"))];
     let parts: [Part; 6] = [
         |name, files, _| parts::check(&format!("check: {name}"), files),
-        |name, files, _| parts::dictionary(&format!("dictionary: {name}"), files),
+        |name, files, _| parts::dictionary::<Branches>(&format!("dictionary: {name}"), files),
         |name, files, _| parts::compact(&format!("compactor: {name}"), files.fault_count(), &files.table()),
-        |name, files, _| parts::search(&format!("search: {name}"), files, u64::MAX),
+        |name, files, _| parts::search::<Branches>(&format!("search: {name}"), files, u64::MAX),
         |name, files, _| parts::clauses(&format!("clauses: {name}"), files),
         |name, _, text| parts::bench(&format!("bench: {name}"), text),
     ];

@@ -1,5 +1,6 @@
 //! The dictionary maker: the good circuit once a pattern, the faulty one from the fault's line on.
 use super::check::check;
+use super::gates::Gates;
 use super::simulate::{entry, faulty_values, good_values, Fault};
 use super::{pins, report, word};
 
@@ -23,7 +24,7 @@ pub fn check_faults(circuit: &[u8], faults: &[u8], most: usize) -> Result<(), (u
     }
 }
 
-fn dictionary(circuit: &[u8], faults: &[u8], patterns: &[u8], table: &mut [u8], work: &mut [u8]) -> Result<(), (u32, usize)> {
+fn dictionary<G: Gates>(circuit: &[u8], faults: &[u8], patterns: &[u8], table: &mut [u8], work: &mut [u8]) -> Result<(), (u32, usize)> {
     let [n, inputs, _] = check(circuit)?;
     check_faults(circuit, faults, 256)?;
     if patterns.is_empty() || !patterns.len().is_multiple_of(inputs) || patterns.len() / inputs > 256 {
@@ -37,17 +38,17 @@ fn dictionary(circuit: &[u8], faults: &[u8], patterns: &[u8], table: &mut [u8], 
         return Err((10, 0));
     }
     for (pattern, row) in patterns.chunks_exact(inputs).zip(table.chunks_exact_mut(count)) {
-        good_values(circuit, pattern, work, n);
+        good_values::<G>(circuit, pattern, work, n);
         for (j, cell) in row.iter_mut().enumerate() {
-            faulty_values(circuit, Fault::read(faults, j), work, n);
+            faulty_values::<G>(circuit, Fault::read(faults, j), work, n);
             *cell = entry(circuit, work, n);
         }
     }
     Ok(())
 }
 
-pub fn enter(circuit: &[u8], faults: &[u8], patterns: &[u8], table: &mut [u8], work: &mut [u8], answer: &mut [u8; 32]) -> u32 {
-    match dictionary(circuit, faults, patterns, table, work) {
+pub fn enter<G: Gates>(circuit: &[u8], faults: &[u8], patterns: &[u8], table: &mut [u8], work: &mut [u8], answer: &mut [u8; 32]) -> u32 {
+    match dictionary::<G>(circuit, faults, patterns, table, work) {
         Ok(()) => report(0, [0; 3], answer),
         Err((number, place)) => report(number, [place as u64, 0, 0], answer),
     }

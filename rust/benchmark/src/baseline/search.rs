@@ -1,6 +1,7 @@
 //! The test search: over a node that is set and restored in place, with the budget carried through.
 use super::check::check;
 use super::dictionary::check_faults;
+use super::gates::Gates;
 use super::report;
 use super::simulate::{entry, faulty_values, good_values, Fault};
 
@@ -11,12 +12,12 @@ enum Verdict {
 }
 use Verdict::*;
 
-fn side(circuit: &[u8], fault: Fault, n: usize, node: &mut [u8], work: &mut [u8], left: u64) -> Verdict {
+fn side<G: Gates>(circuit: &[u8], fault: Fault, n: usize, node: &mut [u8], work: &mut [u8], left: u64) -> Verdict {
     if left == 0 {
         return GivenUp(0);
     }
-    good_values(circuit, node, work, n);
-    faulty_values(circuit, fault, work, n);
+    good_values::<G>(circuit, node, work, n);
+    faulty_values::<G>(circuit, fault, work, n);
     match entry(circuit, work, n) {
         1 => return Test(1),
         0 => return Redundant(1),
@@ -24,13 +25,13 @@ fn side(circuit: &[u8], fault: Fault, n: usize, node: &mut [u8], work: &mut [u8]
     }
     let at = node.iter().position(|&v| v == 2).expect("an unknown node has an X");
     node[at] = 0;
-    let m = match side(circuit, fault, n, node, work, left - 1) {
+    let m = match side::<G>(circuit, fault, n, node, work, left - 1) {
         Redundant(m) => m,
         Test(m) => return Test(1 + m),
         GivenUp(_) => return GivenUp(left),
     };
     node[at] = 1;
-    match side(circuit, fault, n, node, work, left - 1 - m) {
+    match side::<G>(circuit, fault, n, node, work, left - 1 - m) {
         Redundant(k) => {
             node[at] = 2;
             Redundant(1 + m + k)
@@ -40,7 +41,7 @@ fn side(circuit: &[u8], fault: Fault, n: usize, node: &mut [u8], work: &mut [u8]
     }
 }
 
-fn search(circuit: &[u8], fault: &[u8], budget: u64, test: &mut [u8], work: &mut [u8]) -> Result<[u64; 3], (u32, usize)> {
+fn search<G: Gates>(circuit: &[u8], fault: &[u8], budget: u64, test: &mut [u8], work: &mut [u8]) -> Result<[u64; 3], (u32, usize)> {
     let [n, inputs, _] = check(circuit)?;
     check_faults(circuit, fault, 1)?;
     if test.len() != inputs || work.len() != 2 * n {
@@ -48,7 +49,7 @@ fn search(circuit: &[u8], fault: &[u8], budget: u64, test: &mut [u8], work: &mut
     }
     let mut node = [2; 64];
     let node = &mut node[..inputs];
-    Ok(match side(circuit, Fault::read(fault, 0), n, node, work, budget) {
+    Ok(match side::<G>(circuit, Fault::read(fault, 0), n, node, work, budget) {
         Test(nodes) => {
             test.copy_from_slice(node);
             [0, nodes, 0]
@@ -58,8 +59,8 @@ fn search(circuit: &[u8], fault: &[u8], budget: u64, test: &mut [u8], work: &mut
     })
 }
 
-pub fn enter(circuit: &[u8], fault: &[u8], budget: u64, test: &mut [u8], work: &mut [u8], answer: &mut [u8; 32]) -> u32 {
-    match search(circuit, fault, budget, test, work) {
+pub fn enter<G: Gates>(circuit: &[u8], fault: &[u8], budget: u64, test: &mut [u8], work: &mut [u8], answer: &mut [u8; 32]) -> u32 {
+    match search::<G>(circuit, fault, budget, test, work) {
         Ok(numbers) => report(0, numbers, answer),
         Err((number, place)) => report(number, [place as u64, 0, 0], answer),
     }

@@ -1,50 +1,6 @@
 //! Simulation with three values, and the entry of a pattern and a fault.
+use super::gates::Gates;
 use super::word;
-
-fn not(a: u8) -> u8 {
-    match a {
-        0 => 1,
-        1 => 0,
-        _ => 2,
-    }
-}
-
-fn and(a: u8, b: u8) -> u8 {
-    match (a, b) {
-        (0, _) | (_, 0) => 0,
-        (1, 1) => 1,
-        _ => 2,
-    }
-}
-
-fn or(a: u8, b: u8) -> u8 {
-    match (a, b) {
-        (1, _) | (_, 1) => 1,
-        (0, 0) => 0,
-        _ => 2,
-    }
-}
-
-fn xor(a: u8, b: u8) -> u8 {
-    match (a, b) {
-        (0 | 1, 0 | 1) => (a != b) as u8,
-        _ => 2,
-    }
-}
-
-fn gate(kind: u8, a: u8, b: u8) -> u8 {
-    match kind {
-        1 => a.min(2),
-        2 => not(a),
-        3 => and(a, b),
-        4 => not(and(a, b)),
-        5 => or(a, b),
-        6 => not(or(a, b)),
-        7 => xor(a, b),
-        8 => not(xor(a, b)),
-        _ => 2,
-    }
-}
 
 #[derive(Clone, Copy)]
 pub struct Fault {
@@ -68,17 +24,17 @@ impl Fault {
 }
 
 /// Gives every line from `start` on its value; an input's line has it already.
-fn simulate_from(circuit: &[u8], values: &mut [u8], start: usize) {
+fn simulate_from<G: Gates>(circuit: &[u8], values: &mut [u8], start: usize) {
     for k in start..values.len() {
         let kind = circuit[8 * k];
         if kind != 0 {
-            values[k] = gate(kind, values[word(circuit, 8 * k + 2)], values[word(circuit, 8 * k + 4)]);
+            values[k] = G::value(kind, values[word(circuit, 8 * k + 2)], values[word(circuit, 8 * k + 4)]);
         }
     }
 }
 
 /// The good values, in the first half of the work memory.
-pub fn good_values(circuit: &[u8], pattern: &[u8], work: &mut [u8], n: usize) {
+pub fn good_values<G: Gates>(circuit: &[u8], pattern: &[u8], work: &mut [u8], n: usize) {
     let values = &mut work[..n];
     let mut used = 0;
     for k in 0..n {
@@ -88,11 +44,11 @@ pub fn good_values(circuit: &[u8], pattern: &[u8], work: &mut [u8], n: usize) {
             used += 1;
         }
     }
-    simulate_from(circuit, values, 0);
+    simulate_from::<G>(circuit, values, 0);
 }
 
 /// The faulty values, in the second half: those below the fault's line are the good ones.
-pub fn faulty_values(circuit: &[u8], fault: Fault, work: &mut [u8], n: usize) {
+pub fn faulty_values<G: Gates>(circuit: &[u8], fault: Fault, work: &mut [u8], n: usize) {
     let (good, values) = work.split_at_mut(n);
     values.copy_from_slice(good);
     let line = fault.line;
@@ -102,10 +58,10 @@ pub fn faulty_values(circuit: &[u8], fault: Fault, work: &mut [u8], n: usize) {
     } else {
         let a = fault.seen(1, values[word(circuit, 8 * line + 2)]);
         let b = fault.seen(2, values[word(circuit, 8 * line + 4)]);
-        gate(kind, a, b)
+        G::value(kind, a, b)
     };
     values[line] = fault.seen(0, v);
-    simulate_from(circuit, values, line + 1);
+    simulate_from::<G>(circuit, values, line + 1);
 }
 
 /// 1 fail, 0 pass, 2 unknown.

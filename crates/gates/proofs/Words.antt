@@ -1,0 +1,70 @@
+-- The table says what the gate rule says in words.
+-- Assumes nothing.
+use mathlib.Core.Path.{_≡_, refl, sym, _∙_}
+use mathlib.Core.Logic.{⊎-elim}
+use mathlib.Core.Bool.{false, and-false, or-false}
+use Prim.Native.Nat.{ℕ, zero, suc, _≤_}
+use native.Mathlib.Omega.{arith}
+use lib.Dec.{eqb, eqb→eq}
+use borrow.Author.Tests.{ne-eqb}
+use Rattle.ground.proofs.Tests.{either}
+use Rattle.gates.specs.Gate.{threeOf, gateOf, atPins}
+use Rattle.gates.specs.Rule.{bufOf, notOf, andOf, orOf, xorOf, ruleOf}
+use Rattle.gates.proofs.Values.{unknown, three-small}
+use Rattle.gates.proofs.Computed.{at-gates, wordsTest, words-all}
+use Rattle.gates.proofs.Table.{other}
+
+-- ---- in words too a value above 2 is as good as 2
+
+not0 : (a : ℕ) → eqb (suc (suc a)) 0 ≡ false
+not0 a = ne-eqb (suc (suc a)) 0 (omega arith)
+
+not1 : (a : ℕ) → eqb (suc (suc a)) 1 ≡ false
+not1 a = ne-eqb (suc (suc a)) 1 (omega arith)
+
+-- what takes no notice of how far a value is above 2 may be asked of the one of 0, 1 and X that it counts as
+clip : (F : ℕ → ℕ) → ((a : ℕ) → F (suc (suc a)) ≡ F 2) → (a : ℕ) → F a ≡ F (threeOf a)
+unfolding threeOf
+clip F h zero = refl
+clip F h (suc zero) = refl
+clip F h (suc (suc a)) = rw (unknown a) (h a)
+
+first-clip : (k b a : ℕ) → ruleOf k (atPins (suc (suc a)) b) ≡ ruleOf k (atPins 2 b)
+unfolding ruleOf bufOf notOf andOf orOf xorOf
+first-clip k b a = simp (not0 a, not1 a, unknown a)
+
+second-clip : (k a b : ℕ) → ruleOf k (atPins a (suc (suc b))) ≡ ruleOf k (atPins a 2)
+unfolding ruleOf bufOf notOf andOf orOf xorOf
+second-clip k a b = simp (not0 b, not1 b, unknown b, and-false, or-false)
+
+values-clip : (k a b : ℕ) → ruleOf k (atPins a b) ≡ ruleOf k (atPins (threeOf a) (threeOf b))
+values-clip k a b =
+    clip (λ (x : ℕ). ruleOf k (atPins x b)) (first-clip k b) a ∙ clip (λ (y : ℕ). ruleOf k (atPins (threeOf a) y)) (second-clip k (threeOf a)) b
+
+clipped : (k : ℕ) (v : ℕ → ℕ) → ruleOf k v ≡ ruleOf k (atPins (threeOf (v 1)) (threeOf (v 2)))
+unfolding ruleOf
+clipped k v = values-clip k (v 1) (v 2)
+
+-- a kind without a rule
+no-rule : (k : ℕ) (v : ℕ → ℕ) → 9 ≤ k → ruleOf k v ≡ 2
+unfolding ruleOf
+no-rule k v h =
+    simp (
+      ne-eqb k 1 (omega arith),
+      ne-eqb k 2 (omega arith),
+      ne-eqb k 3 (omega arith),
+      ne-eqb k 4 (omega arith),
+      ne-eqb k 5 (omega arith),
+      ne-eqb k 6 (omega arith),
+      ne-eqb k 7 (omega arith),
+      ne-eqb k 8 (omega arith),
+    )
+
+-- the look-up and the words, of every kind and whatever the pins see
+pub in-words : (k : ℕ) (v : ℕ → ℕ) → gateOf k v ≡ ruleOf k v
+unfolding gateOf wordsTest
+in-words k v =
+    ⊎-elim
+    (λ l. eqb→eq _ _ (at-gates wordsTest words-all k (threeOf (v 1)) (threeOf (v 2)) l (three-small (v 1)) (three-small (v 2))) ∙ sym (clipped k v))
+    (λ l. other k v l ∙ sym (no-rule k v l))
+    (either k 9)

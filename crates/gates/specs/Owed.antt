@@ -1,0 +1,14 @@
+-- What the functions of the gates owe each other; no reader of the promises needs it.
+-- Assumes nothing.
+use Prim.Native.Nat.{ℕ, zero, suc, _+_, _*_}
+use lib.ListN.{getD}
+use Rattle.gates.specs.Gate.{gateTable}
+
+-- the number with these n hexadecimal digits, the first one highest
+abbrev pub hexOf : (ℕ → ℕ) → ℕ → ℕ
+hexOf digit zero = 0
+hexOf digit (suc n) = 16 * hexOf digit n + digit n
+
+-- the nine values of a kind as one number
+unfoldable pub blockOf : ℕ → ℕ
+blockOf kind = hexOf (λ p. getD gateTable (9 * kind + p) 2) 9

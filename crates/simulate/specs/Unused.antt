@@ -1,0 +1,19 @@
+-- Simulation by some other table of the gates, to say which values of the table are never used.
+-- Assumes nothing.
+use mathlib.Core.Path.{_≡_}
+use mathlib.Core.List.{List}
+use Prim.Native.Nat.{ℕ, _≤_}
+use lib.ListN.{getD}
+use Rattle.ground.specs.Choose.{choose}
+use Rattle.ground.specs.Lists.{grow}
+use Rattle.gates.specs.Gate.{gateTable, valueIn}
+use Rattle.circuit.specs.Record.{kindAt, pinAt, isInput, inputsBefore}
+use Rattle.simulate.specs.Simulate.{Forcing}
+
+-- the values of the first n lines, as in `valuesTo`, where the gates go by this table
+abbrev pub valuesBy : List ℕ → Forcing → List ℕ → List ℕ → ℕ → List ℕ
+valuesBy values f c p n = grow (λ vs k. f k 0 (choose (isInput c k) (getD p (inputsBefore c k) 0) (valueIn values (kindAt c k) (λ s. f k s (getD vs (pinAt c k s) 0))))) n
+
+-- the table of the gates but for an input's values, the first nine, which may be any
+abbrev pub OtherForInputs : List ℕ → Type 0
+OtherForInputs values = (place : ℕ) → 9 ≤ place → getD values place 2 ≡ getD gateTable place 2
