@@ -8,7 +8,7 @@ use Rattle.ground.specs.Choose.{one}
 use Rattle.ground.specs.Below.{allBelow}
 use Rattle.ground.proofs.Below.{at-below}
 use Rattle.gates.specs.Gate.{pinsOf, gateTable, threeOf, gateOf, atPins}
-use Rattle.gates.specs.Rule.{bufOf, notOf, andOf, orOf, xorOf, ruleOf}
+use Rattle.gates.specs.Rule.{notOf, andOf, orOf, xorOf, ruleOf}
 use Rattle.gates.specs.Boolean.{boolGate}
 use Rattle.gates.proofs.Table.{tableAt}
 
@@ -26,7 +26,7 @@ unfoldable pub wordsTest : ℕ → ℕ → ℕ → Bool
 wordsTest k a b = eqb (tableAt k a b) (ruleOf k (atPins a b))
 
 pub words-all : T (allGates wordsTest)
-unfolding wordsTest gateTable ruleOf bufOf notOf andOf orOf xorOf
+unfolding wordsTest gateTable ruleOf threeOf notOf andOf orOf xorOf
 words-all = tt
 
 -- ---- a gate's value is 0, 1 or 2

@@ -9,7 +9,7 @@ use lib.Dec.{eqb, eqb→eq}
 use borrow.Author.Tests.{ne-eqb}
 use Rattle.ground.proofs.Tests.{either}
 use Rattle.gates.specs.Gate.{threeOf, gateOf, atPins}
-use Rattle.gates.specs.Rule.{bufOf, notOf, andOf, orOf, xorOf, ruleOf}
+use Rattle.gates.specs.Rule.{notOf, andOf, orOf, xorOf, ruleOf}
 use Rattle.gates.proofs.Values.{unknown, three-small}
 use Rattle.gates.proofs.Computed.{at-gates, wordsTest, words-all}
 use Rattle.gates.proofs.Table.{other}
@@ -30,11 +30,11 @@ clip F h (suc zero) = refl
 clip F h (suc (suc a)) = rw (unknown a) (h a)
 
 first-clip : (k b a : ℕ) → ruleOf k (atPins (suc (suc a)) b) ≡ ruleOf k (atPins 2 b)
-unfolding ruleOf bufOf notOf andOf orOf xorOf
+unfolding ruleOf threeOf notOf andOf orOf xorOf
 first-clip k b a = simp (not0 a, not1 a, unknown a)
 
 second-clip : (k a b : ℕ) → ruleOf k (atPins a (suc (suc b))) ≡ ruleOf k (atPins a 2)
-unfolding ruleOf bufOf notOf andOf orOf xorOf
+unfolding ruleOf threeOf notOf andOf orOf xorOf
 second-clip k a b = simp (not0 b, not1 b, unknown b, and-false, or-false)
 
 values-clip : (k a b : ℕ) → ruleOf k (atPins a b) ≡ ruleOf k (atPins (threeOf a) (threeOf b))

@@ -19,7 +19,7 @@ lastKind = 8
 unfoldable pub pinsOf : ℕ → ℕ
 pinsOf kind = choose (eqb kind 0) 0 (choose (leb kind 2) 1 2)
 
-abbrev X : ℕ
+abbrev pub X : ℕ
 X = 2
 
 -- nine values a kind, in three rows: the row by what the first pin sees, the place in it by what the second sees, each in the order 0, 1, X

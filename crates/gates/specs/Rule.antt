@@ -4,32 +4,28 @@ use mathlib.Core.Bool.{_&&_, _||_}
 use Prim.Native.Nat.{ℕ}
 use lib.Dec.{eqb}
 use Rattle.ground.specs.Choose.{choose}
-use Rattle.gates.specs.Gate.{known}
-
--- a buffer gives what it sees
-unfoldable pub bufOf : ℕ → ℕ
-bufOf a = choose (known a) a 2
+use Rattle.gates.specs.Gate.{known, X, threeOf}
 
 -- NOT X is X
 unfoldable pub notOf : ℕ → ℕ
-notOf a = choose (eqb a 0) 1 (choose (eqb a 1) 0 2)
+notOf a = choose (eqb a 0) 1 (choose (eqb a 1) 0 X)
 
 -- AND with a 0 is 0, of 1 and 1 is 1, otherwise X
 unfoldable pub andOf : ℕ → ℕ → ℕ
-andOf a b = choose (eqb a 0 || eqb b 0) 0 (choose (eqb a 1 && eqb b 1) 1 2)
+andOf a b = choose (eqb a 0 || eqb b 0) 0 (choose (eqb a 1 && eqb b 1) 1 X)
 
 -- OR with a 1 is 1, of 0 and 0 is 0, otherwise X
 unfoldable pub orOf : ℕ → ℕ → ℕ
-orOf a b = choose (eqb a 1 || eqb b 1) 1 (choose (eqb a 0 && eqb b 0) 0 2)
+orOf a b = choose (eqb a 1 || eqb b 1) 1 (choose (eqb a 0 && eqb b 0) 0 X)
 
 -- XOR with an X is X
 unfoldable pub xorOf : ℕ → ℕ → ℕ
-xorOf a b = choose (known a && known b) (choose (eqb a b) 0 1) 2
+xorOf a b = choose (known a && known b) (choose (eqb a b) 0 1) X
 
--- buffer, NOT, AND, OR and XOR; NAND, NOR and XNOR are the negations; of any other kind X
+-- a buffer gives what it sees; NAND, NOR and XNOR are the negations; any other kind gives X
 unfoldable pub ruleOf : ℕ → (ℕ → ℕ) → ℕ
 ruleOf kind v =
-    choose (eqb kind 1) (bufOf (v 1))
+    choose (eqb kind 1) (threeOf (v 1))
     (choose (eqb kind 2) (notOf (v 1))
     (choose (eqb kind 3) (andOf (v 1) (v 2))
     (choose (eqb kind 4) (notOf (andOf (v 1) (v 2)))
@@ -37,4 +33,4 @@ ruleOf kind v =
     (choose (eqb kind 6) (notOf (orOf (v 1) (v 2)))
     (choose (eqb kind 7) (xorOf (v 1) (v 2))
     (choose (eqb kind 8) (notOf (xorOf (v 1) (v 2)))
-    2)))))))
+    X)))))))

@@ -47,14 +47,16 @@ fn three(v: u8) -> usize
     if v < 2 { wide(v) } else { 2 }
 }
 
-// The value of a gate whose pins see a and b; a kind with one pin takes no notice of b. It is the digit in row a, place b: those before it are
-// shifted out at the left, those after it at the right. A kind without a rule gives X; asked here, that is not asked again for its block.
+// The value of a gate whose pins see a and b; a kind with one pin takes no notice of b. It is the digit in row a, place b of the kind's block:
+// the digits before it are shifted out at the left of the word, those after it at the right.
 pub fn gate(kind: u8, a: u8, b: u8) -> u8
     ensures { λ r. ⌜ r ≡ gateOf kind (atPins a b) ⌝ }
 {
+    // no rule, so X; asked here, it is not asked again for the block
     if LAST_KIND < kind {
         return 2;
     }
+    // four bits a digit, three digits a row
     let before = 12 * three(a) + 4 * three(b);
     (block(kind) << 28 << before >> 60) as u8
 }

@@ -6,7 +6,7 @@ use Prim.Native.Nat.{ℕ, _≤_}
 use lib.ListN.{getD}
 use Rattle.ground.specs.Choose.{choose}
 use Rattle.ground.specs.Lists.{grow}
-use Rattle.gates.specs.Gate.{gateTable, valueIn}
+use Rattle.gates.specs.Gate.{X, gateTable, valueIn}
 use Rattle.circuit.specs.Record.{kindAt, pinAt, isInput, inputsBefore}
 use Rattle.simulate.specs.Simulate.{Forcing}
 
@@ -16,4 +16,4 @@ valuesBy values f c p n = grow (λ vs k. f k 0 (choose (isInput c k) (getD p (in
 
 -- the table of the gates but for an input's values, the first nine, which may be any
 abbrev pub OtherForInputs : List ℕ → Type 0
-OtherForInputs values = (place : ℕ) → 9 ≤ place → getD values place 2 ≡ getD gateTable place 2
+OtherForInputs values = (place : ℕ) → 9 ≤ place → getD values place X ≡ getD gateTable place X

@@ -1,6 +1,5 @@
 -- `gates::three` meets its contract: one answer for each branch.
 -- Assumes nothing.
-use mathlib.Core.Path.{_∙_}
 use native.Mathlib.Omega.{arith}
 use borrow.Author.Tests.{lt-ltb, le-ltb}
 use Rattle.gates.specs.Gate.{threeOf}
