@@ -8,7 +8,7 @@ use Rattle.ground.specs.Choose.{one}
 use Rattle.ground.specs.Below.{allBelow}
 use Rattle.ground.proofs.Below.{at-below}
 use Rattle.gates.specs.Gate.{pinsOf, gateTable, threeOf, gateOf, atPins}
-use Rattle.gates.specs.Rule.{notOf, andOf, orOf, xorOf, ruleOf}
+use Rattle.gates.specs.Words.{notOf, andOf, orOf, xorOf, ruleOf}
 use Rattle.gates.specs.Boolean.{boolGate}
 use Rattle.gates.proofs.Table.{tableAt}
 

@@ -20,7 +20,7 @@ pub no-block : (k : ℕ) → 9 ≤ k → blockOf k ≡ 0x222222222
 unfolding blockOf
 no-block k h = hex-same _ (λ p. 2) 9 (λ p. beyond (9 * k + p) (omega arith))
 
--- the digit in row a, place b, as it is shifted out of the 64 bits of a word
+-- the digit in row a, place b, as it is shifted out of the 64 bits of a number
 abbrev shifted : ℕ → ℕ → ℕ → ℕ
 shifted block a b = block * 2 ^ 28 % 2 ^ 64 * 2 ^ (12 * a + 4 * b) % 2 ^ 64 / 2 ^ 60
 

@@ -9,7 +9,7 @@ use lib.Dec.{eqb, eqb→eq}
 use borrow.Author.Tests.{ne-eqb}
 use Rattle.ground.proofs.Tests.{either}
 use Rattle.gates.specs.Gate.{threeOf, gateOf, atPins}
-use Rattle.gates.specs.Rule.{notOf, andOf, orOf, xorOf, ruleOf}
+use Rattle.gates.specs.Words.{notOf, andOf, orOf, xorOf, ruleOf}
 use Rattle.gates.proofs.Values.{unknown, three-small}
 use Rattle.gates.proofs.Computed.{at-gates, wordsTest, words-all}
 use Rattle.gates.proofs.Table.{other}
@@ -22,7 +22,7 @@ not0 a = ne-eqb (suc (suc a)) 0 (omega arith)
 not1 : (a : ℕ) → eqb (suc (suc a)) 1 ≡ false
 not1 a = ne-eqb (suc (suc a)) 1 (omega arith)
 
--- what takes no notice of how far a value is above 2 may be asked of the one of 0, 1 and X that it counts as
+-- what is the same for all values from 2 on is the same for a value and for what it counts as
 clip : (F : ℕ → ℕ) → ((a : ℕ) → F (suc (suc a)) ≡ F 2) → (a : ℕ) → F a ≡ F (threeOf a)
 unfolding threeOf
 clip F h zero = refl

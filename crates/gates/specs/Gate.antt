@@ -25,39 +25,39 @@ X = 2
 -- nine values a kind, in three rows: the row by what the first pin sees, the place in it by what the second sees, each in the order 0, 1, X
 unfoldable pub gateTable : List ℕ
 gateTable =
-    -- input, never used
+    -- 0 input, never used
     X ∷ X ∷ X ∷
     X ∷ X ∷ X ∷
     X ∷ X ∷ X ∷
-    -- buffer
+    -- 1 buffer
     0 ∷ 0 ∷ 0 ∷
     1 ∷ 1 ∷ 1 ∷
     X ∷ X ∷ X ∷
-    -- NOT
+    -- 2 NOT
     1 ∷ 1 ∷ 1 ∷
     0 ∷ 0 ∷ 0 ∷
     X ∷ X ∷ X ∷
-    -- AND
+    -- 3 AND
     0 ∷ 0 ∷ 0 ∷
     0 ∷ 1 ∷ X ∷
     0 ∷ X ∷ X ∷
-    -- NAND
+    -- 4 NAND
     1 ∷ 1 ∷ 1 ∷
     1 ∷ 0 ∷ X ∷
     1 ∷ X ∷ X ∷
-    -- OR
+    -- 5 OR
     0 ∷ 1 ∷ X ∷
     1 ∷ 1 ∷ 1 ∷
     X ∷ 1 ∷ X ∷
-    -- NOR
+    -- 6 NOR
     1 ∷ 0 ∷ X ∷
     0 ∷ 0 ∷ 0 ∷
     X ∷ 0 ∷ X ∷
-    -- XOR
+    -- 7 XOR
     0 ∷ 1 ∷ X ∷
     1 ∷ 0 ∷ X ∷
     X ∷ X ∷ X ∷
-    -- XNOR
+    -- 8 XNOR
     1 ∷ 0 ∷ X ∷
     0 ∷ 1 ∷ X ∷
     X ∷ X ∷ X ∷
@@ -67,9 +67,13 @@ gateTable =
 unfoldable pub threeOf : ℕ → ℕ
 threeOf v = choose (known v) v X
 
--- what a table of nine values a kind has for a kind whose pin s sees v s; beyond its end that is X
+-- where the value stands of a kind whose pins see a and b, each 0, 1 or X
+abbrev pub placeOf : ℕ → ℕ → ℕ → ℕ
+placeOf kind a b = 9 * kind + 3 * a + b
+
+-- the look-up in a table of nine values a kind, where pin s sees v s; beyond its end everything is X
 abbrev pub valueIn : List ℕ → ℕ → (ℕ → ℕ) → ℕ
-valueIn values kind v = getD values (9 * kind + 3 * threeOf (v 1) + threeOf (v 2)) X
+valueIn values kind v = getD values (placeOf kind (threeOf (v 1)) (threeOf (v 2))) X
 
 -- the value of a gate, by its kind and the value v s that each pin s sees
 unfoldable pub gateOf : ℕ → (ℕ → ℕ) → ℕ

@@ -1,4 +1,4 @@
 pub mod Gate
-pub mod Rule
+pub mod Words
 pub mod Boolean
 pub mod Owed

@@ -2,7 +2,7 @@
 -- Assumes nothing.
 use Prim.Native.Nat.{ℕ, zero, suc, _+_, _*_}
 use lib.ListN.{getD}
-use Rattle.gates.specs.Gate.{gateTable}
+use Rattle.gates.specs.Gate.{X, gateTable}
 
 -- the number with these n hexadecimal digits, the first one highest
 abbrev pub hexOf : (ℕ → ℕ) → ℕ → ℕ
@@ -11,4 +11,4 @@ hexOf digit (suc n) = 16 * hexOf digit n + digit n
 
 -- the nine values of a kind as one number
 unfoldable pub blockOf : ℕ → ℕ
-blockOf kind = hexOf (λ p. getD gateTable (9 * kind + p) 2) 9
+blockOf kind = hexOf (λ p. getD gateTable (9 * kind + p) X) 9

@@ -27,6 +27,7 @@ fn block(kind: u8) -> u64
 {
     match kind {
         //     0   1   X    at the first pin
+        //     01X 01X 01X  at the second
         0 => 0x222_222_222, // input, never used
         1 => 0x000_111_222, // buffer
         2 => 0x111_000_222, // NOT
@@ -36,7 +37,7 @@ fn block(kind: u8) -> u64
         6 => 0x102_000_202, // NOR
         7 => 0x012_102_222, // XOR
         8 => 0x102_012_222, // XNOR
-        _ => 0x222_222_222, // no kind
+        _ => 0x222_222_222, // a kind without a rule
     }
 }
 
@@ -48,15 +49,15 @@ fn three(v: u8) -> usize
 }
 
 // The value of a gate whose pins see a and b; a kind with one pin takes no notice of b. It is the digit in row a, place b of the kind's block:
-// the digits before it are shifted out at the left of the word, those after it at the right.
+// the digits before it are shifted out at the left of the 64 bits, those after it at the right.
 pub fn gate(kind: u8, a: u8, b: u8) -> u8
     ensures { λ r. ⌜ r ≡ gateOf kind (atPins a b) ⌝ }
 {
-    // no rule, so X; asked here, it is not asked again for the block
+    // a kind without a rule gives X; `block` says so too, but tested here it needs no test of its own
     if LAST_KIND < kind {
         return 2;
     }
-    // four bits a digit, three digits a row
+    // four bits a digit, three digits a row; the nine digits are the low 36 bits
     let before = 12 * three(a) + 4 * three(b);
     (block(kind) << 28 << before >> 60) as u8
 }

@@ -1,4 +1,4 @@
--- No simulation looks up the values that the table of the gates has for an input.
+-- No simulation uses the values that the table of the gates has for an input.
 -- Assumes nothing.
 use mathlib.Core.Path.{_≡_, refl, ap}
 use mathlib.Core.Bool.{Bool, true, false}
@@ -11,10 +11,10 @@ use Rattle.ground.proofs.Grow.{grow-same}
 use Rattle.gates.specs.Gate.{valueIn, gateOf}
 use Rattle.circuit.specs.Record.{kindAt, isInput}
 use Rattle.simulate.specs.Simulate.{Forcing, gateValue, lineValue, valuesTo}
-use Rattle.simulate.specs.Unused.{valuesBy, OtherForInputs}
+use Rattle.simulate.specs.Unused.{valuesBy, SameButForInputs}
 
-module _ (values : List ℕ) (same : OtherForInputs values) where
-  -- of a gate's line the other table has the same
+module _ (values : List ℕ) (same : SameButForInputs values) where
+  -- for a gate the other table has the same
   on-gates : (kind : ℕ) (v : ℕ → ℕ) → (kind ≡ 0 → ⊥) → valueIn values kind v ≡ gateOf kind v
   unfolding gateOf
   on-gates kind v ne = same _ (omega arith)

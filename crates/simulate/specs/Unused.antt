@@ -14,6 +14,6 @@ use Rattle.simulate.specs.Simulate.{Forcing}
 abbrev pub valuesBy : List ℕ → Forcing → List ℕ → List ℕ → ℕ → List ℕ
 valuesBy values f c p n = grow (λ vs k. f k 0 (choose (isInput c k) (getD p (inputsBefore c k) 0) (valueIn values (kindAt c k) (λ s. f k s (getD vs (pinAt c k s) 0))))) n
 
--- the table of the gates but for an input's values, the first nine, which may be any
-abbrev pub OtherForInputs : List ℕ → Type 0
-OtherForInputs values = (place : ℕ) → 9 ≤ place → getD values place X ≡ getD gateTable place X
+-- the same as the table of the gates but for an input's values, the first nine, which may be any
+abbrev pub SameButForInputs : List ℕ → Type 0
+SameButForInputs values = (place : ℕ) → 9 ≤ place → getD values place X ≡ getD gateTable place X

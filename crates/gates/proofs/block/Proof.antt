@@ -9,7 +9,7 @@ use Rattle.gates.proofs.Digits.{no-block}
 use Rattle.gates.proofs.block.Statement.{statement}
 use Rattle.gates.proofs.block.Tie as tie
 
--- three kinds at a time are passed
+-- what is from n on and none of the next three is from n + 3 on
 passed : (n : ℕ) {k : ℕ} → n ≤ k → (k ≡ n → ⊥) → (k ≡ n + 1 → ⊥) → (k ≡ n + 2 → ⊥) → n + 3 ≤ k
 passed n h first second third = omega arith
 

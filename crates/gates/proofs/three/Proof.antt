@@ -2,8 +2,8 @@
 -- Assumes nothing.
 use native.Mathlib.Omega.{arith}
 use borrow.Author.Tests.{lt-ltb, le-ltb}
-use Rattle.gates.specs.Gate.{threeOf}
 use borrow.Author.Needs.{needs}
+use Rattle.gates.specs.Gate.{threeOf}
 use Rattle.gates.proofs.three.Statement.{statement}
 use Rattle.gates.proofs.three.Tie as tie
 

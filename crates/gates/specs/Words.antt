@@ -18,7 +18,7 @@ andOf a b = choose (eqb a 0 || eqb b 0) 0 (choose (eqb a 1 && eqb b 1) 1 X)
 unfoldable pub orOf : ℕ → ℕ → ℕ
 orOf a b = choose (eqb a 1 || eqb b 1) 1 (choose (eqb a 0 && eqb b 0) 0 X)
 
--- XOR with an X is X
+-- XOR with an X is X, otherwise 0 of equal values and 1 of different ones
 unfoldable pub xorOf : ℕ → ℕ → ℕ
 xorOf a b = choose (known a && known b) (choose (eqb a b) 0 1) X
 
