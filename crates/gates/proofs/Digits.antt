@@ -5,7 +5,7 @@ use mathlib.Core.Bool.{Bool}
 use Prim.Native.Nat.{ℕ, zero, suc, _+_, _*_, _/_, _%_, _^_, _≤_, _<_}
 use native.Mathlib.Omega.{arith}
 use lib.Dec.{T, eqb, eqb→eq}
-use Rattle.gates.specs.Gate.{gateTable, threeOf, gateOf, atPins}
+use Rattle.gates.specs.Gate.{gateTable, threeOf, placeOf, gateOf, atPins}
 use Rattle.gates.specs.Owed.{hexOf, blockOf}
 use Rattle.gates.proofs.Values.{three-small}
 use Rattle.gates.proofs.Table.{tableAt, beyond}
@@ -18,7 +18,7 @@ hex-same f g (suc n) h = ap₂ (λ (x y : ℕ). 16 * x + y) (hex-same f g n h) (
 -- a kind without a rule
 pub no-block : (k : ℕ) → 9 ≤ k → blockOf k ≡ 0x222222222
 unfolding blockOf
-no-block k h = hex-same _ (λ p. 2) 9 (λ p. beyond (9 * k + p) (omega arith))
+no-block k h = hex-same _ (λ p. 2) 9 (λ p. beyond (placeOf k 0 p) (omega arith))
 
 -- the digit in row a, place b, as it is shifted out of the 64 bits of a number
 abbrev shifted : ℕ → ℕ → ℕ → ℕ

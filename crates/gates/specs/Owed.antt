@@ -2,13 +2,13 @@
 -- Assumes nothing.
 use Prim.Native.Nat.{ℕ, zero, suc, _+_, _*_}
 use lib.ListN.{getD}
-use Rattle.gates.specs.Gate.{X, gateTable}
+use Rattle.gates.specs.Gate.{X, gateTable, placeOf}
 
 -- the number with these n hexadecimal digits, the first one highest
 abbrev pub hexOf : (ℕ → ℕ) → ℕ → ℕ
 hexOf digit zero = 0
 hexOf digit (suc n) = 16 * hexOf digit n + digit n
 
--- the nine values of a kind as one number
+-- the nine values of a kind, from its first place on, as one number
 unfoldable pub blockOf : ℕ → ℕ
-blockOf kind = hexOf (λ p. getD gateTable (9 * kind + p) X) 9
+blockOf kind = hexOf (λ p. getD gateTable (placeOf kind 0 p) X) 9

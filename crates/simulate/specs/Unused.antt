@@ -10,7 +10,7 @@ use Rattle.gates.specs.Gate.{X, gateTable, valueIn}
 use Rattle.circuit.specs.Record.{kindAt, pinAt, isInput, inputsBefore}
 use Rattle.simulate.specs.Simulate.{Forcing}
 
--- the values of the first n lines, as in `valuesTo`, where the gates go by this table
+-- the values of the first n lines where the gates go by this table; by `gateTable` they are those of `valuesTo`
 abbrev pub valuesBy : List ℕ → Forcing → List ℕ → List ℕ → ℕ → List ℕ
 valuesBy values f c p n = grow (λ vs k. f k 0 (choose (isInput c k) (getD p (inputsBefore c k) 0) (valueIn values (kindAt c k) (λ s. f k s (getD vs (pinAt c k s) 0))))) n
 
