@@ -94,11 +94,10 @@ static void test_areas(void) {
 
 #define P ULLIMAQSU_PASS
 #define F ULLIMAQSU_FAIL
-#define U ULLIMAQSU_UNKNOWN
 static const uint8_t
     faults[] = {3, 0, 0, 0, 0, 0, 0, 0, 3, 0, 0, 1, 0, 0, 0, 0, 2, 0, 0, 1, 0, 0, 0, 0, 0, 0, 0, 0, 0, 0, 0, 0},
     patterns[] = {1, 1, 0, 0, 1, 0, 0, 2, 0, 2, 1, 0},
-    table_of_a[] = {F, P, P, F, P, F, F, P, P, F, F, P, U, U, U, U},
+    table_of_a[] = {F, P, P, F, P, F, F, P, P, F, F, P, P, P, P, P},
     work_of_a[] = {2, 1, 0, 2, 2, 0, 1, 0, 0, 0};
 
 /* Example A, with other lengths. */

@@ -34,7 +34,8 @@
  * Pattern, values and table
  *
  *   A pattern has one byte for each input, in line order: 0, 1, or 2 for X. Values of lines are written in the same way.
- *   A table has one row for each pattern and, in the row, one byte for each fault, an entry: pass, fail or unknown.
+ *   A table has one row for each pattern and, in the row, one byte for each fault, an entry: pass, fail or unknown. A tester compares the
+ *   outputs whose good value under the pattern is known; the others are masked.
  *
  * Text in the bench notation
  *
@@ -103,8 +104,8 @@ enum ullimaqsu_outcome {
 
 /* An entry of a table. */
 enum ullimaqsu_entry {
-    ULLIMAQSU_PASS = 0,   /* at every output both circuits have known values and these are equal: no filling of the X's detects the fault */
-    ULLIMAQSU_FAIL = 1,   /* at some output both are known and differ: every filling does */
+    ULLIMAQSU_PASS = 0,   /* at every compared output the faulty value is known and equal: whatever the X's are, none of them differs */
+    ULLIMAQSU_FAIL = 1,   /* at some compared output the faulty value is known and differs: whatever the X's are, it does */
     ULLIMAQSU_UNKNOWN = 2 /* neither */
 };
 

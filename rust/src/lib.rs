@@ -70,15 +70,16 @@ pub fn check(circuit: &[u8]) -> Result<Counts, Refusal> {
 }
 
 /// The dictionary maker. Fills the table, one row for each pattern and in it one byte for each fault: 0 pass, 1 fail, 2 unknown; its length is
-/// the number of faults times that of patterns. The work memory, two bytes for each line, then holds the good and the faulty values of the
-/// last pattern with the last fault. A refusal writes nothing.
+/// the number of faults times that of patterns. An output whose good value under the pattern is X is masked, as a tester does: nothing is
+/// compared there. The work memory, two bytes for each line, then holds the good and the faulty values of the last pattern with the last
+/// fault. A refusal writes nothing.
 ///
 /// ```
 /// let not = [0, 0, 0, 0, 0, 0, 0, 0, 2, 1, 0, 0, 0, 0, 0, 0];
 /// let output_stuck_at_0 = [1, 0, 0, 0, 0, 0, 0, 0];
 /// let (mut table, mut work) = ([0; 3], [0; 4]);
 /// ullimaqsu::dictionary(&not, &output_stuck_at_0, &[0, 1, 2], &mut table, &mut work)?;
-/// assert_eq!(table, [1, 0, 2]);
+/// assert_eq!(table, [1, 0, 0]);
 /// assert_eq!(work, [2, 2, 2, 0]);
 /// # Ok::<(), ullimaqsu::Refusal>(())
 /// ```
@@ -92,7 +93,7 @@ pub fn dictionary(circuit: &[u8], faults: &[u8], patterns: &[u8], table: &mut [u
 /// detected faults that the whole table does, and none of them can be spared. A refusal writes nothing.
 ///
 /// ```
-/// let table = [1, 0, 0, 1, 0, 1, 1, 0, 0, 1, 1, 0, 2, 2, 2, 2];
+/// let table = [1, 0, 0, 1, 0, 1, 1, 0, 0, 1, 1, 0, 0, 0, 0, 0];
 /// let mut marks = [9; 4];
 /// ullimaqsu::compact(4, 4, &table, &mut marks)?;
 /// assert_eq!(marks, [1, 1, 0, 0]);

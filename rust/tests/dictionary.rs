@@ -2,7 +2,7 @@
 mod harness;
 
 use cases::circuits::{circuit, record, small, sources, AND, INPUT, OR};
-use cases::faults::{every, inputs, patterns, some};
+use cases::faults::{self, every, inputs, patterns, some};
 use cases::{damage, drawn, Random};
 use harness::{compare, first_defect_is_told, wrong_programs_are_seen, Case, Defect, Dictionary};
 use second::entries::{self, Seen};
@@ -161,20 +161,37 @@ fn differs(outputs: &[(Value, Value)]) -> bool {
 type Wrong = (&'static str, fn(&Dictionary) -> Seen);
 
 /// Programs that are wrong in one way each.
-const WRONG: [Wrong; 9] = [
+const WRONG: [Wrong; 12] = [
     ("answers unknown everywhere", |case| by(case, |_| Entry::Unknown)),
-    ("takes X against X for equal", |case| {
+    ("masks nothing: X in the good circuit makes unknown", |case| {
+        by(case, |outputs| match outputs.iter().all(|(good, faulty)| good.is_some() && good == faulty) {
+            true => Entry::Pass,
+            false if differs(outputs) => Entry::Fail,
+            false => Entry::Unknown,
+        })
+    }),
+    ("masks nothing, and takes X against X for equal", |case| {
         by(case, |outputs| match outputs.iter().all(|(good, faulty)| good == faulty) {
             true => Entry::Pass,
             false if differs(outputs) => Entry::Fail,
             false => Entry::Unknown,
         })
     }),
+    ("passes a faulty X where the good value is known", |case| {
+        by(case, |outputs| if differs(outputs) { Entry::Fail } else { Entry::Pass })
+    }),
+    ("takes a masked output for a difference", |case| {
+        by(case, |outputs| match outputs.iter().all(|(good, faulty)| good == faulty) {
+            _ if differs(outputs) || outputs.iter().any(|(good, _)| good.is_none()) => Entry::Fail,
+            true => Entry::Pass,
+            false => Entry::Unknown,
+        })
+    }),
     ("looks at the first output alone", |case| {
         by(case, |outputs| match outputs[0] {
-            (Some(good), Some(faulty)) if good == faulty => Entry::Pass,
-            (Some(_), Some(_)) => Entry::Fail,
-            _ => Entry::Unknown,
+            (Some(good), Some(faulty)) if good != faulty => Entry::Fail,
+            (Some(_), None) => Entry::Unknown,
+            _ => Entry::Pass,
         })
     }),
     ("takes a pin fault for a fault of the line that feeds it", |case| {
@@ -223,6 +240,34 @@ fn wrong_programs() {
     wrong_programs_are_seen(&cases, WRONG);
 }
 
+/// The entry of one pattern and one fault, as the library has it.
+fn entry(circuit: &[u8], fault: [u8; 8], pattern: &[u8]) -> u8 {
+    let (mut table, mut work) = ([9], vec![9; circuit.len() / 4]);
+    ullimaqsu::dictionary(circuit, &fault, pattern, &mut table, &mut work).expect("sound");
+    table[0]
+}
+
+/// An output whose good value is X is not compared, the others are.
+#[test]
+fn masked_outputs() {
+    let (pass, fail, unknown) = (Entry::Pass as u8, Entry::Fail as u8, Entry::Unknown as u8);
+    let two = record(INPUT, true, 0, 0).repeat(2);
+    assert_eq!(entry(&two, faults::record(1, 0, false), &[2, 1]), fail);
+    assert_eq!(entry(&two, faults::record(1, 0, false), &[2, 0]), pass);
+    assert_eq!(entry(&two, faults::record(1, 0, false), &[2, 2]), pass);
+    let and = [&record(INPUT, false, 0, 0).repeat(2)[..], &record(AND, true, 0, 1)].concat();
+    assert_eq!(entry(&and, faults::record(0, 0, true), &[0, 2]), unknown, "0 in the good circuit, X in the faulty one");
+    assert_eq!(entry(&and, faults::record(0, 0, false), &[1, 2]), pass, "X in the good circuit, 0 in the faulty one");
+}
+
+/// Pass no longer says that no filling of the X's detects the fault: here the filling 1 does.
+#[test]
+fn a_filling_that_detects_under_pass() {
+    let line = record(INPUT, true, 0, 0);
+    assert_eq!(entry(&line, faults::record(0, 0, false), &[2]), Entry::Pass as u8);
+    assert_eq!(entry(&line, faults::record(0, 0, false), &[1]), Entry::Fail as u8);
+}
+
 /// The safe call, on example A.
 #[test]
 fn bindings() {
@@ -232,7 +277,7 @@ fn bindings() {
     let patterns = [1, 1, 0, 0, 1, 0, 0, 2, 0, 2, 1, 0];
     let (mut table, mut work) = ([9; 16], [9; 10]);
     assert_eq!(ullimaqsu::dictionary(&a, &faults, &patterns, &mut table, &mut work), Ok(()));
-    assert_eq!(table, [1, 0, 0, 1, 0, 1, 1, 0, 0, 1, 1, 0, 2, 2, 2, 2]);
+    assert_eq!(table, [1, 0, 0, 1, 0, 1, 1, 0, 0, 1, 1, 0, 0, 0, 0, 0]);
     assert_eq!(work, [2, 1, 0, 2, 2, 0, 1, 0, 0, 0]);
     let refused = ullimaqsu::dictionary(&a, &[0, 0, 1, 0, 0, 0, 0, 0], &patterns, &mut table, &mut work);
     assert_eq!(refused, Err(ullimaqsu::Refusal { number: 7, place: 0 }));

@@ -1,4 +1,6 @@
 pub mod Loop
-pub mod Looks
+pub mod Halves
 pub mod Words
-pub mod Fill
+pub mod Masks
+pub mod Decided
+pub mod Fillings

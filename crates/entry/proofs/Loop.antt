@@ -1,4 +1,4 @@
--- The loop of `entry_in`, as facts that do not look into the tests: where it starts, one line more, and its ends.
+-- The loop of `entry_by`, as facts that do not look into the tests: where it starts, one line more, and its ends.
 -- Assumes nothing.
 use mathlib.Core.Path.{_≡_, refl, sym, _∙_}
 use mathlib.Core.Bool.{Bool, true, false, not, _&&_, _||_, true≢false}

@@ -3,7 +3,7 @@
 use mathlib.Core.Path.{_≡_, refl}
 use mathlib.Core.Bool.{Bool, true, false, not, _&&_, _||_, false≢true}
 use mathlib.Core.List.{List}
-use Prim.Native.Nat.{ℕ, _<_}
+use Prim.Native.Nat.{ℕ, _≤_, _<_}
 use native.Mathlib.Omega.{arith}
 use lib.Dec.{eqb}
 use lib.ListN.{getD}
@@ -12,13 +12,14 @@ use Rattle.ground.specs.Choose.{choose}
 use Rattle.ground.proofs.Tests.{both, and-both, T-is, is-T}
 use Rattle.ground.proofs.Below.{at-below, every-all, any-some, some-any}
 use Rattle.answers.specs.Rules.{Same}
-use Rattle.answers.proofs.Same.{lt-same, eq-same, and-same, never-same}
+use Rattle.answers.proofs.Same.{lt-same, eq-same, and-same, never-same, where-same}
+use Rattle.gates.specs.Gate.{known}
 use Rattle.circuit.specs.Record.{isOutput}
 use Rattle.tables.specs.Entries.{pass, fail, unknown}
-use Rattle.entry.specs.Entry.{Test, differ, agree, someOutput, everyOutput, entryBy, entryOf}
-use Rattle.entry.specs.Words.{Differ, Agree, SomeOutput, EveryOutput, Chosen, EntryBy, Entry}
+use Rattle.entry.specs.Entry.{Test, differ, agree, asExpected, someOutput, everyOutput, entryBy, entryOf}
+use Rattle.entry.specs.Words.{Differ, Agree, AsExpected, SomeOutput, EveryOutput, Chosen, EntryBy, Entry}
 
--- ---- the two tests
+-- ---- the tests
 
 pub differ-says : (a b : ℕ) → Same (differ a b) (Differ a b)
 unfolding differ
@@ -39,6 +40,10 @@ agree-says a b = record {
   where
     said : Same (agree a b) ((a < 2) × ((b < 2) × (a ≡ b)))
     said = and-same (lt-same a 2) (and-same (lt-same b 2) (eq-same a b))
+
+pub expected-says : (a b : ℕ) → Same (asExpected a b) (AsExpected a b)
+unfolding asExpected
+expected-says a b = where-same (known a) (lt-same a 2) (agree-says a b)
 
 -- ---- at some output, at every output
 
@@ -103,31 +108,58 @@ chose-pass true p u e = absurd (omega arith)
 chose-pass false true u e = u .holds refl
 chose-pass false false u e = absurd (omega arith)
 
-module _ (t : Test) (P : ℕ → ℕ → Type 0) (says : (a b : ℕ) → Same (t a b) (P a b)) (c g f : List ℕ) (n : ℕ) where
+-- a test that agreement passes and difference does not, and its words
+pub record Passes (t : Test) (P : ℕ → ℕ → Type 0) : Type 0 where
+  pub says : (a b : ℕ) → Same (t a b) (P a b)
+  pub apart : (a b : ℕ) → Differ a b → P a b → ⊥
+  pub covers : (a b : ℕ) → Agree a b → P a b
+
+pub agree-passes : Passes agree Agree
+agree-passes = record { says = agree-says; apart = λ a b d h. d .differ (h .equal); covers = λ a b h. h }
+
+pub expected-passes : Passes asExpected AsExpected
+expected-passes = record { says = expected-says; apart = λ a b d h. d .differ (h (d .good-known) .equal); covers = λ a b h _. h }
+
+pub entry-three : (t : Test) (c g f : List ℕ) (n : ℕ) → entryBy t c g f n ≤ 2
+unfolding entryBy
+entry-three t c g f n = go (someOutput differ c g f n) (everyOutput t c g f n)
+  where
+    go : (d p : Bool) → choose d fail (choose p pass unknown) ≤ 2
+    go true p = omega arith
+    go false true = omega arith
+    go false false = omega arith
+
+module _ {t : Test} {P : ℕ → ℕ → Type 0} (passes : Passes t P) (c g f : List ℕ) (n : ℕ) where
+  some : Same (someOutput differ c g f n) (SomeOutput Differ c g f n)
+  some = some-says differ Differ differ-says c g f n
+
+  every : Same (everyOutput t c g f n) (EveryOutput P c g f n)
+  every = every-says t P (passes .says) c g f n
+
   pub fail-some : entryBy t c g f n ≡ fail → SomeOutput Differ c g f n
   unfolding entryBy
-  fail-some = chose-fail (someOutput differ c g f n) (everyOutput t c g f n) (some-says differ Differ differ-says c g f n)
+  fail-some = chose-fail (someOutput differ c g f n) (everyOutput t c g f n) some
 
   pub pass-every : entryBy t c g f n ≡ pass → EveryOutput P c g f n
   unfolding entryBy
-  pass-every = chose-pass (someOutput differ c g f n) (everyOutput t c g f n) (every-says t P says c g f n)
+  pass-every = chose-pass (someOutput differ c g f n) (everyOutput t c g f n) every
 
-  -- the definition meets the words, where what passes does not differ
-  pub entry-words : ((a b : ℕ) → Differ a b → P a b → ⊥) → EntryBy P c g f n (entryBy t c g f n)
+  -- the definition meets the words
+  pub entry-words : EntryBy P c g f n (entryBy t c g f n)
   unfolding entryBy
-  entry-words apart =
-      chosen (someOutput differ c g f n) (everyOutput t c g f n) (some-says differ Differ differ-says c g f n) (every-says t P says c g f n)
-      (λ w every. apart _ _ (w .1 .holds) (every (w .0) (w .1 .inside) (w .1 .output)))
+  entry-words =
+      chosen (someOutput differ c g f n) (everyOutput t c g f n) some every
+      (λ w all. passes .apart _ _ (w .1 .holds) (all (w .0) (w .1 .inside) (w .1 .output)))
 
   -- and what meets the words is the definition
   pub words-entry : {e : ℕ} → EntryBy P c g f n e → e ≡ entryBy t c g f n
   unfolding entryBy
-  words-entry =
-      one-choice (someOutput differ c g f n) (everyOutput t c g f n) (some-says differ Differ differ-says c g f n) (every-says t P says c g f n)
+  words-entry = one-choice (someOutput differ c g f n) (everyOutput t c g f n) some every
 
+-- of the dictionary's entry
 module _ (c g f : List ℕ) (n : ℕ) where
   pub entry-says : Entry c g f n (entryOf c g f n)
-  entry-says = entry-words agree Agree agree-says c g f n (λ a b d e. d .differ (e .equal))
+  entry-says = entry-words expected-passes c g f n
 
   pub says-entry : {e : ℕ} → Entry c g f n e → e ≡ entryOf c g f n
-  says-entry = words-entry agree Agree agree-says c g f n
+  says-entry = words-entry expected-passes c g f n

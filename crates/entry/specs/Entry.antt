@@ -25,6 +25,10 @@ differ a b = known a && (known b && not (eqb a b))
 unfoldable pub agree : Test
 agree a b = known a && (known b && eqb a b)
 
+-- where the good one is known, they agree; where it is X, a tester can't expect anything and masks the output
+unfoldable pub asExpected : Test
+asExpected a b = not (known a) || agree a b
+
 -- at some output
 abbrev pub someOutput : Test → List ℕ → List ℕ → List ℕ → ℕ → Bool
 someOutput t c g f n = anyBelow n (λ k. isOutput c k && t (getD g k 0) (getD f k 0))
@@ -37,8 +41,9 @@ everyOutput t c g f n = allBelow n (λ k. not (isOutput c k) || t (getD g k 0) (
 unfoldable pub entryBy : Test → List ℕ → List ℕ → List ℕ → ℕ → ℕ
 entryBy t c g f n = choose (someOutput differ c g f n) fail (choose (everyOutput t c g f n) pass unknown)
 
+-- the entry of the dictionary: pass if at every output with a known good value the faulty value is known and equal
 abbrev pub entryOf : List ℕ → List ℕ → List ℕ → ℕ → ℕ
-entryOf c g f n = entryBy agree c g f n
+entryOf c g f n = entryBy asExpected c g f n
 
 -- of the pattern p and a fault
 unfoldable pub entryAt : Fault → List ℕ → List ℕ → ℕ → ℕ

@@ -1,24 +1,25 @@
 -- What the functions of the entry owe each other and their callers; no reader of the promises needs it.
 -- Assumes nothing.
 use mathlib.Core.Path.{_≡_}
-use mathlib.Core.Bool.{not, _&&_, _||_}
+use mathlib.Core.Bool.{Bool, true, false, not, _&&_, _||_}
 use mathlib.Core.List.{List}
-use Prim.Native.Nat.{ℕ, _+_, _*_, _<_}
+use Prim.Native.Nat.{ℕ, _+_, _*_}
 use lib.Dec.{eqb}
 use lib.ListN.{length, take}
 use Rattle.ground.specs.Choose.{choose}
 use Rattle.lists.specs.declared.Fault.{Fault}
 use Rattle.simulate.specs.Work.{goodOf, bothOf}
-use Rattle.simulate.specs.Owed.{GoodValuesReady}
 use Rattle.tables.specs.Entries.{pass, fail, unknown}
-use Rattle.entry.specs.Entry.{Test, differ, agree, entryAt}
+use Rattle.entry.specs.Entry.{Test, differ, agree, asExpected, entryAt}
 
 -- what one line says: fail, it is an output and its values differ; pass, it is none or its values pass the test; unknown, neither
 unfoldable pub statusBy : Test → ℕ → ℕ → ℕ → ℕ
 statusBy t out a b = choose (eqb out 1 && differ a b) fail (choose (not (eqb out 1) || t a b) pass unknown)
 
-abbrev pub statusOf : ℕ → ℕ → ℕ → ℕ
-statusOf out a b = statusBy agree out a b
+-- the test that every output must pass, with or without masks
+abbrev pub testOf : Bool → Test
+testOf true = asExpected
+testOf false = agree
 
 -- pass so far, and what a line says that does not differ
 unfoldable pub joinedOf : ℕ → ℕ → ℕ
@@ -28,16 +29,11 @@ pub record EntryRoom (c : List ℕ) (n work : ℕ) : Type 0 where
   pub circuit : length c ≡ 8 * n
   pub two : work ≡ n + n
 
--- for a look at a pattern and a fault
-pub record LookReady (c : List ℕ) (inputs : ℕ) (fault : Fault) (n work : ℕ) : Type 0 where
-  pub values : GoodValuesReady c inputs n work
-  pub line : fault .line < n
-
--- a look at the pattern p and a fault: the entry, and the work memory afterwards
-pub record LookDone (fault : Fault) (c p : List ℕ) (n : ℕ) (work : List ℕ) (r : ℕ) : Type 0 where
+-- the entry of the pattern p and a fault, and the work memory that it was read from
+pub record EntryDone (fault : Fault) (c p : List ℕ) (n : ℕ) (work : List ℕ) (r : ℕ) : Type 0 where
   pub entry-is : r ≡ entryAt fault c p n
   pub work-is : work ≡ bothOf fault c p n
 
--- the same where the first half of w has the good values, under whatever pattern
+-- where the first half of w has the good values, under whatever pattern
 abbrev pub FaultEntryDone : Fault → List ℕ → ℕ → List ℕ → List ℕ → ℕ → Type 0
-FaultEntryDone fault c n w w′ r = (p : List ℕ) → take n w ≡ goodOf c p n → LookDone fault c p n w′ r
+FaultEntryDone fault c n w w′ r = (p : List ℕ) → take n w ≡ goodOf c p n → EntryDone fault c p n w′ r

@@ -19,6 +19,10 @@ pub record Agree (a b : ℕ) : Type 0 where
   pub faulty-known : b < 2
   pub equal : a ≡ b
 
+-- where the good value is known, the faulty value is known and equal
+abbrev pub AsExpected : ℕ → ℕ → Type 0
+AsExpected a b = a < 2 → Agree a b
+
 -- line k is an output, at which this holds of the good and the faulty value
 pub record AtOutput (P : ℕ → ℕ → Type 0) (c g f : List ℕ) (n k : ℕ) : Type 0 where
   pub inside : k < n
@@ -42,4 +46,4 @@ abbrev pub EntryBy : (ℕ → ℕ → Type 0) → List ℕ → List ℕ → List
 EntryBy P c g f n e = Chosen (SomeOutput Differ c g f n) (EveryOutput P c g f n) e
 
 abbrev pub Entry : List ℕ → List ℕ → List ℕ → ℕ → ℕ → Type 0
-Entry c g f n e = EntryBy Agree c g f n e
+Entry c g f n e = EntryBy AsExpected c g f n e

@@ -1,25 +1,33 @@
-// The entry of a pattern and a fault, from the work memory, which holds good, then faulty values.
+// What good and faulty values say at the outputs, from the work memory, which holds the good ones of all lines, then the faulty ones; and
+// the entry of a pattern and a fault.
 use lists::Fault;
 use simulate::faulty_values;
-use simulate::good_values;
 use tables::FAIL;
 use tables::PASS;
 use tables::UNKNOWN;
 ghost use mathlib.Core.Path.{_≡_};
-ghost use lib.ListN.{length, take, drop};
+ghost use Prim.Native.Nat.{_+_, _<_};
+ghost use lib.ListN.{length, getD, take, drop};
+ghost use Rattle.circuit.specs.Record.{outAt};
 ghost use Rattle.simulate.specs.Owed.{FaultyValuesReady};
-ghost use Rattle.entry.specs.Entry.{entryOf};
-ghost use Rattle.entry.specs.Owed.{statusOf, joinedOf, EntryRoom, LookReady, LookDone, FaultEntryDone};
+ghost use Rattle.entry.specs.Entry.{entryBy};
+ghost use Rattle.ground.specs.Choose.{choose};
+ghost use Rattle.tables.specs.Entries.{pass, unknown};
+ghost use Rattle.entry.specs.Owed.{testOf, statusBy, joinedOf, EntryRoom, FaultEntryDone};
 
-// What one line says, by its output byte and its good and faulty value.
-fn status(out: u8, a: u8, b: u8) -> u8
-    ensures { λ r. ⌜ r ≡ statusOf out a b ⌝ }
+// What an output says whose good value is X, so that nothing can be expected there: nothing, where it is masked.
+fn unexpected(masks: bool) -> u8
+    ensures { λ r. ⌜ r ≡ choose masks pass unknown ⌝ }
 {
-    if out != 1 {
-        return PASS;
-    }
+    if masks { PASS } else { UNKNOWN }
+}
+
+// What an output says by its good and faulty value.
+fn compare(masks: bool, a: u8, b: u8) -> u8
+    ensures { λ r. ⌜ r ≡ statusBy (testOf masks) 1 a b ⌝ }
+{
     if 2 <= a {
-        return UNKNOWN;
+        return unexpected(masks);
     }
     if 2 <= b {
         return UNKNOWN;
@@ -30,21 +38,33 @@ fn status(out: u8, a: u8, b: u8) -> u8
     FAIL
 }
 
+// What line k says; a line that is no output says nothing, and its values are not read.
+fn status(masks: bool, circuit: &[u8], work: &[u8], n: usize, k: usize) -> u8
+    requires { ⌜ EntryRoom (now circuit) n (length (now work)) × (k < n) ⌝ }
+    ensures { λ r. ⌜ r ≡ statusBy (testOf masks) (outAt (now (circuit .entry)) k) (getD (now (work .entry)) k 0) (getD (now (work .entry)) (n + k) 0) ⌝ }
+{
+    if circuit[8 * k + 1] != 1 {
+        return PASS;
+    }
+    compare(masks, work[k], work[n + k])
+}
+
 fn joined(r: u8, s: u8) -> u8
     ensures { λ x. ⌜ x ≡ joinedOf r s ⌝ }
 {
     if s == PASS { r } else { UNKNOWN }
 }
 
-// The entry, where the work memory holds the good and the faulty values of n lines.
-pub fn entry_in(circuit: &[u8], work: &[u8], n: usize) -> u8
+// What the outputs say, where the work memory holds the good and the faulty values of n lines: with outputs masked where the good value
+// is X, as a tester does, or with every output looked at.
+pub fn entry_by(masks: bool, circuit: &[u8], work: &[u8], n: usize) -> u8
     requires { ⌜ EntryRoom (now circuit) n (length (now work)) ⌝ }
-    ensures { λ r. ⌜ r ≡ entryOf (now (circuit .entry)) (take n (now (work .entry))) (drop n (now (work .entry))) n ⌝ }
+    ensures { λ r. ⌜ r ≡ entryBy (testOf masks) (now (circuit .entry)) (take n (now (work .entry))) (drop n (now (work .entry))) n ⌝ }
 {
     let mut k = 0;
     let mut r = PASS;
     while k < n {
-        let s = status(circuit[8 * k + 1], work[k], work[n + k]);
+        let s = status(masks, circuit, work, n, k);
         if s == FAIL {
             return FAIL;
         }
@@ -60,14 +80,5 @@ pub fn fault_entry(circuit: &[u8], fault: Fault, work: &mut [u8], n: usize) -> u
     ensures { λ r. ⌜ FaultEntryDone fault (now (circuit .entry)) n (now (work .entry)) (now (work .exit)) r ⌝ }
 {
     faulty_values(circuit, fault, work, n);
-    entry_in(circuit, work, n)
-}
-
-// Looks at a pattern and a fault: the work memory gets the good values, then the faulty ones, and the entry comes back.
-pub fn look(circuit: &[u8], pattern: &[u8], fault: Fault, work: &mut [u8], n: usize) -> u8
-    requires { ⌜ LookReady (now circuit) (length (now pattern)) fault n (length (now work)) ⌝ }
-    ensures { λ r. ⌜ LookDone fault (now (circuit .entry)) (now (pattern .entry)) n (now (work .exit)) r ⌝ }
-{
-    good_values(circuit, pattern, work, n);
-    fault_entry(circuit, fault, work, n)
+    entry_by(true, circuit, work, n)
 }

@@ -1,10 +1,8 @@
 -- Every entry of a table is 0, 1 or 2.
 -- Assumes nothing.
-use mathlib.Core.Bool.{Bool, true, false}
 use mathlib.Core.List.{List}
 use Prim.Native.Nat.{ℕ, _≤_}
 use native.Mathlib.Omega.{arith}
-use Rattle.ground.specs.Choose.{choose}
 use Rattle.ground.proofs.Grow.{grow-each}
 use Rattle.ground.proofs.Gather.{gather-each}
 use Rattle.lists.specs.declared.Fault.{Fault}
@@ -12,20 +10,13 @@ use Rattle.lists.specs.Faults.{faultAt, faultCount}
 use Rattle.lists.specs.Patterns.{patternAt, patternCount}
 use Rattle.answers.specs.Small.{Small}
 use Rattle.simulate.specs.Work.{goodOf, faultyOf}
-use Rattle.entry.specs.Entry.{differ, agree, someOutput, everyOutput, entryBy, entryAt}
+use Rattle.entry.specs.Entry.{asExpected, entryAt}
+use Rattle.entry.proofs.Words.{entry-three}
 use Rattle.rows.specs.Table.{rowOf, tableOf}
 
 entry-small : (fault : Fault) (c p : List ℕ) (n : ℕ) → entryAt fault c p n ≤ 2
-unfolding entryAt entryBy
-entry-small fault c p n =
-    let g : List ℕ = goodOf c p n in
-    let f : List ℕ = faultyOf fault c p n in
-    go (someOutput differ c g f n) (everyOutput agree c g f n)
-  where
-    go : (a b : Bool) → choose a 1 (choose b 0 2) ≤ 2
-    go true b = omega arith
-    go false true = omega arith
-    go false false = omega arith
+unfolding entryAt
+entry-small fault c p n = entry-three asExpected c (goodOf c p n) (faultyOf fault c p n) n
 
 pub table-small : (c : List ℕ) (n m : ℕ) (fs ps : List ℕ) (i : ℕ) → Small (tableOf c n m fs ps) i
 unfolding tableOf

@@ -14,7 +14,7 @@ use Rattle.circuit.specs.Promise.{layoutRules, countRules, checkOf}
 use Rattle.lists.specs.Faults.{faultAt, faultOk, faultRules}
 use Rattle.lists.specs.Patterns.{patternRules}
 use Rattle.simulate.specs.Simulate.{stuckAt, gateValue, lineValue}
-use Rattle.entry.specs.Entry.{differ, agree, entryBy, entryAt}
+use Rattle.entry.specs.Entry.{differ, agree, asExpected, entryBy, entryAt}
 use Rattle.rows.specs.Table.{tableOf}
 use Rattle.needs.specs.Needs.{tells, lost, lostPair, lacks, turn, turns, compacted}
 use Rattle.tables.specs.Table.{sizesOk, tableRules}
@@ -25,7 +25,7 @@ use Rattle.listing.specs.Promise.{outputOf}
 use Rattle.nodes.specs.Node.{countX, firstX, fill}
 use Rattle.nodes.specs.Order.{order, upto, found, testIn}
 use Rattle.nodes.specs.Budget.{verdictIn}
-use Rattle.sides.specs.Look.{settled, lookOf}
+use Rattle.sides.specs.Look.{lookOf}
 use Rattle.search.specs.Promise.{verdictFor, testFor}
 use Rattle.cnf.specs.Cnf.{decodeFrom}
 use Rattle.cnf.specs.Table.{clauseTable, gateClauses}
@@ -44,10 +44,10 @@ _and_ a b = (a, b)
 pub all-hold : AllYield marked
 unfolding countBelow firstNot said refusal recordsOk smallOk lentRules
     pairAt pinsOf gateTable threeOf gateOf pinOk fieldOk lineOk layoutRules countRules checkOf faultOk faultRules patternRules
-    stuckAt gateValue lineValue grow differ agree entryBy entryAt tableOf
+    stuckAt gateValue lineValue grow differ agree asExpected entryBy entryAt tableOf
     tells lost lostPair lacks turn turns compacted sizesOk tableRules marksRules
     digits letterOf markOf outputOf
-    countX firstX fill order upto found testIn verdictIn settled lookOf verdictFor testFor
+    countX firstX fill order upto found testIn verdictIn lookOf verdictFor testFor
     decodeFrom clauseTable gateClauses goodClauses faultyClauses differenceClauses clausesOf roomRules writtenOf onlySolution
 all-hold =
     refl

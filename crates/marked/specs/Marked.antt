@@ -66,9 +66,6 @@ F = 70
 abbrev P : ℕ
 P = 80
 
-abbrev U : ℕ
-U = 85
-
 abbrev K : ℕ
 K = 75
 
@@ -94,13 +91,13 @@ no n = negℤ (pos n)
 
 abbrev pub marked : List Example
 marked =
-    -- Example A: 0 K FPPF, 1 K PFFP, 2 D PFFP, 3 D UUUU
+    -- Example A: 0 K FPPF, 1 K PFFP, 2 D PFFP, 3 D PPPP
     Example.prints circuitA faultsA patternsA
     (laidOut (
     line 48 K (F ∷ P ∷ P ∷ F ∷ [])
     ∷ line 49 K (P ∷ F ∷ F ∷ P ∷ [])
     ∷ line 50 D (P ∷ F ∷ F ∷ P ∷ [])
-    ∷ line 51 D (U ∷ U ∷ U ∷ U ∷ [])
+    ∷ line 51 D (P ∷ P ∷ P ∷ P ∷ [])
     ∷ []
     ))
     -- A, search for line 3 stuck 1: test 000, 4 nodes

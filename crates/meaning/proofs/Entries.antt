@@ -1,6 +1,6 @@
 -- Fail, pass and unknown in the Boolean meaning: of any pattern and fault of an accepted circuit, and of the table's bytes.
 -- Assumes nothing.
-use mathlib.Core.Path.{_≡_, refl, sym, ap, _∙_}
+use mathlib.Core.Path.{_≡_, refl, sym}
 use mathlib.Core.List.{List}
 use Prim.Native.Nat.{ℕ, zero, suc, _+_, _*_, _≤_, _<_}
 use native.Mathlib.Omega.{arith}
@@ -8,7 +8,6 @@ use lib.Dec.{eqb}
 use lib.ListN.{length, getD}
 use borrow.Author.Tests.{eq-eqb, eqb-true}
 use Rattle.ground.specs.Choose.{one}
-use Rattle.ground.proofs.Tests.{one-same}
 use Rattle.answers.specs.declared.Ruling.the-variants.{Fine}
 use Rattle.answers.specs.Rules.{refusal}
 use Rattle.answers.proofs.Rules.{both-fine}
@@ -23,54 +22,67 @@ use Rattle.lists.specs.Patterns.{patternCount, patternAt}
 use Rattle.lists.specs.Both.{listRules}
 use Rattle.lists.proofs.Patterns.{pattern-whole}
 use Rattle.lists.proofs.Both.{good-lists}
-use Rattle.simulate.specs.Simulate.{unforced, stuckAt}
-use Rattle.simulate.specs.Boolean as boolean
-use Rattle.simulate.specs.Boolean.{Vector, Detects, faulty, truthAt}
-use Rattle.simulate.specs.Vectors.{patternOf, Fills}
+use Rattle.simulate.specs.Simulate.{unforced}
+use Rattle.simulate.specs.Boolean.{Vector, Detects}
+use Rattle.simulate.specs.Vectors.{NoX, Fills}
 use Rattle.simulate.specs.Work.{goodOf, faultyOf}
-use Rattle.simulate.proofs.Truths.{filling-refines, good-alike, faulty-alike, value-alike}
-use Rattle.tables.specs.Entries.{pass, fail}
-use Rattle.entry.specs.Entry.{agree, entryAt}
-use Rattle.entry.specs.Words.{Agree}
-use Rattle.entry.proofs.Words.{agree-says, fail-some, pass-every}
-use Rattle.entry.proofs.Fill.{entry-fail, entry-pass, entry-decided}
+use Rattle.simulate.proofs.Known.{unforced-keeps, values-known}
+use Rattle.tables.specs.Entries.{pass, fail, unknown}
+use Rattle.entry.specs.Entry.{asExpected, entryAt}
+use Rattle.entry.proofs.Words.{expected-passes, entry-three, fail-some, pass-every}
+use Rattle.entry.proofs.Decided.{decided}
+use Rattle.entry.proofs.Fillings.{differ-truths, agree-truths}
 use Rattle.dictionary.specs.Promise.{dictionaryRestRules, Dictionary}
 use Rattle.dictionary.proofs.Says.{in-words}
-use Rattle.meaning.specs.Entries.{Means}
+use Rattle.meaning.specs.Entries.{Exposes, Clears, Means}
 
 module _ (fault : Fault) (small : fault .value ≤ 1) (c p : List ℕ) (n : ℕ) (well : WellFormed c (length p) n) where
-  module _ (x : Vector) where
-    -- the values of a line under a vector are its truths
-    good-is : (k : ℕ) → getD (goodOf c (patternOf (length p) x) n) k 0 ≡ one (truthAt boolean.good c x n k)
-    good-is = value-alike unforced boolean.good good-alike c (length p) n well x
+  exposes-is : entryAt fault c p n ≡ fail → Exposes c fault n p
+  unfolding entryAt
+  exposes-is e =
+      let w = fail-some expected-passes c (goodOf c p n) (faultyOf fault c p n) n e in
+      record {
+        line = w .0;
+        compared = record { inside = w .1 .inside; output = eq-eqb _ _ (w .1 .output); known = w .1 .holds .good-known };
+        differ = λ x fills. differ-truths fault small c p n well x fills (w .0) (w .1 .holds);
+      }
 
-    faulty-is : (k : ℕ) → getD (faultyOf fault c (patternOf (length p) x) n) k 0 ≡ one (truthAt (faulty fault) c x n k)
-    faulty-is = value-alike (stuckAt fault) (faulty fault) (faulty-alike fault small) c (length p) n well x
+  each : entryAt fault c p n ≡ fail → (x : Vector) → Fills p x → Detects c fault n x
+  each e x fills =
+      let s = exposes-is e in
+      record { line = s .line; inside = s .compared .inside; output = s .compared .output; differ = s .differ x fills }
 
-    each : Fills p x → entryAt fault c p n ≡ fail → Detects c fault n x
-    unfolding entryAt
-    each fills e =
-        let w = fail-some agree Agree agree-says c _ _ n (entry-fail fault c p n (patternOf (length p) x) (filling-refines p x fills) e) in
-        record {
-          line = w .0;
-          inside = w .1 .inside;
-          output = eq-eqb _ _ (w .1 .output);
-          differ = λ q. w .1 .holds .differ (good-is (w .0) ∙ ap one q ∙ sym (faulty-is (w .0)));
-        }
+  clears-is : entryAt fault c p n ≡ pass → Clears c fault n p
+  unfolding entryAt
+  clears-is e x fills k h =
+      let all = pass-every expected-passes c (goodOf c p n) (faultyOf fault c p n) n e in
+      agree-truths fault small c p n well x fills k (all k (h .inside) (eqb-true _ _ (h .output)) (h .known))
 
-    none : Fills p x → entryAt fault c p n ≡ pass → Detects c fault n x → ⊥
-    unfolding entryAt
-    none fills e d =
-        let passes = entry-pass fault c p n (patternOf (length p) x) (filling-refines p x fills) e in
-        let same = pass-every agree Agree agree-says c _ _ n passes (d .line) (d .inside) (eqb-true _ _ (d .output)) in
-        d .differ (one-same _ _ (sym (good-is (d .line)) ∙ same .equal ∙ faulty-is (d .line)))
+  decided-is : NoX p → entryAt fault c p n ≡ unknown → ⊥
+  unfolding entryAt
+  decided-is = decided expected-passes fault c p n small well
+
+  three : entryAt fault c p n ≤ 2
+  unfolding entryAt
+  three = entry-three asExpected c (goodOf c p n) (faultyOf fault c p n) n
+
+  -- without X every output is compared
+  none : NoX p → entryAt fault c p n ≡ pass → (x : Vector) → Fills p x → Detects c fault n x → ⊥
+  none full e x fills d =
+      let known = values-known unforced unforced-keeps c p n well full (d .line) in
+      d .differ (clears-is e x fills (d .line) (record { inside = d .inside; output = d .output; known = known }))
 
   means : Means (entryAt fault c p n) c fault n p
   means = record {
-    decided = entry-decided fault c p n (omega arith) well;
-    each-detects = λ e x fills. each x fills e;
-    none-detects = λ e x fills. none x fills e;
+    each-detects = each;
+    exposes = exposes-is;
+    clears = clears-is;
+    decided = decided-is;
+    undetected = λ full x fills. (λ e. none full e x fills, λ not. go not (decided-is full) (λ e. each e x fills));
   }
+    where
+      go : {A : Type 0} → (A → ⊥) → (entryAt fault c p n ≡ unknown → ⊥) → (entryAt fault c p n ≡ fail → A) → entryAt fault c p n ≡ pass
+      go not known detects = let n1 : entryAt fault c p n ≡ fail → ⊥ = λ e. not (detects e) in omega (arith, three)
 
 -- of an accepted circuit, a fault in its layout, and any pattern of its inputs
 pub entry-means : (c fs p : List ℕ) (j : ℕ)
@@ -80,6 +92,26 @@ pub entry-means : (c fs p : List ℕ) (j : ℕ)
     → Means (entryAt (faultAt fs j) c p (linesOf c)) c (faultAt fs j) (linesOf c) p
 entry-means c fs p j fine layout long = means (faultAt fs j) (layout .value) c p (linesOf c) (rw long (good c fine .well))
 
+-- of pattern i and fault j of accepted lists
+pub listed-means : (c fs ps : List ℕ)
+    → refusal (circuitRules c) ≡ Fine
+    → refusal (listRules c (inputsOf c) fs ps) ≡ Fine
+    → (i j : ℕ)
+    → i < patternCount (inputsOf c) ps
+    → j < faultCount fs
+    → Means (entryAt (faultAt fs j) c (patternAt (inputsOf c) ps i) (linesOf c)) c (faultAt fs j) (linesOf c) (patternAt (inputsOf c) ps i)
+listed-means c fs ps fine listed i j a b =
+    let lists = good-lists c (inputsOf c) fs ps listed in
+    entry-means c fs (patternAt (inputsOf c) ps i) j fine (lists .0 .faults j b) (pattern-whole ps (lists .1 .records) a)
+
+-- what the dictionary maker accepts
+pub accepted : (c fs ps t w : List ℕ) {t′ w′ : List ℕ}
+    → Dictionary c fs ps t w Fine t′ w′
+    → (refusal (circuitRules c) ≡ Fine) × (refusal (listRules c (inputsOf c) fs ps) ≡ Fine)
+accepted c fs ps t w d =
+    let fine = both-fine (circuitRules c) (dictionaryRestRules c (linesOf c) (inputsOf c) fs ps (length t) (length w)) (sym (d .answer)) in
+    (fine .0, both-fine (listRules c (inputsOf c) fs ps) _ (fine .1) .0)
+
 -- of the table that the dictionary maker leaves: the byte of pattern i and fault j
 pub dictionary-means : (c fs ps t w : List ℕ) {t′ w′ : List ℕ}
     → Dictionary c fs ps t w Fine t′ w′
@@ -88,11 +120,8 @@ pub dictionary-means : (c fs ps t w : List ℕ) {t′ w′ : List ℕ}
     → j < faultCount fs
     → Means (getD t′ (i * faultCount fs + j) 0) c (faultAt fs j) (linesOf c) (patternAt (inputsOf c) ps i)
 dictionary-means c fs ps t w d i j a b =
-    let m = inputsOf c in
-    let fine = both-fine (circuitRules c) (dictionaryRestRules c (linesOf c) m fs ps (length t) (length w)) (sym (d .answer)) in
-    let lists = good-lists c m fs ps (both-fine (listRules c m fs ps) _ (fine .1) .0) in
-    rw (in-words c fs ps t w d .made refl .entry i j a b)
-    (entry-means c fs (patternAt m ps i) j (fine .0) (lists .0 .faults j b) (pattern-whole ps (lists .1 .records) a))
+    let fine = accepted c fs ps t w d in
+    rw (in-words c fs ps t w d .made refl .entry i j a b) (listed-means c fs ps (fine .0) (fine .1) i j a b)
 
 -- there is a filling: X may be read as 0
 pub some-filling : (p : List ℕ) → Fills p (λ i. eqb (getD p i 0) 1)

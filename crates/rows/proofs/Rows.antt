@@ -6,26 +6,16 @@ use Prim.Native.Nat.{ℕ, _+_, _*_, _-_, _/_, _≤_, _<_}
 use native.Mathlib.Nat.{mul-div-right}
 use native.Mathlib.Numerals.{add-one}
 use native.Mathlib.Omega.{arith}
-use lib.ListN.{length, take, drop, set, length-set, length-append, length-drop}
-use lib.Seq.{take-at, take-all, take-suc-set}
+use lib.ListN.{length, take, drop, set, length-set, length-drop}
+use lib.Seq.{take-all, take-suc-set}
 use Rattle.ground.specs.Lists.{grow}
-use Rattle.ground.proofs.Grow.{grow-length}
 use Rattle.lists.specs.declared.Fault.{Fault}
 use Rattle.lists.specs.Faults.{faultCount, faultAt}
-use Rattle.simulate.specs.Simulate.{unforced, stuckAt, lineValue}
 use Rattle.simulate.specs.Work.{goodOf, faultyOf, bothOf}
-use Rattle.entry.specs.Owed.{LookDone, FaultEntryDone}
+use Rattle.simulate.proofs.Work.{good-long, good-front, both-length}
+use Rattle.entry.specs.Owed.{EntryDone, FaultEntryDone}
 use Rattle.rows.specs.Table.{rowTo}
 use Rattle.rows.specs.Owed.{RowDone}
-
-good-long : (c p x : List ℕ) (n : ℕ) → length (goodOf c p n ++ x) ≡ n + length x
-good-long c p x n = simp (length-append, grow-length (lineValue unforced c p) n)
-
-good-front : (c p x : List ℕ) (n : ℕ) → take n (goodOf c p n ++ x) ≡ goodOf c p n
-good-front c p x n = take-at (goodOf c p n) x n (grow-length (lineValue unforced c p) n)
-
-pub both-length : (fault : Fault) (c p : List ℕ) (n : ℕ) → length (bothOf fault c p n) ≡ n + n
-both-length fault c p n = good-long c p (faultyOf fault c p n) n ∙ rw (grow-length (lineValue (stuckAt fault) c p) n)
 
 -- the first j entries are in the row, and the work memory holds the good values and those of the last fault looked at
 pub record SoFar (c : List ℕ) (n : ℕ) (p fs : List ℕ) (width : ℕ) (row work : List ℕ) (j : ℕ) : Type 0 where
@@ -42,8 +32,8 @@ start c n p fs row w two e = record {
   at-most = omega arith;
   long = refl;
   done = refl;
-  room = ap length e ∙ good-long c p (drop n w) n ∙ simp length-drop (omega arith);
-  good = rw e (good-front c p (drop n w) n);
+  room = ap length e ∙ good-long c p n (drop n w) ∙ simp length-drop (omega arith);
+  good = rw e (good-front c p n (drop n w));
   last = λ h. absurd (omega arith);
 }
 
@@ -55,14 +45,14 @@ module _ {c : List ℕ} {n : ℕ} {p fs : List ℕ} {width : ℕ} {row work : Li
       → SoFar c n p fs width (set row j e) work′ (j + 1)
   unfolding grow
   more {fault} {work′} {e} l is looks =
-      let k : LookDone (faultAt fs j) c p n work′ e = rw is at (looks p (so .good)) in
+      let k : EntryDone (faultAt fs j) c p n work′ e = rw is at (looks p (so .good)) in
       let back : j + 1 - 1 ≡ j = omega arith in
       record {
         at-most = omega arith;
         long = length-set row j e ∙ so .long;
         done = rw (add-one, take-suc-set row j e (omega (arith, so .long)), so .done, k .entry-is);
-        room = ap length (k .work-is) ∙ both-length (faultAt fs j) c p n;
-        good = rw (k .work-is) (good-front c p (faultyOf (faultAt fs j) c p n) n);
+        room = ap length (k .work-is) ∙ both-length c p n (faultAt fs j);
+        good = rw (k .work-is) (good-front c p n (faultyOf (faultAt fs j) c p n));
         last = λ _. k .work-is ∙ ap (λ (x : ℕ). bothOf (faultAt fs x) c p n) (sym back);
       }
 

@@ -12,9 +12,9 @@ use Rattle.ground.proofs.Grow.{grow-length}
 use Rattle.lists.specs.Faults.{faultCount}
 use Rattle.lists.specs.Patterns.{patternCount, patternAt}
 use Rattle.simulate.specs.Work.{bothOf}
+use Rattle.simulate.proofs.Work.{both-length}
 use Rattle.rows.specs.Table.{rowOf, tableTo, tableOf, lastFault, tableWork}
 use Rattle.rows.specs.Owed.{TableReady, PutRowDone, TableDone}
-use Rattle.rows.proofs.Rows.{both-length}
 use Rattle.rows.proofs.Part.{row-fits}
 
 -- the first i rows are in the table, and the work memory holds what the last of them left
@@ -59,7 +59,7 @@ module _ {c : List ℕ} {n m : ℕ} {fs ps t w : List ℕ} {i : ℕ} (so : SoFar
       record {
         at-most = omega arith;
         long = ap length (p .table-is) ∙ simp (length-append, length-take, length-drop, grow-length) (omega (arith, so .long));
-        room = ap length (p .work-is) ∙ both-length (lastFault fs) c (patternAt m ps i) n;
+        room = ap length (p .work-is) ∙ both-length c (patternAt m ps i) n (lastFault fs);
         done =
             rw (add-one, suc-mul, p .table-is, ← append-assoc, take-at (take (i * k) t ++ row) _ (i * k + k) front, so .done);
         last = λ _. p .work-is ∙ ap (λ (x : ℕ). bothOf (lastFault fs) c (patternAt m ps x) n) (sym back);

@@ -1,26 +1,21 @@
 -- What a node says of a fault, in the search's own words, and the work memory once it was looked at.
 -- Assumes nothing.
-use mathlib.Core.Path.{_≡_}
-use mathlib.Core.Bool.{_&&_}
 use mathlib.Core.List.{List}
-use Prim.Native.Nat.{ℕ, _<_}
-use lib.Dec.{eqb}
-use Rattle.gates.specs.Gate.{known}
+use Prim.Native.Nat.{ℕ}
 use Rattle.lists.specs.declared.Fault.{Fault}
 use Rattle.simulate.specs.Work.{goodOf, faultyOf, bothOf}
-use Rattle.entry.specs.Entry.{Test, entryBy}
+use Rattle.entry.specs.Entry.{Test, agree, entryBy}
+use Rattle.entry.specs.Words.{Agree}
 use Rattle.nodes.specs.Node.{Node}
 use Rattle.nodes.specs.Order.{Look}
 
 -- an output is settled if it is known in both circuits and equal; the search leaves a node exactly if every output is
-unfoldable pub settled : Test
-settled a b = known a && (known b && eqb a b)
+abbrev pub settled : Test
+settled = agree
 
 -- in words
-pub record Settled (a b : ℕ) : Type 0 where
-  pub good-known : a < 2
-  pub faulty-known : b < 2
-  pub equal : a ≡ b
+abbrev pub Settled : ℕ → ℕ → Type 0
+Settled = Agree
 
 -- 1 fail: at some output both are known and differ; 0 it is left: every output is settled; 2 neither
 unfoldable pub lookOf : Fault → List ℕ → ℕ → Look

@@ -1,8 +1,10 @@
 // The search from a node on: what a node says of a fault, and its sides.
-use entry::look;
+use entry::entry_by;
 use lists::Fault;
 use nodes::Verdict;
 use nodes::first_x;
+use simulate::faulty_values;
+use simulate::good_values;
 ghost use lib.ListN.{length};
 ghost use Rattle.circuit.specs.Record.{inputsBefore};
 ghost use Rattle.nodes.specs.Node.{IsNode};
@@ -10,12 +12,15 @@ ghost use Rattle.nodes.specs.Owed.{SideDone};
 ghost use Rattle.sides.specs.Look.{lookOf, lookWork};
 ghost use Rattle.sides.specs.Owed.{SideReady, VisitDone};
 
-// Looks at a node: the work memory gets its good and faulty values. 1 fail, 0 it is left, 2 neither.
+// Looks at a node: the work memory gets its good and faulty values. 1 fail, 0 it is left, 2 neither. No output is masked: where the good
+// value is X, a filling may still detect the fault.
 fn visit(circuit: &[u8], node: &[u8], fault: Fault, work: &mut [u8], n: usize) -> u8
     requires { ⌜ SideReady (now circuit) fault n (length (now work)) × IsNode (inputsBefore (now circuit) n) (now node) ⌝ }
     ensures { λ r. ⌜ VisitDone fault (now (circuit .entry)) n (now (node .entry)) r (now (work .exit)) ⌝ }
 {
-    look(circuit, node, fault, work, n)
+    good_values(circuit, node, work, n);
+    faulty_values(circuit, fault, work, n);
+    entry_by(false, circuit, work, n)
 }
 
 // The search from a node on, with at most `left` nodes. Each call has one X fewer, so with n inputs calls are at most n + 1 deep.

@@ -3,8 +3,10 @@ pub mod Settled
 pub mod Inputs
 pub mod Below
 pub mod Halves
+pub mod Work
 pub mod Mono
 pub mod Known
 pub mod Truths
+pub mod Fillings
 pub mod Sites
 pub mod Unused

@@ -13,12 +13,12 @@ pub enum Entry {
     Unknown = 2,
 }
 
-/// The entry of the good and faulty values at the outputs.
+/// The entry of the good and faulty values at the outputs. A tester compares those whose good value is known, and masks the others.
 pub fn entry(outputs: impl Iterator<Item = (Value, Value)> + Clone) -> Entry {
-    let known = |(good, faulty): (Value, Value)| good.zip(faulty);
-    if outputs.clone().filter_map(known).any(|(good, faulty)| good != faulty) {
+    let mut compared = outputs.filter_map(|(good, faulty)| Some((good?, faulty)));
+    if compared.clone().any(|(good, faulty)| faulty == Some(!good)) {
         Entry::Fail
-    } else if outputs.map(known).all(|both| both.is_some_and(|(good, faulty)| good == faulty)) {
+    } else if compared.all(|(good, faulty)| faulty == Some(good)) {
         Entry::Pass
     } else {
         Entry::Unknown

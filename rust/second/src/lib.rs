@@ -27,6 +27,6 @@ pub use fault::{Fault, Site};
 pub use pattern::Pattern;
 pub use program::{program, Files};
 pub use refusal::Refusal;
-pub use search::{search, Outcome, Search, Searched};
+pub use search::{search, Look, Outcome, Search, Searched};
 pub use slice::Slice;
 pub use values::Value;

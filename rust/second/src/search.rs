@@ -1,10 +1,9 @@
 //! The test search.
 use crate::circuit::Circuit;
-use crate::dictionary::Entry;
 use crate::fault::Fault;
 use crate::pattern::Pattern;
 use crate::refusal::{ensure, Refusal};
-use crate::values::byte;
+use crate::values::{byte, Value};
 
 /// How a search ends.
 #[derive(Clone, Copy, Debug, PartialEq, Eq)]
@@ -22,33 +21,59 @@ pub struct Search {
     pub last: Option<Pattern>,
 }
 
-/// All nodes in the order of the search, each with its entry, as if no test ended it.
-pub fn nodes(circuit: &Circuit, fault: Fault) -> impl Iterator<Item = (Pattern, Entry)> + '_ {
+/// What a node says about the fault.
+#[derive(Clone, Copy, Debug, PartialEq, Eq)]
+pub enum Look {
+    /// At some output both values are known and differ.
+    Fails,
+    /// At every output both are known and equal.
+    Settled,
+    /// Neither.
+    Open,
+}
+
+impl Circuit {
+    /// What a node says: every output is looked at, known or not.
+    pub fn look(&self, node: &[Value], fault: Fault) -> Look {
+        let (good, faulty) = (self.values(node, None), self.values(node, Some(fault)));
+        let both: Vec<_> = self.outputs().map(|line| good[line].zip(faulty[line])).collect();
+        if both.iter().flatten().any(|(good, faulty)| good != faulty) {
+            Look::Fails
+        } else if both.iter().all(Option::is_some) {
+            Look::Settled
+        } else {
+            Look::Open
+        }
+    }
+}
+
+/// All nodes in the order of the search, each with what it says, as if no test ended it.
+pub fn nodes(circuit: &Circuit, fault: Fault) -> impl Iterator<Item = (Pattern, Look)> + '_ {
     let mut waiting = vec![vec![None; circuit.inputs().count()]];
     std::iter::from_fn(move || {
         let node = waiting.pop()?;
-        let entry = circuit.entry(&node, fault);
-        if entry == Entry::Unknown {
-            let first = node.iter().position(Option::is_none).expect("without X an entry is known");
+        let look = circuit.look(&node, fault);
+        if look == Look::Open {
+            let first = node.iter().position(Option::is_none).expect("without X every output is known");
             for value in [true, false] {
                 let mut side = node.clone();
                 side[first] = Some(value);
                 waiting.push(side);
             }
         }
-        Some((node, entry))
+        Some((node, look))
     })
 }
 
 /// Looks at no more than `budget` nodes.
 pub fn search_circuit(circuit: &Circuit, fault: Fault, budget: u64) -> Search {
     let mut search = Search { outcome: Outcome::Redundant, nodes: 0, last: None };
-    for (node, entry) in nodes(circuit, fault) {
+    for (node, look) in nodes(circuit, fault) {
         if search.nodes == budget {
             return Search { outcome: Outcome::GivenUp, ..search };
         }
         search = Search { nodes: search.nodes + 1, last: Some(node), ..search };
-        if entry == Entry::Fail {
+        if look == Look::Fails {
             return Search { outcome: Outcome::Test, ..search };
         }
     }

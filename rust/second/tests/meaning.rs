@@ -3,7 +3,7 @@ use cases::{circuits, drawn, faults, Random};
 use second::circuit::{Circuit, Gate};
 use second::clauses::clauses_of;
 use second::search::{search_circuit, Search};
-use second::{Entry, Fault, Outcome, Site, Value};
+use second::{Entry, Fault, Look, Outcome, Site, Value};
 
 /// A line's value, by asking for those that it reads.
 fn truth(circuit: &Circuit, vector: &[bool], fault: Option<Fault>, line: usize) -> bool {
@@ -56,33 +56,44 @@ fn every_pattern(inputs: usize) -> Vec<Vec<Value>> {
     })
 }
 
+/// Where an entry is fail, some compared output differs under every filling; where it is pass, no compared output does under any. Without X
+/// nothing is unknown, and pass is "not detected".
 #[test]
 fn entries_speak_of_all_fillings() {
     let mut seen = [0; 3];
-    for (circuit, faults) in drawn(1, 150, tiny) {
+    let mut detected_under_pass = 0;
+    for (circuit, faults) in drawn(1, 800, tiny) {
         for pattern in every_pattern(circuit.inputs().count()) {
+            let good = circuit.values(&pattern, None);
+            let compared: Vec<_> = circuit.outputs().filter(|&line| good[line].is_some()).collect();
+            let fillings = fillings(&pattern);
             for &fault in &faults {
-                let detected: Vec<_> = fillings(&pattern).iter().map(|vector| detects(&circuit, vector, fault)).collect();
+                let differs = |vector: &[bool], line| truth(&circuit, vector, None, line) != truth(&circuit, vector, Some(fault), line);
+                let detected = fillings.iter().any(|vector| detects(&circuit, vector, fault));
                 let entry = circuit.entry(&pattern, fault);
                 match entry {
-                    Entry::Fail => assert!(detected.iter().all(|&detected| detected)),
-                    Entry::Pass => assert!(detected.iter().all(|&detected| !detected)),
-                    Entry::Unknown => assert!(detected.len() > 1),
+                    Entry::Fail => assert!(compared.iter().any(|&line| fillings.iter().all(|vector| differs(vector, line)))),
+                    Entry::Pass => assert!(compared.iter().all(|&line| !fillings.iter().any(|vector| differs(vector, line)))),
+                    Entry::Unknown => (),
+                }
+                if fillings.len() == 1 {
+                    assert_eq!(entry, if detected { Entry::Fail } else { Entry::Pass });
                 }
                 seen[entry as usize] += 1;
+                detected_under_pass += usize::from(entry == Entry::Pass && detected);
             }
         }
     }
-    assert!(seen.iter().all(|&times| times > 1000), "{seen:?}");
+    assert!(seen.iter().chain([&detected_under_pass]).all(|&times| times > 1000), "{seen:?}, {detected_under_pass}");
 }
 
 /// The nodes from here on, in order, up to the first that fails: the definition as a recursion.
 fn visit(circuit: &Circuit, fault: Fault, node: Vec<Value>, looked: &mut Vec<Vec<Value>>) -> bool {
     looked.push(node.clone());
-    match circuit.entry(&node, fault) {
-        Entry::Fail => true,
-        Entry::Pass => false,
-        Entry::Unknown => [Some(false), Some(true)].into_iter().any(|value| {
+    match circuit.look(&node, fault) {
+        Look::Fails => true,
+        Look::Settled => false,
+        Look::Open => [Some(false), Some(true)].into_iter().any(|value| {
             let mut side = node.clone();
             *side.iter_mut().find(|value| value.is_none()).expect("an X") = value;
             visit(circuit, fault, side, looked)

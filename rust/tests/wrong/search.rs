@@ -56,11 +56,14 @@ fn then(case: &Search, outcomes: &[u32], change: impl Fn(&mut Seen)) -> Seen {
 
 type Wrong = (&'static str, fn(&Search) -> Seen);
 
-pub const PROGRAMS: [Wrong; 9] = [
+pub const PROGRAMS: [Wrong; 10] = [
     ("looks at its start and idles", |case| by(case, [false, true], |_| true)),
     ("tries 1 before 0", |case| by(case, [true, false], equal)),
     ("leaves a node because good is X everywhere", |case| {
         by(case, [false, true], |outputs| equal(outputs) || outputs.iter().all(|(good, _)| good.is_none()))
+    }),
+    ("leaves a node that the dictionary passes", |case| {
+        by(case, [false, true], |outputs| outputs.iter().all(|(good, faulty)| good.is_none() || good == faulty))
     }),
     ("leaves a node where X stands against X", |case| {
         by(case, [false, true], |outputs| outputs.iter().all(|(good, faulty)| good == faulty))

@@ -41,7 +41,7 @@ fn dictionary<G: Gates>(circuit: &[u8], faults: &[u8], patterns: &[u8], table: &
         good_values::<G>(circuit, pattern, work, n);
         for (j, cell) in row.iter_mut().enumerate() {
             faulty_values::<G>(circuit, Fault::read(faults, j), work, n);
-            *cell = entry(circuit, work, n);
+            *cell = entry(true, circuit, work, n);
         }
     }
     Ok(())

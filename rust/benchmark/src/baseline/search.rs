@@ -18,7 +18,7 @@ fn side<G: Gates>(circuit: &[u8], fault: Fault, n: usize, node: &mut [u8], work:
     }
     good_values::<G>(circuit, node, work, n);
     faulty_values::<G>(circuit, fault, work, n);
-    match entry(circuit, work, n) {
+    match entry(false, circuit, work, n) {
         1 => return Test(1),
         0 => return Redundant(1),
         _ => (),

@@ -64,12 +64,15 @@ pub fn faulty_values<G: Gates>(circuit: &[u8], fault: Fault, work: &mut [u8], n:
     simulate_from::<G>(circuit, values, line + 1);
 }
 
-/// 1 fail, 0 pass, 2 unknown.
-pub fn entry(circuit: &[u8], work: &[u8], n: usize) -> u8 {
+/// 1 fail, 0 pass, 2 unknown. Where the good value is X, an output is masked or makes unknown.
+pub fn entry(masks: bool, circuit: &[u8], work: &[u8], n: usize) -> u8 {
     let mut entry = 0;
     for k in 0..n {
         if circuit[8 * k + 1] == 1 {
             let (a, b) = (work[k], work[n + k]);
+            if a >= 2 && masks {
+                continue;
+            }
             if a >= 2 || b >= 2 {
                 entry = 2;
             } else if a != b {

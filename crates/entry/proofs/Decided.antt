@@ -1,0 +1,48 @@
+-- Without X no entry is unknown, with masks or without.
+-- Assumes nothing.
+use mathlib.Core.Path.{_≡_}
+use mathlib.Core.List.{List}
+use Prim.Native.Nat.{ℕ, _<_, _≤_}
+use native.Mathlib.Decide.{ℕ-discrete}
+use native.Mathlib.Omega.{arith}
+use lib.ListN.{length, getD}
+use Rattle.circuit.specs.Record.{outAt}
+use Rattle.circuit.specs.Formed.{WellFormed}
+use Rattle.lists.specs.declared.Fault.{Fault}
+use Rattle.simulate.specs.Simulate.{unforced, stuckAt}
+use Rattle.simulate.specs.Vectors.{NoX}
+use Rattle.simulate.specs.Work.{goodOf, faultyOf}
+use Rattle.simulate.proofs.Known.{unforced-keeps, stuck-keeps, values-known}
+use Rattle.tables.specs.Entries.{unknown}
+use Rattle.entry.specs.Entry.{Test, entryBy}
+use Rattle.entry.specs.Words.{Differ, Agree, SomeOutput, EntryBy}
+use Rattle.entry.proofs.Words.{Passes, entry-words}
+
+module _ {t : Test} {P : ℕ → ℕ → Type 0} (passes : Passes t P) where
+  -- known values at every output differ at one, or agree at all
+  known-decided : (c g f : List ℕ) (n : ℕ) → ((k : ℕ) → k < n → (getD g k 0 < 2) × (getD f k 0 < 2)) → entryBy t c g f n ≡ unknown → ⊥
+  known-decided c g f n known e =
+      omega (arith, words .is-pass (λ k l out. passes .covers _ _ (go k l out (ℕ-discrete (getD g k 0) (getD f k 0)))))
+    where
+      words : EntryBy P c g f n (entryBy t c g f n)
+      words = entry-words passes c g f n
+
+      go : (k : ℕ) → k < n → outAt c k ≡ 1 → Dec (getD g k 0 ≡ getD f k 0) → Agree (getD g k 0) (getD f k 0)
+      go k l out (yes q) = record { good-known = known k l .0; faulty-known = known k l .1; equal = q }
+      go k l out (no d) =
+          let there : SomeOutput Differ c g f n =
+          (k, record { inside = l; output = out; holds = record { good-known = known k l .0; faulty-known = known k l .1; differ = d } }) in
+          absurd (omega (arith, words .is-fail there))
+
+  pub decided : (fault : Fault) (c p : List ℕ) (n : ℕ)
+      → fault .value ≤ 1
+      → WellFormed c (length p) n
+      → NoX p
+      → entryBy t c (goodOf c p n) (faultyOf fault c p n) n ≡ unknown
+      → ⊥
+  decided fault c p n small well full =
+      known-decided c (goodOf c p n) (faultyOf fault c p n) n
+      (λ k l. (
+        values-known unforced unforced-keeps c p n well full k,
+        values-known (stuckAt fault) (stuck-keeps fault (omega arith)) c p n well full k,
+      ))

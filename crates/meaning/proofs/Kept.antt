@@ -1,0 +1,72 @@
+-- The marks of a dictionary's table serve: no fault that some pattern fails is lost, and no pair of them told apart.
+-- Assumes nothing.
+use mathlib.Core.Path.{_≡_}
+use mathlib.Core.Logic.{_⊎_, inl, inr, ⊎-elim}
+use mathlib.Core.List.{List}
+use Prim.Native.Nat.{ℕ, _<_}
+use Rattle.answers.specs.declared.Ruling.the-variants.{Fine}
+use Rattle.answers.specs.Rules.{refusal}
+use Rattle.circuit.specs.Record.{linesOf, inputsOf}
+use Rattle.circuit.specs.Promise.{circuitRules}
+use Rattle.lists.specs.Faults.{faultCount, faultAt}
+use Rattle.lists.specs.Patterns.{patternCount, patternAt}
+use Rattle.lists.specs.Both.{listRules}
+use Rattle.tables.specs.Entries.{entriesOf}
+use Rattle.rows.specs.Table.{tableOf}
+use Rattle.rows.proofs.Entries.{made}
+use Rattle.dictionary.specs.Promise.{Dictionary}
+use Rattle.needs.specs.Needs.{compacted}
+use Rattle.needs.specs.Words.{TellsApart, Sound}
+use Rattle.needs.proofs.Sound.{compacted-sound}
+use Rattle.needs.proofs.Same.{sound-same}
+use Rattle.compact.specs.Promise.{Compacts}
+use Rattle.compact.proofs.Promise.{marks-are}
+use Rattle.meaning.specs.Entries.{Means}
+use Rattle.meaning.specs.Kept.{entriesFor, ExposesAt, ClearsAt, Serves}
+use Rattle.meaning.proofs.Entries.{accepted, listed-means}
+
+-- sound marks serve, in an accepted circuit with accepted lists
+module _ (c fs ps m : List ℕ) (fine : refusal (circuitRules c) ≡ Fine) (listed : refusal (listRules c (inputsOf c) fs ps) ≡ Fine) where
+  at : (i j : ℕ) → i < patternCount (inputsOf c) ps → j < faultCount fs → Means (entriesFor c fs ps i j) c (faultAt fs j) (linesOf c) (patternAt (inputsOf c) ps i)
+  at = listed-means c fs ps fine listed
+
+  tells : (i f g : ℕ)
+      → i < patternCount (inputsOf c) ps
+      → f < faultCount fs
+      → g < faultCount fs
+      → TellsApart (entriesFor c fs ps i f) (entriesFor c fs ps i g)
+      → (ExposesAt c fs ps i f × ClearsAt c fs ps i g) ⊎ (ClearsAt c fs ps i f × ExposesAt c fs ps i g)
+  tells i f g l a b =
+      ⊎-elim
+      (λ e. inl (at i f l a .exposes (e .0), at i g l b .clears (e .1)))
+      (λ e. inr (at i f l a .clears (e .0), at i g l b .exposes (e .1)))
+
+  serves : Sound (entriesFor c fs ps) (faultCount fs) (patternCount (inputsOf c) ps) m → Serves c fs ps m
+  serves s = record {
+    sound = s;
+    exposed = λ f a d. let k = s .enough .faults f a d in (k .0, k .1, k .2, at (k .0) f (k .1) a .exposes (k .3));
+    told = λ f g a b d e t.
+        let k = s .enough .pairs f g a b d e t in
+        (k .0, k .1, k .2, tells (k .0) f g (k .1) a b (k .3));
+  }
+
+-- the marks of the table as it is defined, which are also those that the dictionary program prints
+pub table-serves : (c fs ps : List ℕ)
+    → refusal (circuitRules c) ≡ Fine
+    → refusal (listRules c (inputsOf c) fs ps) ≡ Fine
+    → Serves c fs ps (compacted (entriesOf (faultCount fs) (tableOf c (linesOf c) (inputsOf c) fs ps)) (faultCount fs) (patternCount (inputsOf c) ps))
+table-serves c fs ps fine listed =
+    let F = faultCount fs in
+    let P = patternCount (inputsOf c) ps in
+    let E = entriesOf F (tableOf c (linesOf c) (inputsOf c) fs ps) in
+    serves c fs ps (compacted E F P) fine listed
+    (sound-same {E = E} (made c (linesOf c) (inputsOf c) fs ps .entry) (compacted-sound E F P))
+
+-- of the two parts: the marks that the compactor leaves for the dictionary maker's table
+pub kept-serve : (c fs ps t w : List ℕ) {t′ w′ m m′ : List ℕ}
+    → Dictionary c fs ps t w Fine t′ w′
+    → Compacts (faultCount fs) (patternCount (inputsOf c) ps) t′ m Fine m′
+    → Serves c fs ps m′
+kept-serve c fs ps t w d k =
+    let fine = accepted c fs ps t w d in
+    rw (marks-are k, d .table, ← d .answer) (table-serves c fs ps (fine .0) (fine .1))
