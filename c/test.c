@@ -133,6 +133,16 @@ static void test_dictionary(void) {
     }
 }
 
+/* An AND of two inputs, the output, line 0 stuck at 1, and each entry that there is: with 0X the good value is 0 and the faulty one X, with X1
+   the good value is X and the output masked. */
+static void test_entries(void) {
+    static const uint8_t and_of_two[] = {INPUT, INPUT, LINE(ULLIMAQSU_AND, 1, 0, 1)}, line_0_at_1[] = {0, 0, 0, 1, 0, 0, 0, 0};
+    static const uint8_t each[] = {0, 1, 0, 0, 0, 2, 2, 1}, expected[] = {F, P, ULLIMAQSU_UNKNOWN, P};
+    uint8_t table[4], work[6], area[32];
+    uint32_t returned = ullimaqsu_dictionary(and_of_two, 24, line_0_at_1, 8, each, 8, table, 4, work, 6, area, 32);
+    expect(returned == ULLIMAQSU_FINE && same(table, expected, 4), "fail, pass, unknown, and pass where the output is masked");
+}
+
 /* Example A's table, with other counts and lengths; where a byte is bad, it is this one. */
 static const struct {
     const char *name;
@@ -291,6 +301,7 @@ int main(void) {
     test_check();
     test_areas();
     test_dictionary();
+    test_entries();
     test_compact();
     test_search();
     test_clauses();

@@ -104,8 +104,8 @@ enum ullimaqsu_outcome {
 
 /* An entry of a table. */
 enum ullimaqsu_entry {
-    ULLIMAQSU_PASS = 0,   /* at every compared output the faulty value is known and equal: whatever the X's are, none of them differs */
-    ULLIMAQSU_FAIL = 1,   /* at some compared output the faulty value is known and differs: whatever the X's are, it does */
+    ULLIMAQSU_PASS = 0,   /* at every compared output the faulty value is known and equal: however the X's are filled, no compared output differs */
+    ULLIMAQSU_FAIL = 1,   /* at some compared output the faulty value is known and differs: however the X's are filled, that output differs */
     ULLIMAQSU_UNKNOWN = 2 /* neither */
 };
 

@@ -154,8 +154,13 @@ fn then(case: &Dictionary, change: impl Fn(&Dictionary, &mut Seen)) -> Seen {
     seen
 }
 
-fn differs(outputs: &[(Value, Value)]) -> bool {
-    outputs.iter().any(|(good, faulty)| good.is_some() && faulty.is_some() && good != faulty)
+/// The right entry.
+fn right(outputs: &[(Value, Value)]) -> Entry {
+    second::dictionary::entry(outputs.iter().copied())
+}
+
+fn masked(outputs: &[(Value, Value)]) -> bool {
+    outputs.iter().any(|(good, _)| good.is_none())
 }
 
 type Wrong = (&'static str, fn(&Dictionary) -> Seen);
@@ -164,29 +169,24 @@ type Wrong = (&'static str, fn(&Dictionary) -> Seen);
 const WRONG: [Wrong; 12] = [
     ("answers unknown everywhere", |case| by(case, |_| Entry::Unknown)),
     ("masks nothing: X in the good circuit makes unknown", |case| {
-        by(case, |outputs| match outputs.iter().all(|(good, faulty)| good.is_some() && good == faulty) {
-            true => Entry::Pass,
-            false if differs(outputs) => Entry::Fail,
-            false => Entry::Unknown,
+        by(case, |outputs| match right(outputs) {
+            Entry::Pass if masked(outputs) => Entry::Unknown,
+            entry => entry,
         })
     }),
-    ("masks nothing, and takes X against X for equal", |case| {
-        by(case, |outputs| match outputs.iter().all(|(good, faulty)| good == faulty) {
-            true => Entry::Pass,
-            false if differs(outputs) => Entry::Fail,
-            false => Entry::Unknown,
+    ("masks X against X alone, as if they were equal", |case| {
+        by(case, |outputs| match right(outputs) {
+            Entry::Pass if outputs.iter().any(|(good, faulty)| good.is_none() && faulty.is_some()) => Entry::Unknown,
+            entry => entry,
         })
     }),
     ("passes a faulty X where the good value is known", |case| {
-        by(case, |outputs| if differs(outputs) { Entry::Fail } else { Entry::Pass })
-    }),
-    ("takes a masked output for a difference", |case| {
-        by(case, |outputs| match outputs.iter().all(|(good, faulty)| good == faulty) {
-            _ if differs(outputs) || outputs.iter().any(|(good, _)| good.is_none()) => Entry::Fail,
-            true => Entry::Pass,
-            false => Entry::Unknown,
+        by(case, |outputs| match right(outputs) {
+            Entry::Unknown => Entry::Pass,
+            entry => entry,
         })
     }),
+    ("takes a masked output for a difference", |case| by(case, |outputs| if masked(outputs) { Entry::Fail } else { right(outputs) })),
     ("looks at the first output alone", |case| {
         by(case, |outputs| match outputs[0] {
             (Some(good), Some(faulty)) if good != faulty => Entry::Fail,

@@ -7,7 +7,7 @@ use lib.ListN.{take, drop}
 use Rattle.lists.specs.declared.Fault.{Fault}
 use Rattle.simulate.specs.Work.{goodOf, faultyOf, bothOf}
 use Rattle.simulate.specs.Owed.{FaultyValuesDone}
-use Rattle.simulate.proofs.Work.{good-front, good-before}
+use Rattle.simulate.proofs.Work.{good-front, behind-good}
 use Rattle.entry.specs.Entry.{Test, asExpected, entryBy, entryAt}
 use Rattle.entry.specs.Owed.{FaultEntryDone}
 
@@ -16,12 +16,12 @@ pub of-halves : (t : Test) (fault : Fault) (c p : List ℕ) (n : ℕ) {w : List 
     → w ≡ bothOf fault c p n
     → r ≡ entryBy t c (take n w) (drop n w) n
     → r ≡ entryBy t c (goodOf c p n) (faultyOf fault c p n) n
-of-halves t fault c p n all e = e ∙ rw (all, good-front c p n (faultyOf fault c p n), good-before c p n (faultyOf fault c p n))
+of-halves t fault c p n all e = e ∙ rw (all, good-front c p n (faultyOf fault c p n), behind-good c p n (faultyOf fault c p n))
 
 -- with the dictionary's
-pub entered : (fault : Fault) (c : List ℕ) (n : ℕ) (w w′ : List ℕ) {r : ℕ}
+pub entry-made : (fault : Fault) (c : List ℕ) (n : ℕ) (w w′ : List ℕ) {r : ℕ}
     → FaultyValuesDone fault c n w w′
     → r ≡ entryBy asExpected c (take n w′) (drop n w′) n
     → FaultEntryDone fault c n w w′ r
 unfolding entryAt
-entered fault c n w w′ adds e p good = record { entry-is = of-halves asExpected fault c p n (adds p good) e; work-is = adds p good }
+entry-made fault c n w w′ adds e p good = record { entry-is = of-halves asExpected fault c p n (adds p good) e; work-is = adds p good }

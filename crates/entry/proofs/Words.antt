@@ -15,8 +15,10 @@ use Rattle.answers.specs.Rules.{Same}
 use Rattle.answers.proofs.Same.{lt-same, eq-same, and-same, never-same, where-same}
 use Rattle.gates.specs.Gate.{known}
 use Rattle.circuit.specs.Record.{isOutput}
+use Rattle.lists.specs.declared.Fault.{Fault}
+use Rattle.simulate.specs.Work.{goodOf, faultyOf}
 use Rattle.tables.specs.Entries.{pass, fail, unknown}
-use Rattle.entry.specs.Entry.{Test, differ, agree, asExpected, someOutput, everyOutput, entryBy, entryOf}
+use Rattle.entry.specs.Entry.{Test, differ, agree, asExpected, someOutput, everyOutput, entryBy, entryOf, entryAt}
 use Rattle.entry.specs.Words.{Differ, Agree, AsExpected, SomeOutput, EveryOutput, Chosen, EntryBy, Entry}
 
 -- ---- the tests
@@ -128,6 +130,10 @@ entry-three t c g f n = go (someOutput differ c g f n) (everyOutput t c g f n)
     go true p = omega arith
     go false true = omega arith
     go false false = omega arith
+
+pub entry-small : (fault : Fault) (c p : List ℕ) (n : ℕ) → entryAt fault c p n ≤ 2
+unfolding entryAt
+entry-small fault c p n = entry-three asExpected c (goodOf c p n) (faultyOf fault c p n) n
 
 module _ {t : Test} {P : ℕ → ℕ → Type 0} (passes : Passes t P) (c g f : List ℕ) (n : ℕ) where
   some : Same (someOutput differ c g f n) (SomeOutput Differ c g f n)

@@ -17,9 +17,9 @@ unfoldable pub statusBy : Test → ℕ → ℕ → ℕ → ℕ
 statusBy t out a b = choose (eqb out 1 && differ a b) fail (choose (not (eqb out 1) || t a b) pass unknown)
 
 -- the test that every output must pass, with or without masks
-abbrev pub testOf : Bool → Test
-testOf true = asExpected
-testOf false = agree
+abbrev pub outputTest : Bool → Test
+outputTest true = asExpected
+outputTest false = agree
 
 -- pass so far, and what a line says that does not differ
 unfoldable pub joinedOf : ℕ → ℕ → ℕ
@@ -30,10 +30,10 @@ pub record EntryRoom (c : List ℕ) (n work : ℕ) : Type 0 where
   pub two : work ≡ n + n
 
 -- the entry of the pattern p and a fault, and the work memory that it was read from
-pub record EntryDone (fault : Fault) (c p : List ℕ) (n : ℕ) (work : List ℕ) (r : ℕ) : Type 0 where
+pub record EntryRead (fault : Fault) (c p : List ℕ) (n : ℕ) (work : List ℕ) (r : ℕ) : Type 0 where
   pub entry-is : r ≡ entryAt fault c p n
   pub work-is : work ≡ bothOf fault c p n
 
 -- where the first half of w has the good values, under whatever pattern
 abbrev pub FaultEntryDone : Fault → List ℕ → ℕ → List ℕ → List ℕ → ℕ → Type 0
-FaultEntryDone fault c n w w′ r = (p : List ℕ) → take n w ≡ goodOf c p n → EntryDone fault c p n w′ r
+FaultEntryDone fault c n w w′ r = (p : List ℕ) → take n w ≡ goodOf c p n → EntryRead fault c p n w′ r

@@ -8,15 +8,16 @@ use tables::UNKNOWN;
 ghost use mathlib.Core.Path.{_≡_};
 ghost use Prim.Native.Nat.{_+_, _<_};
 ghost use lib.ListN.{length, getD, take, drop};
+ghost use Rattle.ground.specs.Choose.{choose};
 ghost use Rattle.circuit.specs.Record.{outAt};
 ghost use Rattle.simulate.specs.Owed.{FaultyValuesReady};
-ghost use Rattle.entry.specs.Entry.{entryBy};
-ghost use Rattle.ground.specs.Choose.{choose};
 ghost use Rattle.tables.specs.Entries.{pass, unknown};
-ghost use Rattle.entry.specs.Owed.{testOf, statusBy, joinedOf, EntryRoom, FaultEntryDone};
+ghost use Rattle.entry.specs.Entry.{entryBy};
+ghost use Rattle.entry.specs.Owed.{outputTest, statusBy, joinedOf, EntryRoom, FaultEntryDone};
 
-// What an output says whose good value is X, so that nothing can be expected there: nothing, where it is masked.
-fn unexpected(masks: bool) -> u8
+// What an output says whose good value is X, so that a tester can expect nothing there: where such outputs are masked it passes, and else
+// it is unknown.
+fn nothing_expected(masks: bool) -> u8
     ensures { λ r. ⌜ r ≡ choose masks pass unknown ⌝ }
 {
     if masks { PASS } else { UNKNOWN }
@@ -24,10 +25,10 @@ fn unexpected(masks: bool) -> u8
 
 // What an output says by its good and faulty value.
 fn compare(masks: bool, a: u8, b: u8) -> u8
-    ensures { λ r. ⌜ r ≡ statusBy (testOf masks) 1 a b ⌝ }
+    ensures { λ r. ⌜ r ≡ statusBy (outputTest masks) 1 a b ⌝ }
 {
     if 2 <= a {
-        return unexpected(masks);
+        return nothing_expected(masks);
     }
     if 2 <= b {
         return UNKNOWN;
@@ -41,7 +42,7 @@ fn compare(masks: bool, a: u8, b: u8) -> u8
 // What line k says; a line that is no output says nothing, and its values are not read.
 fn status(masks: bool, circuit: &[u8], work: &[u8], n: usize, k: usize) -> u8
     requires { ⌜ EntryRoom (now circuit) n (length (now work)) × (k < n) ⌝ }
-    ensures { λ r. ⌜ r ≡ statusBy (testOf masks) (outAt (now (circuit .entry)) k) (getD (now (work .entry)) k 0) (getD (now (work .entry)) (n + k) 0) ⌝ }
+    ensures { λ r. ⌜ r ≡ statusBy (outputTest masks) (outAt (now (circuit .entry)) k) (getD (now (work .entry)) k 0) (getD (now (work .entry)) (n + k) 0) ⌝ }
 {
     if circuit[8 * k + 1] != 1 {
         return PASS;
@@ -59,7 +60,7 @@ fn joined(r: u8, s: u8) -> u8
 // is X, as a tester does, or with every output looked at.
 pub fn entry_by(masks: bool, circuit: &[u8], work: &[u8], n: usize) -> u8
     requires { ⌜ EntryRoom (now circuit) n (length (now work)) ⌝ }
-    ensures { λ r. ⌜ r ≡ entryBy (testOf masks) (now (circuit .entry)) (take n (now (work .entry))) (drop n (now (work .entry))) n ⌝ }
+    ensures { λ r. ⌜ r ≡ entryBy (outputTest masks) (now (circuit .entry)) (take n (now (work .entry))) (drop n (now (work .entry))) n ⌝ }
 {
     let mut k = 0;
     let mut r = PASS;

@@ -5,18 +5,11 @@ use Prim.Native.Nat.{ℕ, _≤_}
 use native.Mathlib.Omega.{arith}
 use Rattle.ground.proofs.Grow.{grow-each}
 use Rattle.ground.proofs.Gather.{gather-each}
-use Rattle.lists.specs.declared.Fault.{Fault}
 use Rattle.lists.specs.Faults.{faultAt, faultCount}
 use Rattle.lists.specs.Patterns.{patternAt, patternCount}
 use Rattle.answers.specs.Small.{Small}
-use Rattle.simulate.specs.Work.{goodOf, faultyOf}
-use Rattle.entry.specs.Entry.{asExpected, entryAt}
-use Rattle.entry.proofs.Words.{entry-three}
+use Rattle.entry.proofs.Words.{entry-small}
 use Rattle.rows.specs.Table.{rowOf, tableOf}
-
-entry-small : (fault : Fault) (c p : List ℕ) (n : ℕ) → entryAt fault c p n ≤ 2
-unfolding entryAt
-entry-small fault c p n = entry-three asExpected c (goodOf c p n) (faultyOf fault c p n) n
 
 pub table-small : (c : List ℕ) (n m : ℕ) (fs ps : List ℕ) (i : ℕ) → Small (tableOf c n m fs ps) i
 unfolding tableOf

@@ -28,8 +28,8 @@ use Rattle.simulate.specs.Vectors.{NoX, Fills}
 use Rattle.simulate.specs.Work.{goodOf, faultyOf}
 use Rattle.simulate.proofs.Known.{unforced-keeps, values-known}
 use Rattle.tables.specs.Entries.{pass, fail, unknown}
-use Rattle.entry.specs.Entry.{asExpected, entryAt}
-use Rattle.entry.proofs.Words.{expected-passes, entry-three, fail-some, pass-every}
+use Rattle.entry.specs.Entry.{entryAt}
+use Rattle.entry.proofs.Words.{expected-passes, entry-small, fail-some, pass-every}
 use Rattle.entry.proofs.Decided.{decided}
 use Rattle.entry.proofs.Fillings.{differ-truths, agree-truths}
 use Rattle.dictionary.specs.Promise.{dictionaryRestRules, Dictionary}
@@ -62,10 +62,6 @@ module _ (fault : Fault) (small : fault .value ≤ 1) (c p : List ℕ) (n : ℕ)
   unfolding entryAt
   decided-is = decided expected-passes fault c p n small well
 
-  three : entryAt fault c p n ≤ 2
-  unfolding entryAt
-  three = entry-three asExpected c (goodOf c p n) (faultyOf fault c p n) n
-
   -- without X every output is compared
   none : NoX p → entryAt fault c p n ≡ pass → (x : Vector) → Fills p x → Detects c fault n x → ⊥
   none full e x fills d =
@@ -82,7 +78,7 @@ module _ (fault : Fault) (small : fault .value ≤ 1) (c p : List ℕ) (n : ℕ)
   }
     where
       go : {A : Type 0} → (A → ⊥) → (entryAt fault c p n ≡ unknown → ⊥) → (entryAt fault c p n ≡ fail → A) → entryAt fault c p n ≡ pass
-      go not known detects = let n1 : entryAt fault c p n ≡ fail → ⊥ = λ e. not (detects e) in omega (arith, three)
+      go not known detects = let n1 : entryAt fault c p n ≡ fail → ⊥ = λ e. not (detects e) in omega (arith, entry-small fault c p n)
 
 -- of an accepted circuit, a fault in its layout, and any pattern of its inputs
 pub entry-means : (c fs p : List ℕ) (j : ℕ)

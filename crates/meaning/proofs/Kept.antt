@@ -50,7 +50,7 @@ module _ (c fs ps m : List ℕ) (fine : refusal (circuitRules c) ≡ Fine) (list
         (k .0, k .1, k .2, tells (k .0) f g (k .1) a b (k .3));
   }
 
--- the marks of the table as it is defined, which are also those that the dictionary program prints
+-- the marks of the table as it is defined; the text of the dictionary program is defined by the same marks
 pub table-serves : (c fs ps : List ℕ)
     → refusal (circuitRules c) ≡ Fine
     → refusal (listRules c (inputsOf c) fs ps) ≡ Fine

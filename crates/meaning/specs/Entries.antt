@@ -23,7 +23,7 @@ pub record Compared (c p : List ℕ) (n k : ℕ) : Type 0 where
 abbrev pub EqualAt : List ℕ → Fault → ℕ → Vector → ℕ → Type 0
 EqualAt c fault n x k = truthAt good c x n k ≡ truthAt (faulty fault) c x n k
 
--- the pattern p exposes the fault: under every filling of its X's they differ, at one and the same compared output
+-- the pattern p exposes the fault: under every filling of its X's good and faulty truth differ, at one and the same compared output
 pub record Exposes (c : List ℕ) (fault : Fault) (n : ℕ) (p : List ℕ) : Type 0 where
   pub line : ℕ
   pub compared : Compared c p n line

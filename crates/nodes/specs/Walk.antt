@@ -21,7 +21,7 @@ pub data Ending : Type 0 where
   finished : Ending
 
 pub data Walk (look : Look) : Node → List Node → Ending → Type 0 where
-  -- if the entry is fail, answer this node as the test
+  -- if it fails, answer this node as the test
   fail : {s : Node} → look s ≡ 1 → Walk look s (s ∷ []) (tested s)
   -- leave the node
   leave : {s : Node} → look s ≡ 0 → Walk look s (s ∷ []) finished

@@ -13,7 +13,7 @@ use Rattle.lists.specs.declared.Fault.{Fault}
 use Rattle.lists.specs.Faults.{faultCount, faultAt}
 use Rattle.simulate.specs.Work.{goodOf, faultyOf, bothOf}
 use Rattle.simulate.proofs.Work.{good-long, good-front, both-length}
-use Rattle.entry.specs.Owed.{EntryDone, FaultEntryDone}
+use Rattle.entry.specs.Owed.{EntryRead, FaultEntryDone}
 use Rattle.rows.specs.Table.{rowTo}
 use Rattle.rows.specs.Owed.{RowDone}
 
@@ -45,7 +45,7 @@ module _ {c : List ℕ} {n : ℕ} {p fs : List ℕ} {width : ℕ} {row work : Li
       → SoFar c n p fs width (set row j e) work′ (j + 1)
   unfolding grow
   more {fault} {work′} {e} l is looks =
-      let k : EntryDone (faultAt fs j) c p n work′ e = rw is at (looks p (so .good)) in
+      let k : EntryRead (faultAt fs j) c p n work′ e = rw is at (looks p (so .good)) in
       let back : j + 1 - 1 ≡ j = omega arith in
       record {
         at-most = omega arith;

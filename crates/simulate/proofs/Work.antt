@@ -18,8 +18,8 @@ module _ (c p : List ℕ) (n : ℕ) where
     pub good-front : take n (goodOf c p n ++ x) ≡ goodOf c p n
     good-front = take-at (goodOf c p n) x n (grow-length (lineValue unforced c p) n)
 
-    pub good-before : drop n (goodOf c p n ++ x) ≡ x
-    good-before = drop-at (goodOf c p n) x n (grow-length (lineValue unforced c p) n)
+    pub behind-good : drop n (goodOf c p n ++ x) ≡ x
+    behind-good = drop-at (goodOf c p n) x n (grow-length (lineValue unforced c p) n)
 
   pub both-length : (fault : Fault) → length (bothOf fault c p n) ≡ n + n
   both-length fault = good-long (faultyOf fault c p n) ∙ rw (grow-length (lineValue (stuckAt fault) c p) n)

@@ -56,8 +56,8 @@ fn every_pattern(inputs: usize) -> Vec<Vec<Value>> {
     })
 }
 
-/// Where an entry is fail, some compared output differs under every filling; where it is pass, no compared output does under any. Without X
-/// nothing is unknown, and pass is "not detected".
+/// Where an entry is fail, one and the same compared output differs under every filling; where it is pass, no compared output does under any.
+/// Without X nothing is unknown, and pass is "not detected".
 #[test]
 fn entries_speak_of_all_fillings() {
     let mut seen = [0; 3];

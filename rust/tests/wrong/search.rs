@@ -2,7 +2,7 @@
 use super::{Case, Search, GIVEN_UP, REDUNDANT, TEST};
 use second::entries::Seen;
 use second::values::byte;
-use second::{Entry, Pattern, Value};
+use second::{Look, Pattern, Value};
 
 /// A search that tries the sides in this order and leaves nodes by another rule, and otherwise what the second program says.
 fn by(case: &Search, sides: [bool; 2], leaves: fn(&[(Value, Value)]) -> bool) -> Seen {
@@ -19,7 +19,7 @@ fn by(case: &Search, sides: [bool; 2], leaves: fn(&[(Value, Value)]) -> bool) ->
             break 2;
         }
         looked.push(node.clone());
-        if circuit.entry(&node, fault) == Entry::Fail {
+        if circuit.look(&node, fault) == Look::Fails {
             break 0;
         }
         let (good, faulty) = (circuit.values(&node, None), circuit.values(&node, Some(fault)));

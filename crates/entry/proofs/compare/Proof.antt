@@ -13,7 +13,7 @@ unfolding statusBy differ
 returns c =
     let s = c .before .before .args in
     let x = c .before .if1 .taken in
-    c .unexpected .ensures ∙ simp (le-ltb _ _ x, masked (s .masks) (s .a) (s .b) x)
+    c .nothing-expected .ensures ∙ simp (le-ltb _ _ x, masked (s .masks) (s .a) (s .b) x)
 
 returns-2 : tie.Need-returns-2
 unfolding statusBy differ agree

@@ -5,12 +5,12 @@ use native.Mathlib.Omega.{arith}
 use lib.ListN.{take, drop}
 use Prim.Native.Nat.{_-_}
 use Rattle.entry.proofs.Loop.{SoFar, start, more, failed, finished, in-halves}
-use Rattle.entry.specs.Owed.{testOf}
+use Rattle.entry.specs.Owed.{outputTest}
 use Rattle.entry.proofs.entry_by.Statement.{statement}
 use Rattle.entry.proofs.entry_by.Tie as tie
 
 abbrev Inv-loop : tie.InvT-loop
-Inv-loop masks circuit work n k₀ r₀ k r = SoFar (testOf masks) circuit (take n work) (drop n work) n k r
+Inv-loop masks circuit work n k₀ r₀ k r = SoFar (outputTest masks) circuit (take n work) (drop n work) n k r
 
 abbrev μ-loop : tie.MeasureT-loop
 μ-loop masks circuit work n k₀ r₀ k r = n - k

@@ -6,7 +6,6 @@ use Prim.Native.Nat.{ℕ}
 use borrow.Author.Needs.{needs}
 use lib.ListN.{take, drop}
 use Rattle.simulate.specs.Owed.{Shaped}
-use Rattle.simulate.specs.Work.{bothOf}
 use Rattle.simulate.proofs.Work.{good-front}
 use Rattle.entry.proofs.Halves.{of-halves}
 use Rattle.sides.specs.Look.{settled, lookOf, lookWork}
