@@ -41,7 +41,7 @@ everyOutput t c g f n = allBelow n (λ k. not (isOutput c k) || t (getD g k 0) (
 unfoldable pub entryBy : Test → List ℕ → List ℕ → List ℕ → ℕ → ℕ
 entryBy t c g f n = choose (someOutput differ c g f n) fail (choose (everyOutput t c g f n) pass unknown)
 
--- the dictionary's entry: every output must be as expected
+-- the dictionary's entry: pass if every output is as expected
 abbrev pub entryOf : List ℕ → List ℕ → List ℕ → ℕ → ℕ
 entryOf c g f n = entryBy asExpected c g f n
 
