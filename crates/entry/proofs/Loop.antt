@@ -14,13 +14,9 @@ use Rattle.circuit.specs.Record.{outAt, isOutput}
 use Rattle.tables.specs.Entries.{pass, fail, unknown}
 use Rattle.entry.specs.Entry.{Test, differ, someOutput, everyOutput, entryBy}
 use Rattle.entry.specs.Owed.{statusBy, joinedOf}
+use Rattle.entry.proofs.Words.{chose-fail}
 
--- a choice by two tests, read backwards
-chosen : (d g : Bool) → choose d fail (choose g pass unknown) ≡ fail → d ≡ true
-chosen true g e = refl
-chosen false true e = absurd (omega arith)
-chosen false false e = absurd (omega arith)
-
+-- a choice that is not fail
 not-chosen : (d : Bool) (x : ℕ) → (choose d fail x ≡ fail → ⊥) → d ≡ false
 not-chosen true x h = absurd (h refl)
 not-chosen false x h = refl
@@ -56,7 +52,7 @@ module _ {t : Test} {c g f : List ℕ} {n k r : ℕ} (so : SoFar t c g f n k r) 
   pub failed : {s : ℕ} → k < n → s ≡ statusBy t (outAt c k) (getD g k 0) (getD f k 0) → s ≡ fail → fail ≡ entryBy t c g f n
   unfolding statusBy entryBy
   failed l e q =
-      let d : (isOutput c k && differ (getD g k 0) (getD f k 0)) ≡ true = chosen _ (not (isOutput c k) || t (getD g k 0) (getD f k 0)) (sym e ∙ q) in
+      let d : (isOutput c k && differ (getD g k 0) (getD f k 0)) ≡ true = chose-fail _ (not (isOutput c k) || t (getD g k 0) (getD f k 0)) (sym e ∙ q) in
       rw (any-some n (λ j. isOutput c j && differ (getD g j 0) (getD f j 0)) k l d)
 
   pub finished : n ≤ k → r ≡ entryBy t c g f n

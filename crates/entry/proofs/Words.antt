@@ -100,15 +100,15 @@ one-choice false true s u h = h .is-pass (u .holds refl)
 one-choice false false s u h = h .is-unknown (λ a. false≢true (s .tests a)) (λ a. false≢true (u .tests a))
 
 -- and read backwards
-chose-fail : (d p : Bool) {F : Type 0} → Same d F → choose d fail (choose p pass unknown) ≡ fail → F
-chose-fail true p s e = s .holds refl
-chose-fail false true s e = absurd (omega arith)
-chose-fail false false s e = absurd (omega arith)
+pub chose-fail : (d p : Bool) → choose d fail (choose p pass unknown) ≡ fail → d ≡ true
+chose-fail true p e = refl
+chose-fail false true e = absurd (omega arith)
+chose-fail false false e = absurd (omega arith)
 
-chose-pass : (d p : Bool) {P : Type 0} → Same p P → choose d fail (choose p pass unknown) ≡ pass → P
-chose-pass true p u e = absurd (omega arith)
-chose-pass false true u e = u .holds refl
-chose-pass false false u e = absurd (omega arith)
+chose-pass : (d p : Bool) → choose d fail (choose p pass unknown) ≡ pass → p ≡ true
+chose-pass true p e = absurd (omega arith)
+chose-pass false true e = refl
+chose-pass false false e = absurd (omega arith)
 
 -- a test that agreement passes and difference does not, and its words
 pub record Passes (t : Test) (P : ℕ → ℕ → Type 0) : Type 0 where
@@ -144,11 +144,11 @@ module _ {t : Test} {P : ℕ → ℕ → Type 0} (passes : Passes t P) (c g f : 
 
   pub fail-some : entryBy t c g f n ≡ fail → SomeOutput Differ c g f n
   unfolding entryBy
-  fail-some = chose-fail (someOutput differ c g f n) (everyOutput t c g f n) some
+  fail-some e = some .holds (chose-fail (someOutput differ c g f n) (everyOutput t c g f n) e)
 
   pub pass-every : entryBy t c g f n ≡ pass → EveryOutput P c g f n
   unfolding entryBy
-  pass-every = chose-pass (someOutput differ c g f n) (everyOutput t c g f n) every
+  pass-every e = every .holds (chose-pass (someOutput differ c g f n) (everyOutput t c g f n) e)
 
   -- the definition meets the words
   pub entry-words : EntryBy P c g f n (entryBy t c g f n)
