@@ -1,19 +1,23 @@
 -- Pieces written one after the other are written as one.
 -- Assumes nothing.
 use mathlib.Core.Path.{_≡_, refl, sym, ap, _∙_}
-use mathlib.Core.List.{List, [], _∷_, _++_}
+use mathlib.Core.List.{List, [], _∷_, _++_, append-nil}
 use Prim.Native.Nat.{ℕ, suc, _+_, _≤_, _<_}
 use native.Mathlib.Nat.{add-zero, zero-add, add-suc, suc-add}
 use native.Mathlib.Numerals.{add-one}
 use native.Mathlib.Omega.{arith}
-use lib.ListN.{length, getD, take, drop, set, length-append}
-use lib.Seq.{sets, length-sets, sets-eq, take-suc, take-all, length-take-le}
+use lib.ListN.{length, getD, take, drop, set, length-append, drop-of-length-le}
+use lib.Seq.{sets, length-sets, sets-eq, take-suc, take-all, take-length, length-take-le}
 use Rattle.ground.specs.Put.{Put}
 
 module _ {A : Type 0} where
   sets-append : (l : List A) (i : ℕ) (a b : List A) → sets l i (a ++ b) ≡ sets (sets l i a) (i + length a) b
   sets-append l i [] b = rw add-zero
   sets-append l i (x ∷ a) b = rw (add-suc, ← suc-add i (length a)) (sets-append (set l i x) (suc i) a b)
+
+  -- a copy over the whole length
+  pub copied : (s d : List A) → length s ≡ length d → take (length s) s ++ drop (length s) d ≡ s
+  copied s d e = rw (take-length s, drop-of-length-le d {i = length s} (omega arith)) (append-nil s)
 
   pub put-none : (w : List A) (at : ℕ) → Put w w at [] at
   put-none w at = record { written = refl; next-is = sym (add-zero at) }

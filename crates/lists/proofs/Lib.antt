@@ -1,3 +1,4 @@
 pub mod Faults
 pub mod Patterns
+pub mod Parts
 pub mod Both

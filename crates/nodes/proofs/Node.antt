@@ -11,6 +11,7 @@ use lib.ListN.{length, getD, take, set, length-set, length-replicate, getD-repli
 use lib.Seq.{getD-set-same, getD-set-other, set-set, set-getD}
 use borrow.Author.Tests.{eqb-true, eqb-false, eq-eqb, ne-eqb, not-true, not-false}
 use Rattle.ground.specs.Below.{countBelow}
+use Rattle.ground.proofs.Tests.{either}
 use Rattle.ground.proofs.Below.{some-any}
 use Rattle.ground.proofs.Counting.{count-below, count-more, any-count}
 use Rattle.ground.proofs.First.{Lowest, Every, first-cases, first-is}
@@ -46,6 +47,14 @@ first-x s h = ⊎-elim (lowest-first s _) (λ a. absurd (none (a .1))) (first-ca
 
 pub found-first : {s : Node} {at : ℕ} → at ≡ firstX s → 0 < countX s → FirstX s at
 found-first {s} {at} e h = rw e (first-x s h)
+
+-- where a place inside is found, and where none is
+pub x-inside : {s : Node} {at : ℕ} → at ≡ firstX s → at < length s → FirstX s at
+unfolding firstX
+x-inside {s} {at} e h = ⊎-elim (λ l. rw e (lowest-first s _ l)) (λ a. absurd (omega (arith, a .0))) (first-cases (length s) (isSet s))
+
+pub x-nowhere : (s : Node) {at : ℕ} → at ≡ firstX s → length s ≤ at → countX s ≡ 0
+x-nowhere s e h = ⊎-elim (λ some. absurd (omega (arith, found-first e some .inside))) (λ none. omega arith) (either 0 (countX s))
 
 pub x-is-first : {s : Node} {at : ℕ} → FirstX s at → at ≡ firstX s
 unfolding firstX

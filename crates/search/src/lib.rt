@@ -59,6 +59,33 @@ fn run(
     found
 }
 
+// The same from a node on that stays as it is.
+pub fn run_from(
+    circuit: &[u8],
+    fault: Fault,
+    n: usize,
+    node: &[u8],
+    budget: u64,
+    test: &mut [u8],
+    work: &mut [u8],
+) -> Verdict
+    requires { ⌜ (length (now node) ≤ 64) × RunReady (now circuit) fault n (now node) (length (now test)) (length (now work)) ⌝ }
+    ensures { λ r. ⌜ RunDone (lookOf fault (now (circuit .entry)) n) (lookWork fault (now (circuit .entry)) n) (now (node .entry)) budget
+        (now (test .entry)) (now (work .entry)) r (now (test .exit)) (now (work .exit)) ⌝ }
+{
+    let mut own = [2u8; 64];
+    copy(node, &mut own[..node.len()]);
+    run(
+        circuit,
+        fault,
+        n,
+        &mut own[..node.len()],
+        budget,
+        test,
+        work,
+    )
+}
+
 // The search from all X on, for any fault.
 pub fn run_all_x(
     circuit: &[u8],

@@ -3,8 +3,10 @@
 use mathlib.Core.Path.{_≡_}
 use mathlib.Core.List.{List}
 use Prim.Native.Nat.{ℕ, _+_, _<_}
+use lib.ListN.{take}
 use Rattle.circuit.specs.Record.{inputsBefore}
 use Rattle.lists.specs.declared.Fault.{Fault}
+use Rattle.simulate.specs.Work.{goodOf}
 use Rattle.simulate.specs.Owed.{Shaped}
 use Rattle.nodes.specs.Node.{Node}
 use Rattle.nodes.specs.Walk.{Looks}
@@ -20,3 +22,7 @@ pub record SideReady (c : List ℕ) (fault : Fault) (n room : ℕ) : Type 0 wher
 pub record VisitDone (fault : Fault) (c : List ℕ) (n : ℕ) (s : Node) (r : ℕ) (w′ : List ℕ) : Type 0 where
   pub says : r ≡ lookOf fault c n s
   pub work : w′ ≡ lookWork fault c n s
+
+-- where the first half of w has the good values of whatever node
+abbrev pub LookDone : Fault → List ℕ → ℕ → List ℕ → ℕ → List ℕ → Type 0
+LookDone fault c n w r w′ = (s : Node) → take n w ≡ goodOf c s n → VisitDone fault c n s r w′

@@ -7,20 +7,29 @@ use simulate::faulty_values;
 use simulate::good_values;
 ghost use lib.ListN.{length};
 ghost use Rattle.circuit.specs.Record.{inputsBefore};
+ghost use Rattle.simulate.specs.Owed.{FaultyValuesReady};
 ghost use Rattle.nodes.specs.Node.{IsNode};
 ghost use Rattle.nodes.specs.Owed.{SideDone};
 ghost use Rattle.sides.specs.Look.{lookOf, lookWork};
-ghost use Rattle.sides.specs.Owed.{SideReady, VisitDone};
+ghost use Rattle.sides.specs.Owed.{SideReady, LookDone, VisitDone};
 
-// Looks at a node: the work memory gets its good and faulty values. 1 fail, 0 it is left, 2 neither. No output is masked: where the good
-// value is X, a filling may still detect the fault.
+// Looks at a node whose good values stand in the work memory, which gets the faulty ones: 1 fail, 0 it is left, 2 neither. No output is
+// masked: where the good value is X, a filling may still detect the fault.
+pub fn look_at(circuit: &[u8], fault: Fault, work: &mut [u8], n: usize) -> u8
+    requires { ⌜ FaultyValuesReady (now circuit) fault n (length (now work)) ⌝ }
+    ensures { λ r. ⌜ LookDone fault (now (circuit .entry)) n (now (work .entry)) r (now (work .exit)) ⌝ }
+{
+    faulty_values(circuit, fault, work, n);
+    entry_by(false, circuit, work, n)
+}
+
+// Looks at a node: the work memory gets its good and faulty values.
 fn visit(circuit: &[u8], node: &[u8], fault: Fault, work: &mut [u8], n: usize) -> u8
     requires { ⌜ SideReady (now circuit) fault n (length (now work)) × IsNode (inputsBefore (now circuit) n) (now node) ⌝ }
     ensures { λ r. ⌜ VisitDone fault (now (circuit .entry)) n (now (node .entry)) r (now (work .exit)) ⌝ }
 {
     good_values(circuit, node, work, n);
-    faulty_values(circuit, fault, work, n);
-    entry_by(false, circuit, work, n)
+    look_at(circuit, fault, work, n)
 }
 
 // The search from a node on, with at most `left` nodes. Each call has one X fewer, so with n inputs calls are at most n + 1 deep.

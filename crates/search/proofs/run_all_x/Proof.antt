@@ -1,28 +1,13 @@
 -- `search::run_all_x` meets its contract: the first bytes of 64 X's are the start.
 -- Assumes nothing.
-use mathlib.Core.Path.{_≡_, sym, ap, _∙_}
-use mathlib.Core.List.{List}
-use Prim.Native.Nat.{ℕ}
+use mathlib.Core.Path.{sym, ap, _∙_}
 use native.Mathlib.Omega.{arith}
 use borrow.Author.Needs.{needs}
 use lib.ListN.{length, length-replicate}
-use Rattle.lists.specs.declared.Fault.{Fault}
-use Rattle.nodes.specs.declared.Verdict.{Verdict}
-use Rattle.nodes.specs.Node.{Node}
-use Rattle.nodes.specs.Order.{Look}
 use Rattle.nodes.proofs.Node.{start-part}
-use Rattle.search.specs.Owed.{RunReady, RunDone}
+use Rattle.search.proofs.Runs.{runs-of, ran-of}
 use Rattle.search.proofs.run_all_x.Statement.{statement}
 use Rattle.search.proofs.run_all_x.Tie as tie
-
--- the same of an equal node
-runs-of : {c : List ℕ} {fault : Fault} {n : ℕ} {s s2 : Node} {test room : ℕ} → s ≡ s2 → RunReady c fault n s test room → RunReady c fault n s2 test room
-runs-of e p = rw (← e) p
-
-ran-of : {look : Look} {after : Node → List ℕ} {s s2 : Node} {b : ℕ} {t w : List ℕ} {r : Verdict} {t′ w′ : List ℕ}
-    → s ≡ s2
-    → RunDone look after s b t w r t′ w′ → RunDone look after s2 b t w r t′ w′
-ran-of e p = rw (← e) p
 
 slice-aggregate-run : tie.Need-slice-aggregate-run
 slice-aggregate-run c =

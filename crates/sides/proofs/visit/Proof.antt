@@ -1,4 +1,4 @@
--- `sides::visit` meets its contract: the good values, the faulty ones, and what they say without masks.
+-- `sides::visit` meets its contract: the good values, and a look at them.
 -- Assumes nothing.
 use mathlib.Core.Path.{_≡_, ap, _∙_}
 use mathlib.Core.List.{List}
@@ -7,8 +7,6 @@ use borrow.Author.Needs.{needs}
 use lib.ListN.{take, drop}
 use Rattle.simulate.specs.Owed.{Shaped}
 use Rattle.simulate.proofs.Work.{good-front}
-use Rattle.entry.proofs.Halves.{of-halves}
-use Rattle.sides.specs.Look.{settled, lookOf, lookWork}
 use Rattle.sides.proofs.visit.Statement.{statement}
 use Rattle.sides.proofs.visit.Tie as tie
 
@@ -19,14 +17,12 @@ good-values-requires : tie.Need-good-values-requires
 good-values-requires c κs = let p = c .before .before .before .before .pre in record { shaped = sized (p .1 .size) (p .0 .shaped); two = p .0 .two }
 
 returns : tie.Need-returns
-unfolding lookOf lookWork
 returns c =
-    let f = c .before .before .before .before in
-    let g = f .before .before .before .before in
-    let s = g .before .before .before .before .before .args in
-    let front = ap (take (s .n)) (g .good-values .ensures) ∙ good-front (s .circuit .now) (s .node .now) (s .n) (drop (s .n) (s .work .now)) in
-    let all = f .faulty-values .ensures (s .node .now) front in
-    record { says = of-halves settled (s .fault) (s .circuit .now) (s .node .now) (s .n) all (c .entry-by .ensures); work = all }
+    let looked = c .before .before in
+    let good = looked .before .before .before .before in
+    let a = good .before .before .before .before .before .args in
+    looked .look-at .ensures (a .node .now)
+    (ap (take (a .n)) (good .good-values .ensures) ∙ good-front (a .circuit .now) (a .node .now) (a .n) (drop (a .n) (a .work .now)))
 
 pub visit-spec : {M : Type 1} → statement M
-visit-spec = tie.close (tie.spec good-values-requires (λ c κs. search needs) (λ c κs. search needs) (λ c. search needs) returns)
+visit-spec = tie.close (tie.spec good-values-requires (λ c κs. search needs) (λ c. search needs) returns)
