@@ -1,0 +1,4 @@
+pub mod Past
+pub mod Ends
+pub mod Levels
+pub mod Meeting

@@ -1,0 +1,4 @@
+pub mod Reaches
+pub mod Alike
+pub mod Sides
+pub mod Start
