@@ -5,7 +5,7 @@ use mathlib.Core.List.{List}
 use Prim.Native.Nat.{ℕ}
 use lib.IntN.{ℤ}
 use Rattle.replies.proofs.Entered.{one-return}
-use Rattle.entries.specs.Entries.{DictionaryEntered, CompactEntered, SearchEntered, ClausesEntered, BenchEntered}
+use Rattle.entries.specs.Entries.{DictionaryEntered, CompactEntered, SearchEntered, SearchAllEntered, ClausesEntered, BenchEntered}
 
 module _ {c fs ps t w a : List ℕ} {r s : ℕ} {t₁ w₁ a₁ t₂ w₂ a₂ : List ℕ} where
   pub one-made :
@@ -28,6 +28,15 @@ module _ {c f : List ℕ} {b : ℕ} {t w a : List ℕ} {r s : ℕ} {t₁ w₁ a�
   one-found p q =
       let o = one-return (p .answer) (q .answer) in
       (o .0, p .test ∙ sym (q .test), p .work ∙ sym (q .work), o .1)
+
+module _ {c fs bs o k t w a : List ℕ} {r s : ℕ} {o₁ k₁ t₁ w₁ a₁ o₂ k₂ t₂ w₂ a₂ : List ℕ} where
+  pub one-list :
+      SearchAllEntered c fs bs o k t w a r o₁ k₁ t₁ w₁ a₁
+      → SearchAllEntered c fs bs o k t w a s o₂ k₂ t₂ w₂ a₂
+      → (r ≡ s) × (o₁ ≡ o₂) × (k₁ ≡ k₂) × (t₁ ≡ t₂) × (w₁ ≡ w₂) × (a₁ ≡ a₂)
+  one-list p q =
+      let same = one-return (p .answer) (q .answer) in
+      (same .0, p .outcomes ∙ sym (q .outcomes), p .counts ∙ sym (q .counts), p .tests ∙ sym (q .tests), p .work ∙ sym (q .work), same .1)
 
 module _ {c f : List ℕ} {w : List ℤ} {a : List ℕ} {r s : ℕ} {w₁ w₂ : List ℤ} {a₁ a₂ : List ℕ} where
   pub one-laid : ClausesEntered c f w a r w₁ a₁ → ClausesEntered c f w a s w₂ a₂ → (r ≡ s) × (w₁ ≡ w₂) × (a₁ ≡ a₂)

@@ -17,6 +17,8 @@ use Rattle.lists.specs.Faults.{faultAt}
 use Rattle.needs.specs.Needs as needs
 use Rattle.compact.specs.Promise.{compactRules}
 use Rattle.search.specs.Promise.{searchRules, verdictFor, testFor, workFor, verdictNumbers}
+use Rattle.list_search.specs.Works.{worksFor}
+use Rattle.search_all.specs.Promise.{outcomesFor, countsFor, testsFor, searchAllRules}
 use Rattle.line_clauses.specs.Clauses.{variablesOf}
 use Rattle.bench.specs.Promise.{benchRules, recordsIn}
 use Rattle.ground.specs.Put.{laidOn}
@@ -42,6 +44,14 @@ pub record SearchEntered (c f : List ℕ) (b : ℕ) (t w a : List ℕ) (r : ℕ)
   pub answer : Entered a (told (refusal (searchRules c f (length t) (length w))) (verdictNumbers (verdictFor c (faultAt f 0) b))) r a′
   pub test : t′ ≡ entered a t (unless (refusal (searchRules c f (length t) (length w))) t (testFor c (faultAt f 0) b t))
   pub work : w′ ≡ entered a w (unless (refusal (searchRules c f (length t) (length w))) w (workFor c (faultAt f 0) b w))
+
+-- the search for a list of faults: done; outcomes o, counts k, tests t and the work memory w become o′, k′, t′ and w′
+pub record SearchAllEntered (c fs bs o k t w a : List ℕ) (r : ℕ) (o′ k′ t′ w′ a′ : List ℕ) : Type 0 where
+  pub answer : Entered a (told (refusal (searchAllRules c fs bs o k t w)) done) r a′
+  pub outcomes : o′ ≡ entered a o (unless (refusal (searchAllRules c fs bs o k t w)) o (outcomesFor c fs bs))
+  pub counts : k′ ≡ entered a k (unless (refusal (searchAllRules c fs bs o k t w)) k (countsFor c fs bs))
+  pub tests : t′ ≡ entered a t (unless (refusal (searchAllRules c fs bs o k t w)) t (testsFor c fs bs t))
+  pub work : w′ ≡ entered a w (unless (refusal (searchAllRules c fs bs o k t w)) w (worksFor c fs bs w))
 
 -- the clause writer: words, clauses and variables; the words w become w′
 pub record ClausesEntered (c f : List ℕ) (w : List ℤ) (a : List ℕ) (r : ℕ) (w′ : List ℤ) (a′ : List ℕ) : Type 0 where

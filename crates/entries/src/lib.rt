@@ -14,8 +14,9 @@ use replies::of_searched;
 use replies::of_written;
 use replies::report;
 use search::search;
+use search_all::search_all;
 ghost use Rattle.answers.specs.Area.{Entered};
-ghost use Rattle.entries.specs.Entries.{checkNumbers, DictionaryEntered, CompactEntered, SearchEntered, ClausesEntered, BenchEntered};
+ghost use Rattle.entries.specs.Entries.{checkNumbers, DictionaryEntered, CompactEntered, SearchEntered, SearchAllEntered, ClausesEntered, BenchEntered};
 
 #[no_mangle]
 pub extern "C" fn ullimaqsu_check(circuit: &[u8], answer: &mut [u8]) -> u32
@@ -79,6 +80,28 @@ pub extern "C" fn ullimaqsu_search(
     }
     let v = search(circuit, fault, budget, test, work);
     report(of_searched(v), answer)
+}
+
+#[no_mangle]
+pub extern "C" fn ullimaqsu_search_all(
+    circuit: &[u8],
+    faults: &[u8],
+    budgets: &[u64],
+    outcomes: &mut [u8],
+    counts: &mut [u64],
+    tests: &mut [u8],
+    work: &mut [u8],
+    answer: &mut [u8],
+) -> u32
+    ensures { λ r. ⌜ SearchAllEntered (now (circuit .entry)) (now (faults .entry)) (now (budgets .entry))
+        (now (outcomes .entry)) (now (counts .entry)) (now (tests .entry)) (now (work .entry)) (now (answer .entry))
+        r (now (outcomes .exit)) (now (counts .exit)) (now (tests .exit)) (now (work .exit)) (now (answer .exit)) ⌝ }
+{
+    if answer.len() != AREA {
+        return OTHER_SIZE;
+    }
+    let v = search_all(circuit, faults, budgets, outcomes, counts, tests, work);
+    report(of_ruling(v), answer)
 }
 
 #[no_mangle]

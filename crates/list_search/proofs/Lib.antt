@@ -1,0 +1,5 @@
+pub mod Pieces
+pub mod Parts
+pub mod Budgets
+pub mod Ends
+pub mod Works

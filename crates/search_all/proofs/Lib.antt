@@ -1,0 +1,5 @@
+pub mod Results
+pub mod Answer
+pub mod Says
+pub mod Each
+pub mod InTurn
