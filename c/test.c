@@ -220,6 +220,73 @@ static void test_search(void) {
     }
 }
 
+/* Example A's faults in one list, with budgets that are just enough, too small, without end and 0, and with other lengths; where a byte of the
+   faults is bad, it is this one. */
+static const struct {
+    const char *name;
+    size_t circuit, faults, budgets, outcomes, counts, tests, work;
+    int bad;
+    uint32_t returned;
+    uint64_t place;
+} list_searches[] = {
+    {"list of example A", 40, 32, 4, 4, 4, 12, 10, -1, ULLIMAQSU_FINE, 0},
+    {"no output, and nothing else right", 24, 31, 3, 3, 3, 11, 9, 19, ULLIMAQSU_NO_OUTPUT, 0},
+    {"no faults, and nothing after them right", 40, 0, 3, 3, 3, 11, 9, -1, ULLIMAQSU_FAULTS_SIZE, 0},
+    {"a stuck value above 1, and nothing after it right", 40, 32, 3, 3, 3, 11, 9, 19, ULLIMAQSU_FAULT_LAYOUT, 2},
+    {"too few budgets", 40, 32, 3, 4, 4, 12, 10, -1, ULLIMAQSU_BUFFER_SIZE, 0},
+    {"too many budgets", 40, 32, 5, 4, 4, 12, 10, -1, ULLIMAQSU_BUFFER_SIZE, 0},
+    {"too few outcomes", 40, 32, 4, 3, 4, 12, 10, -1, ULLIMAQSU_BUFFER_SIZE, 0},
+    {"too many outcomes", 40, 32, 4, 5, 4, 12, 10, -1, ULLIMAQSU_BUFFER_SIZE, 0},
+    {"too few counts", 40, 32, 4, 4, 3, 12, 10, -1, ULLIMAQSU_BUFFER_SIZE, 0},
+    {"too many counts", 40, 32, 4, 4, 5, 12, 10, -1, ULLIMAQSU_BUFFER_SIZE, 0},
+    {"too few test bytes", 40, 32, 4, 4, 4, 11, 10, -1, ULLIMAQSU_BUFFER_SIZE, 0},
+    {"too many test bytes", 40, 32, 4, 4, 4, 13, 10, -1, ULLIMAQSU_BUFFER_SIZE, 0},
+    {"a work memory too small", 40, 32, 4, 4, 4, 12, 9, -1, ULLIMAQSU_BUFFER_SIZE, 0},
+    {"a work memory too large", 40, 32, 4, 4, 4, 12, 11, -1, ULLIMAQSU_BUFFER_SIZE, 0},
+};
+
+static void test_search_all(void) {
+    static const uint64_t budgets[5] = {14, 3, (uint64_t)-1, 0}, counts_of_a[] = {14, 3, 4, 0};
+    static const uint8_t
+        outcomes_of_a[] = {ULLIMAQSU_TEST, ULLIMAQSU_GIVEN_UP, ULLIMAQSU_TEST, ULLIMAQSU_GIVEN_UP},
+        tests_of_a[] = {1, 1, 0, JUNK, JUNK, JUNK, 0, 0, 0, JUNK, JUNK, JUNK},
+        last_work[] = {0, 0, 0, 0, 0, 0, 0, 1, 0, 1};
+    for (size_t i = 0; i < sizeof list_searches / sizeof *list_searches; i++) {
+        uint8_t list[sizeof faults], outcomes[5], tests[13], work[11], area[32];
+        uint64_t counts[5];
+        const uint64_t numbers[4] = {list_searches[i].place};
+        for (size_t k = 0; k < sizeof faults; k++) list[k] = faults[k];
+        if (list_searches[i].bad >= 0) list[list_searches[i].bad] = 2;
+        for (size_t k = 0; k < 5; k++) counts[k] = JUNK;
+        fill(outcomes, sizeof outcomes), fill(tests, sizeof tests), fill(work, sizeof work);
+        uint32_t returned = ullimaqsu_search_all(example_a, list_searches[i].circuit, list, list_searches[i].faults, budgets,
+                                                 list_searches[i].budgets, outcomes, list_searches[i].outcomes, counts,
+                                                 list_searches[i].counts, tests, list_searches[i].tests, work, list_searches[i].work,
+                                                 area, 32);
+        size_t ended = returned ? 0 : 4, worked = returned ? 0 : sizeof last_work;
+        expect(returned == list_searches[i].returned && answers(area, numbers), list_searches[i].name);
+        expect(same(outcomes, outcomes_of_a, ended) && stays(outcomes + ended, 5 - ended), "an outcome for each fault, and nothing else");
+        for (size_t k = 0; k < 5; k++) expect(counts[k] == (k < ended ? counts_of_a[k] : JUNK), "a count for each fault, and nothing else");
+        expect(same(tests, tests_of_a, 3 * ended) && stays(tests + 3 * ended, 13 - 3 * ended), "the tests that are found, and nothing else");
+        expect(same(work, last_work, worked) && stays(work + worked, sizeof work - worked), "the work of the last fault with a budget");
+    }
+}
+
+/* Every outcome in one list: the output that is always 0, stuck at 0, at 1, and at 0 again with one node too few. */
+static void test_outcomes(void) {
+    static const uint8_t stuck[] = {2, 0, 0, 0, 0, 0, 0, 0, 2, 0, 0, 1, 0, 0, 0, 0, 2, 0, 0, 0, 0, 0, 0, 0};
+    static const uint8_t expected[] = {ULLIMAQSU_REDUNDANT, ULLIMAQSU_TEST, ULLIMAQSU_GIVEN_UP};
+    static const uint64_t budgets[] = {3, 3, 2};
+    static const uint8_t last[] = {0, 1, 0, 0, 1, 0};
+    uint8_t outcomes[] = {JUNK, JUNK, JUNK}, tests[] = {JUNK, JUNK, JUNK}, work[] = {JUNK, JUNK, JUNK, JUNK, JUNK, JUNK}, area[32];
+    uint64_t counts[] = {JUNK, JUNK, JUNK};
+    uint32_t returned = ullimaqsu_search_all(always_0, 24, stuck, 24, budgets, 3, outcomes, 3, counts, 3, tests, 3, work, 6, area, 32);
+    expect(returned == ULLIMAQSU_FINE && same(outcomes, expected, 3), "redundant, test, given up");
+    expect(counts[0] == 3 && counts[1] == 2 && counts[2] == 2, "the nodes of each");
+    expect(tests[0] == JUNK && tests[1] == 0 && tests[2] == JUNK, "the one test");
+    expect(same(work, last, 6), "the work of the last node looked at for the last fault");
+}
+
 /* Line 0 input, 1 = NOT 0 output, line 1 stuck at 0, with other lengths. */
 static const uint8_t inverter[] = {INPUT, NOT_OF(1, 0)}, line_1_at_0[] = {1, 0, 0, 0, 0, 0, 0, 0};
 static const int32_t words_of_inverter[] = {
@@ -304,6 +371,8 @@ int main(void) {
     test_entries();
     test_compact();
     test_search();
+    test_search_all();
+    test_outcomes();
     test_clauses();
     test_bench();
     printf("C test: %s\n", failures ? "FAILED" : "ok");

@@ -75,7 +75,7 @@ typedef __UINT64_TYPE__ uint64_t;
     each(ULLIMAQSU_NO_INPUT,        3, "the circuit has no input", "") \
     each(ULLIMAQSU_MANY_INPUTS,     4, "the circuit has more than 64 inputs", "") \
     each(ULLIMAQSU_NO_OUTPUT,       5, "the circuit has no output", "") \
-    each(ULLIMAQSU_FAULTS_SIZE,     6, "the faults are not a multiple of 8 bytes, empty, or above 256 records (search and clauses: not 8 bytes)", "") \
+    each(ULLIMAQSU_FAULTS_SIZE,     6, "the faults are not a multiple of 8 bytes, empty, or above 256 records (search and clauses for one fault: not 8 bytes)", "") \
     each(ULLIMAQSU_FAULT_LAYOUT,    7, "a fault record breaks its layout or names no line", "record") \
     each(ULLIMAQSU_PATTERNS_SIZE,   8, "the patterns are not a multiple of the inputs, empty, or above 256", "") \
     each(ULLIMAQSU_PATTERN_BYTE,    9, "a pattern byte is above 2", "byte") \
@@ -165,6 +165,21 @@ uint32_t ullimaqsu_search(const uint8_t *circuit, size_t circuit_len,
                           uint8_t *test, size_t test_len,
                           uint8_t *work, size_t work_len,
                           uint8_t *answer, size_t answer_len);
+
+/* The test search, for a list of faults with one budget each. Refusals 1 to 7 and 10. N is the number of lines, n of inputs.
+   Does in one call what single searches do, one after the other with the same work memory. The results of a fault are its outcome, the count
+   of nodes looked at, and n test bytes, written only for a test. Budgets, outcomes and counts are exactly as many as the faults, the test
+   bytes n times as many. The work memory, exactly 2 N bytes, ends as the last of the searches leaves it; one with budget 0 leaves it as the
+   one before did.
+   Answer: nothing but that it is done. */
+uint32_t ullimaqsu_search_all(const uint8_t *circuit, size_t circuit_len,
+                              const uint8_t *faults, size_t faults_len,
+                              const uint64_t *budgets, size_t budgets_len,
+                              uint8_t *outcomes, size_t outcomes_len,
+                              uint64_t *counts, size_t counts_len,
+                              uint8_t *tests, size_t tests_len,
+                              uint8_t *work, size_t work_len,
+                              uint8_t *answer, size_t answer_len);
 
 /* The clause writer, for one fault. Refusals 1 to 7 and 11. N is the number of lines.
    Variables: the good value of line k is 2k+1, its faulty value 2k+2, the stuck value 2N+1, the difference at the j-th output, from 0 in

@@ -17,6 +17,10 @@ macro_rules! entries {
             Search = ullimaqsu_search(
                 circuit: &[u8], fault: &[u8], budget: u64, test: &mut [u8], work: &mut [u8], answer: &mut [u8]
             );
+            SearchAll = ullimaqsu_search_all(
+                circuit: &[u8], faults: &[u8], budgets: &[u64], outcomes: &mut [u8], counts: &mut [u64], tests: &mut [u8],
+                work: &mut [u8], answer: &mut [u8]
+            );
             Clauses = ullimaqsu_clauses(circuit: &[u8], fault: &[u8], words: &mut [i32], answer: &mut [u8]);
             Bench = ullimaqsu_bench(text: &[u8], circuit: &mut [u8], answer: &mut [u8]);
         }

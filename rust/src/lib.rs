@@ -39,6 +39,14 @@ pub enum Outcome {
     GivenUp = 2,
 }
 
+impl Outcome {
+    /// The outcome that an entry gave as this number.
+    fn numbered(number: u64) -> Outcome {
+        let outcomes = [Outcome::Test, Outcome::Redundant, Outcome::GivenUp];
+        outcomes.into_iter().find(|&outcome| outcome as u64 == number).expect("a search ends in one of three ways")
+    }
+}
+
 /// How a search ended, and how many nodes it looked at.
 #[derive(Clone, Copy, Debug, PartialEq, Eq)]
 pub struct Search {
@@ -122,9 +130,31 @@ pub fn search(circuit: &[u8], fault: &[u8], budget: u64, test: &mut [u8], work: 
     let mut area = [0; 32];
     let returned = enter(Call::Search { circuit, fault, budget, test, work, answer: &mut area });
     let [number, nodes, ..] = answered(returned, area)?;
-    let outcomes = [Outcome::Test, Outcome::Redundant, Outcome::GivenUp];
-    let outcome = outcomes.into_iter().find(|&outcome| outcome as u64 == number).expect("a search ends in one of three ways");
-    Ok(Search { outcome, nodes })
+    Ok(Search { outcome: Outcome::numbered(number), nodes })
+}
+
+/// The test search for a list of faults with a budget for each: in one call what [`search`] does for one fault after the other, with the
+/// same work memory. The tests stand in the order of the faults, one byte for each input; where none was found, nothing is written. A
+/// refusal writes nothing.
+///
+/// ```
+/// use ullimaqsu::{search_all, Outcome, Search};
+/// let not = [0, 0, 0, 0, 0, 0, 0, 0, 2, 1, 0, 0, 0, 0, 0, 0];
+/// let output_stuck_at_0_and_at_1 = [1, 0, 0, 0, 0, 0, 0, 0, 1, 0, 0, 1, 0, 0, 0, 0];
+/// let (mut tests, mut work) = ([9; 2], [9; 4]);
+/// let found = search_all(&not, &output_stuck_at_0_and_at_1, &[u64::MAX, 2], &mut tests, &mut work)?;
+/// assert_eq!(found, [Search { outcome: Outcome::Test, nodes: 2 }, Search { outcome: Outcome::GivenUp, nodes: 2 }]);
+/// assert_eq!(tests, [0, 9]);
+/// # Ok::<(), ullimaqsu::Refusal>(())
+/// ```
+pub fn search_all(circuit: &[u8], faults: &[u8], budgets: &[u64], tests: &mut [u8], work: &mut [u8]) -> Result<Vec<Search>, Refusal> {
+    let mut area = [0; 32];
+    // as many results as budgets: where these are not as many as faults, the call is refused
+    let (outcomes, counts) = (&mut vec![0; budgets.len()], &mut vec![0; budgets.len()]);
+    let returned = enter(Call::SearchAll { circuit, faults, budgets, outcomes, counts, tests, work, answer: &mut area });
+    answered(returned, area)?;
+    let found = |(&number, &nodes): (&u8, &u64)| Search { outcome: Outcome::numbered(number.into()), nodes };
+    Ok(outcomes.iter().zip(&*counts).map(found).collect())
 }
 
 /// The clause writer for one fault: clauses that can be satisfied exactly if the fault has a test, each closed by a 0, for a SAT solver. Words

@@ -3,7 +3,7 @@
 //! `sound_circuits` and `damaged_circuits` compare 1,000,000 cases together; over the bridge that takes a few seconds.
 mod harness;
 
-use cases::circuits::{circuit, record, small, AND, BUFFER, INPUT, NOT, OR};
+use cases::circuits::{circuit, example_a, record, small, AND, BUFFER, INPUT, NOT};
 use cases::{damage, drawn, Random};
 use harness::{compare, first_defect_is_told, library, wrong_programs_are_seen, Case, Check, Defect};
 use second::entries::{self, Seen};
@@ -161,8 +161,7 @@ fn bindings() {
     let refused = |number, place| Err(ullimaqsu::Refusal { number, place });
     let accepted = |lines, inputs, outputs| Ok(ullimaqsu::Counts { lines, inputs, outputs });
     let inputs = |count, output| record(INPUT, output, 0, 0).repeat(count);
-    let a = [&inputs(3, false)[..], &record(AND, false, 0, 1), &record(OR, true, 3, 2)].concat();
-    assert_eq!(ullimaqsu::check(&a), accepted(5, 3, 1));
+    assert_eq!(ullimaqsu::check(&example_a()), accepted(5, 3, 1));
     assert_eq!(ullimaqsu::check(&inputs(64, true)), accepted(64, 64, 64));
     assert_eq!(ullimaqsu::check(&inputs(65, true)), refused(4, 0));
     assert_eq!(ullimaqsu::check(&inputs(65, false)), refused(4, 0));

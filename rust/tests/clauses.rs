@@ -42,16 +42,12 @@ fn damaged(random: &mut Random) -> Clauses {
     let mut case = sound(random);
     let lines = case.circuit.len() / 8;
     let exact = needed(&case.circuit, &case.fault);
-    let mut times = 0;
-    while times == 0 || random.once_in(2) {
-        times += 1;
-        match random.below(8) {
-            0..=1 => damage::several(random, &mut case.circuit, damage::circuit),
-            2..=4 => damage::several(random, &mut case.fault, |random, bytes| damage::faults(random, bytes, lines)),
-            5..=6 => case.words.resize(random.pick(&[0, 1, exact / 2, exact - 1, exact, exact + 1]), 7),
-            _ => case.answer.resize(random.pick(&[0, 31, 33, 64]), 7),
-        }
-    }
+    damage::several(random, &mut case, |random, case| match random.below(8) {
+        0..=1 => damage::several(random, &mut case.circuit, damage::circuit),
+        2..=4 => damage::several(random, &mut case.fault, |random, bytes| damage::faults(random, bytes, lines)),
+        5..=6 => case.words.resize(random.pick(&[0, 1, exact / 2, exact - 1, exact, exact + 1]), 7),
+        _ => case.answer.resize(random.pick(&[0, 31, 33, 64]), 7),
+    });
     case
 }
 

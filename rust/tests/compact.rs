@@ -43,21 +43,17 @@ fn count(random: &mut Random, right: u64) -> u64 {
 /// One thing or several are wrong.
 fn damaged(random: &mut Random) -> Compact {
     let mut case = sound(random);
-    let mut times = 0;
-    while times == 0 || random.once_in(2) {
-        times += 1;
-        match random.below(8) {
-            0 => case.fault_count = count(random, case.fault_count),
-            1 => case.pattern_count = count(random, case.pattern_count),
-            2 => case.table.resize(damage::size(random, case.table.len()), 1),
-            3..=4 if !case.table.is_empty() => {
-                let place = random.below(case.table.len());
-                case.table[place] = random.pick(&[3, 4, 255]);
-            }
-            5 => case.answer.resize(random.pick(&[0, 31, 33, 64]), 7),
-            _ => case.marks.resize(damage::size(random, case.marks.len()), 7),
+    damage::several(random, &mut case, |random, case| match random.below(8) {
+        0 => case.fault_count = count(random, case.fault_count),
+        1 => case.pattern_count = count(random, case.pattern_count),
+        2 => case.table.resize(damage::size(random, case.table.len()), 1),
+        3..=4 if !case.table.is_empty() => {
+            let place = random.below(case.table.len());
+            case.table[place] = random.pick(&[3, 4, 255]);
         }
-    }
+        5 => case.answer.resize(random.pick(&[0, 31, 33, 64]), 7),
+        _ => case.marks.resize(damage::size(random, case.marks.len()), 7),
+    });
     case
 }
 

@@ -1,7 +1,7 @@
 //! The dictionary maker against the second program: table, work memory and answer, byte by byte.
 mod harness;
 
-use cases::circuits::{circuit, record, small, sources, AND, INPUT, OR};
+use cases::circuits::{circuit, example_a, record, small, sources, AND, INPUT};
 use cases::faults::{self, every, inputs, patterns, some};
 use cases::{damage, drawn, Random};
 use harness::{compare, first_defect_is_told, wrong_programs_are_seen, Case, Defect, Dictionary};
@@ -39,18 +39,14 @@ fn sound(random: &mut Random) -> Dictionary {
 fn damaged(random: &mut Random) -> Dictionary {
     let mut case = sound(random);
     let lines = case.circuit.len() / 8;
-    let mut times = 0;
-    while times == 0 || random.once_in(2) {
-        times += 1;
-        match random.below(12) {
-            0..=1 => damage::several(random, &mut case.circuit, damage::circuit),
-            2..=4 => damage::several(random, &mut case.faults, |random, bytes| damage::faults(random, bytes, lines)),
-            5..=7 => damage::several(random, &mut case.patterns, damage::patterns),
-            8..=9 => case.table.resize(damage::size(random, case.table.len()), 7),
-            10 => case.work.resize(damage::size(random, case.work.len()), 7),
-            _ => case.answer.resize(random.pick(&[0, 31, 33, 64]), 7),
-        }
-    }
+    damage::several(random, &mut case, |random, case| match random.below(12) {
+        0..=1 => damage::several(random, &mut case.circuit, damage::circuit),
+        2..=4 => damage::several(random, &mut case.faults, |random, bytes| damage::faults(random, bytes, lines)),
+        5..=7 => damage::several(random, &mut case.patterns, damage::patterns),
+        8..=9 => case.table.resize(damage::size(random, case.table.len()), 7),
+        10 => case.work.resize(damage::size(random, case.work.len()), 7),
+        _ => case.answer.resize(random.pick(&[0, 31, 33, 64]), 7),
+    });
     case
 }
 
@@ -271,8 +267,7 @@ fn a_filling_that_detects_under_pass() {
 /// The safe call, on example A.
 #[test]
 fn bindings() {
-    let inputs = record(INPUT, false, 0, 0).repeat(3);
-    let a = [&inputs[..], &record(AND, false, 0, 1), &record(OR, true, 3, 2)].concat();
+    let a = example_a();
     let faults = [[3, 0, 0, 0, 0, 0, 0, 0], [3, 0, 0, 1, 0, 0, 0, 0], [2, 0, 0, 1, 0, 0, 0, 0], [0, 0, 0, 0, 0, 0, 0, 0]].concat();
     let patterns = [1, 1, 0, 0, 1, 0, 0, 2, 0, 2, 1, 0];
     let (mut table, mut work) = ([9; 16], [9; 10]);

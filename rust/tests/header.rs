@@ -7,7 +7,7 @@ mod directory;
 #[path = "harness/x86.rs"]
 mod x86;
 
-use cases::circuits::{self, record, AND, INPUT, OR};
+use cases::circuits::{self, example_a, record, INPUT};
 use command::{run, ullimaqsu};
 use directory::{root, Directory};
 use second::{program, Entry, Files};
@@ -59,9 +59,9 @@ fn numbers_elsewhere() {
         ("INPUT", INPUT),
         ("BUFFER", circuits::BUFFER),
         ("NOT", circuits::NOT),
-        ("AND", AND),
+        ("AND", circuits::AND),
         ("NAND", circuits::NAND),
-        ("OR", OR),
+        ("OR", circuits::OR),
         ("NOR", circuits::NOR),
         ("XOR", circuits::XOR),
         ("XNOR", circuits::XNOR),
@@ -139,8 +139,7 @@ type Spoil = fn(&mut Vec<u8>);
 
 /// Example A, spoilt so that each refusal is given that files can have.
 fn refused_files() -> Vec<(&'static str, Files)> {
-    let inputs = record(INPUT, false, 0, 0).repeat(3);
-    let circuit = [&inputs[..], &record(AND, false, 0, 1), &record(OR, true, 3, 2)].concat();
+    let circuit = example_a();
     let faults = [[3, 0, 0, 0, 0, 0, 0, 0], [0, 0, 0, 1, 0, 0, 0, 0]].concat();
     let patterns = vec![1, 1, 0, 0, 1, 0];
     let spoils: [(&str, Spoil); 8] = [

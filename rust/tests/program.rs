@@ -64,15 +64,11 @@ fn spoil(random: &mut Random, file: &mut Option<Vec<u8>>, limit: usize, damage: 
 fn damaged(random: &mut Random) -> Files {
     let mut files = sound(random);
     let lines = files.circuit.as_ref().map_or(0, |bytes| bytes.len() / 8);
-    let mut times = 0;
-    while times == 0 || random.once_in(3) {
-        times += 1;
-        match random.below(5) {
-            0 => spoil(random, &mut files.circuit, 16_384, damage::circuit),
-            1..=2 => spoil(random, &mut files.faults, 2_048, |random, bytes| damage::faults(random, bytes, lines)),
-            _ => spoil(random, &mut files.patterns, 16_384, damage::patterns),
-        }
-    }
+    damage::several(random, &mut files, |random, files| match random.below(5) {
+        0 => spoil(random, &mut files.circuit, 16_384, damage::circuit),
+        1..=2 => spoil(random, &mut files.faults, 2_048, |random, bytes| damage::faults(random, bytes, lines)),
+        _ => spoil(random, &mut files.patterns, 16_384, damage::patterns),
+    });
     files
 }
 

@@ -1,14 +1,16 @@
 //! The test search against the second program, and its verdicts against all input vectors.
+#[path = "harness/budgets.rs"]
+mod budgets;
 mod harness;
 #[path = "wrong/search.rs"]
 mod wrong;
 
-use cases::circuits::{circuit, record, AND, INPUT, NOT, XOR};
+use budgets::budget;
+use cases::circuits::{self, always_0, circuit, parity, record, AND, INPUT};
 use cases::faults::{self, some};
 use cases::{damage, drawn, Random};
 use harness::{compare, first_defect_is_told, library, wrong_programs_are_seen, Case, Defect, Search};
 use second::entries::{self, Seen};
-use second::search::search_circuit;
 use second::values::byte;
 use second::{Circuit, Entry, Fault, Pattern};
 use ullimaqsu::Outcome;
@@ -48,9 +50,7 @@ fn lend(random: &mut Random, circuit: Vec<u8>) -> Search {
 }
 
 fn few_inputs(random: &mut Random) -> Search {
-    let lines = 1 + random.below(30);
-    let inputs = 1 + random.below(lines.min(7));
-    let circuit = circuit(random, lines, inputs);
+    let circuit = circuits::few_inputs(random);
     lend(random, circuit)
 }
 
@@ -58,10 +58,7 @@ fn few_inputs(random: &mut Random) -> Search {
 fn sound(random: &mut Random) -> Search {
     let case = few_inputs(random);
     let (circuit, fault) = case.parts();
-    let count = search_circuit(&circuit, fault, u64::MAX).nodes;
-    let fewer = random.word() % count;
-    let budget = random.pick(&[0, 1, fewer, count - 1, count, count + 1, u64::MAX]);
-    Search { budget, ..case }
+    Search { budget: budget(random, &circuit, fault), ..case }
 }
 
 /// 60 to 64 inputs, and a small budget.
@@ -73,28 +70,22 @@ fn many_inputs(random: &mut Random) -> Search {
     Search { budget, ..lend(random, circuit) }
 }
 
-/// The parity of 64 inputs, whose output is stuck at 0: the search goes down to the last input before it knows anything.
-fn parity() -> Search {
-    let mut circuit = record(INPUT, false, 0, 0).repeat(64);
-    (1..64).for_each(|input| circuit.extend(record(XOR, input == 63, if input == 1 { 0 } else { 62 + input }, input)));
-    Search { fault: faults::record(126, 0, false).to_vec(), ..lend(&mut Random::new(0), circuit) }
+/// The search goes down to the last input before it knows anything.
+fn parity_stuck_at_0() -> Search {
+    Search { fault: faults::record(126, 0, false).to_vec(), ..lend(&mut Random::new(0), parity()) }
 }
 
 /// One thing or several are wrong.
 fn damaged(random: &mut Random) -> Search {
     let mut case = sound(random);
     let lines = case.circuit.len() / 8;
-    let mut times = 0;
-    while times == 0 || random.once_in(2) {
-        times += 1;
-        match random.below(8) {
-            0..=1 => damage::several(random, &mut case.circuit, damage::circuit),
-            2..=4 => damage::several(random, &mut case.fault, |random, bytes| damage::faults(random, bytes, lines)),
-            5 => case.test.resize(damage::size(random, case.test.len()), 7),
-            6 => case.work.resize(damage::size(random, case.work.len()), 7),
-            _ => case.answer.resize(random.pick(&[0, 31, 33, 64]), 7),
-        }
-    }
+    damage::several(random, &mut case, |random, case| match random.below(8) {
+        0..=1 => damage::several(random, &mut case.circuit, damage::circuit),
+        2..=4 => damage::several(random, &mut case.fault, |random, bytes| damage::faults(random, bytes, lines)),
+        5 => case.test.resize(damage::size(random, case.test.len()), 7),
+        6 => case.work.resize(damage::size(random, case.work.len()), 7),
+        _ => case.answer.resize(random.pick(&[0, 31, 33, 64]), 7),
+    });
     // a damaged circuit may have many inputs: no long searches
     Search { budget: case.budget.min(300), ..case }
 }
@@ -113,7 +104,7 @@ fn damaged_searches() {
 #[test]
 fn searches_with_many_inputs() {
     assert_eq!(compare("search, 60 to 64 inputs", drawn(3, 3_000, many_inputs)).seen(), [TEST, REDUNDANT, GIVEN_UP]);
-    let budgets = [0, 1, 64, 65, 66, 67, u64::MAX].into_iter().map(|budget| Search { budget, ..parity() });
+    let budgets = [0, 1, 64, 65, 66, 67, u64::MAX].into_iter().map(|budget| Search { budget, ..parity_stuck_at_0() });
     assert_eq!(compare("search, parity of 64 inputs", budgets).seen(), [TEST, GIVEN_UP]);
     let largest = |random: &mut Random| {
         let circuit = circuit(random, 2048, 64);
@@ -177,7 +168,7 @@ fn wrong_programs() {
 
 #[test]
 fn bindings() {
-    let never = [record(INPUT, false, 0, 0), record(NOT, false, 0, 0), record(AND, true, 0, 1)].concat();
+    let never = always_0();
     let (mut test, mut work) = ([9; 1], [9; 6]);
     let mut search = |budget| ullimaqsu::search(&never, &faults::record(2, 0, false), budget, &mut test, &mut work).expect("sound");
     let found = |outcome, nodes| ullimaqsu::Search { outcome, nodes };

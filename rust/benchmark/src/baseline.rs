@@ -8,6 +8,7 @@ pub mod compact;
 pub mod dictionary;
 pub mod gates;
 pub mod search;
+pub mod search_all;
 mod simulate;
 
 /// Writes the numbers of an answer.

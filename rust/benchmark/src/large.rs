@@ -45,7 +45,7 @@ fn chain_of_xors() -> Files {
 }
 
 pub fn rows() -> impl Iterator<Item = Row> {
-    let rows: [fn() -> Row; 11] = [
+    let rows: [fn() -> Row; 14] = [
         || parts::check("check: 2,048 lines", &files()),
         || parts::dictionary::<Branches>("dictionary: 2,048 lines, 256 faults, 256 patterns", &files()),
         || parts::dictionary::<Table>("the same beside Rust that looks gates up too", &files()),
@@ -53,6 +53,9 @@ pub fn rows() -> impl Iterator<Item = Row> {
         || parts::compact_naively("compactor beside its definition run naively, 128", 128, &smaller_table()),
         || parts::search::<Branches>("search: 500 lines, 20 inputs, 100,000 nodes at most", &redundant(), 100_000),
         || parts::search::<Table>("the same beside Rust that looks gates up too", &redundant(), 100_000),
+        || parts::search_all::<Branches>("search_all: 2,048 lines, 256 faults, 100 nodes each", &files(), 100),
+        || parts::search_all::<Table>("the same beside Rust that looks gates up too", &files(), 100),
+        || parts::search_all_singly("the same beside 256 proved searches, not Rust", &files(), 100),
         || parts::clauses("clauses: 2,048 lines of XOR", &chain_of_xors()),
         // as many bytes, lines and statements as a text may have and be read, in any order
         || parts::bench("bench: 32,768 bytes, 2,048 lines", &texts::largest(&mut Random::new(6), 2048, 64)),

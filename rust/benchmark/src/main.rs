@@ -2,7 +2,8 @@
 //!
 //! Each time is the best of many rounds, in which the two take turns. A ratio above 1 says that the proved code is faster. Buffers are not
 //! cleared between rounds: every round writes the same bytes over the last. The Rust branches over the kinds of gates; at the largest sizes
-//! dictionary and search are also timed beside Rust that looks gates up in a table (`baseline/gates.rs`).
+//! dictionary and searches are also timed beside Rust that looks gates up in a table (`baseline/gates.rs`). One row has single calls of the
+//! proved search in place of Rust: its ratio says what a list in one call brings.
 
 mod baseline;
 mod large;

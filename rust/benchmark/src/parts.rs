@@ -1,5 +1,5 @@
 //! Each part beside its baseline, on any input.
-use crate::baseline::{self, gates::Gates};
+use crate::baseline::{self, gates::Gates, search_all::Lent};
 use crate::timing::{race, Row};
 use std::hint::black_box;
 use ullimaqsu::raw::{enter, Call};
@@ -26,6 +26,12 @@ impl Files {
 
     fn pattern_count(&self) -> usize {
         self.patterns.len() / self.inputs()
+    }
+
+    /// What the search for all of its faults is lent.
+    fn lent(&self) -> Lent {
+        let count = self.fault_count();
+        Lent { outcomes: vec![0; count], counts: vec![0; count], tests: vec![0; count * self.inputs()], work: vec![0; 2 * self.lines()] }
     }
 
     /// The table of its dictionary.
@@ -111,6 +117,45 @@ pub fn search<G: Gates>(name: &str, files: &Files, budget: u64) -> Row {
         || baseline::search::enter::<G>(black_box(circuit), fault, budget, &mut plain.0, &mut plain.1, &mut plain.2),
     );
     assert_eq!(proved, plain);
+    row
+}
+
+fn enter_search_all(files: &Files, budgets: &[u64], lent: &mut Lent, answer: &mut [u8; 32]) -> u32 {
+    let Lent { outcomes, counts, tests, work } = lent;
+    enter(Call::SearchAll { circuit: black_box(&files.circuit), faults: &files.faults, budgets, outcomes, counts, tests, work, answer })
+}
+
+/// The search for all of the faults in one call, with this budget for each, likewise.
+pub fn search_all<G: Gates>(name: &str, files: &Files, budget: u64) -> Row {
+    let budgets = vec![budget; files.fault_count()];
+    let mut proved = (files.lent(), [0; 32]);
+    let mut plain = proved.clone();
+    let row = race(
+        name,
+        || enter_search_all(files, &budgets, &mut proved.0, &mut proved.1),
+        || baseline::search_all::enter::<G>(black_box(&files.circuit), &files.faults, &budgets, &mut plain.0, &mut plain.1),
+    );
+    assert_eq!(proved, plain);
+    row
+}
+
+/// The same beside calls of the proved search, one after the other.
+pub fn search_all_singly(name: &str, files: &Files, budget: u64) -> Row {
+    let budgets = vec![budget; files.fault_count()];
+    let (mut proved, mut single, mut answer) = (files.lent(), files.lent(), [0; 32]);
+    let row = race(
+        name,
+        || enter_search_all(files, &budgets, &mut proved, &mut answer),
+        || {
+            let tests = single.tests.chunks_exact_mut(files.inputs());
+            for (j, (fault, test)) in files.faults.chunks_exact(8).zip(tests).enumerate() {
+                let found = ullimaqsu::search(black_box(&files.circuit), fault, budget, test, &mut single.work).expect("sound");
+                (single.outcomes[j], single.counts[j]) = (found.outcome as u8, found.nodes);
+            }
+            0
+        },
+    );
+    assert_eq!(proved, single);
     row
 }
 

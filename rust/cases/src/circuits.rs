@@ -64,11 +64,36 @@ pub fn circuit(random: &mut Random, lines: usize, inputs: usize) -> Vec<u8> {
     bytes
 }
 
+/// Example A of document 01: lines 0, 1, 2 inputs; 3 = AND(0, 1); 4 = OR(3, 2), output.
+pub fn example_a() -> Vec<u8> {
+    let inputs = record(INPUT, false, 0, 0).repeat(3);
+    [&inputs[..], &record(AND, false, 0, 1), &record(OR, true, 3, 2)].concat()
+}
+
+/// Line 0 input, 1 = NOT 0, 2 = AND(0, 1), output, which is always 0.
+pub fn always_0() -> Vec<u8> {
+    [record(INPUT, false, 0, 0), record(NOT, false, 0, 0), record(AND, true, 0, 1)].concat()
+}
+
+/// The parity of 64 inputs: nothing is known at its output, line 126, before all of them are.
+pub fn parity() -> Vec<u8> {
+    let mut circuit = record(INPUT, false, 0, 0).repeat(64);
+    (1..64).for_each(|input| circuit.extend(record(XOR, input == 63, if input == 1 { 0 } else { 62 + input }, input)));
+    circuit
+}
+
 /// A circuit of a few lines, now and then of one.
 pub fn small(random: &mut Random) -> Vec<u8> {
     let most = random.pick(&[2, 4, 8, 16, 40]);
     let lines = 1 + random.below(most);
     let inputs = 1 + random.below(lines.min(64));
+    circuit(random, lines, inputs)
+}
+
+/// A circuit of a few lines with seven inputs at most, so that no search is long.
+pub fn few_inputs(random: &mut Random) -> Vec<u8> {
+    let lines = 1 + random.below(30);
+    let inputs = 1 + random.below(lines.min(7));
     circuit(random, lines, inputs)
 }
 

@@ -120,10 +120,10 @@ pub fn size(random: &mut Random, right: usize) -> usize {
     }
 }
 
-/// Does several damages, most often one.
-pub fn several(random: &mut Random, bytes: &mut Vec<u8>, one: impl Fn(&mut Random, &mut Vec<u8>)) {
-    one(random, bytes);
+/// Does several damages, most often one, to bytes or to a case of several things.
+pub fn several<T>(random: &mut Random, spoilt: &mut T, one: impl Fn(&mut Random, &mut T)) {
+    one(random, spoilt);
     while random.once_in(3) {
-        one(random, bytes);
+        one(random, spoilt);
     }
 }

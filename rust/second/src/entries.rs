@@ -1,4 +1,5 @@
 //! What the C entries return and leave behind.
+use crate::search_all::Lent;
 use crate::{Dictionary, Refusal, Searched, Slice, Written};
 
 /// What a caller in C sees: the number returned, the answer area, and the lent memory in order.
@@ -47,6 +48,21 @@ pub fn search(circuit: &[u8], fault: &[u8], budget: u64, test: &[u8], work: &[u8
         (vec![outcome as u64, nodes], vec![found.unwrap_or(test.to_vec()).into(), last.unwrap_or(work.to_vec()).into()])
     };
     seen(answer, vec![test.to_vec().into(), work.to_vec().into()], searched.map(written))
+}
+
+/// A test stays as lent where there is none, and the work memory is that of the last search which writes there.
+pub fn search_all(circuit: &[u8], faults: &[u8], budgets: &[u64], lent: Lent, answer: &[u8]) -> Seen {
+    let Lent { outcomes, counts, tests, work } = lent;
+    let written = |all: Vec<Searched>| {
+        let outcomes: Vec<u8> = all.iter().map(|one| one.outcome as u8).collect();
+        let counts: Vec<u64> = all.iter().map(|one| one.nodes).collect();
+        let each = all.iter().zip(tests.chunks(tests.len() / all.len()));
+        let tests: Vec<u8> = each.flat_map(|(one, lent)| one.test.as_deref().unwrap_or(lent).to_vec()).collect();
+        let work = all.into_iter().rev().find_map(|one| one.work).unwrap_or(work.to_vec());
+        (vec![], vec![outcomes.into(), counts.into(), tests.into(), work.into()])
+    };
+    let untouched = vec![outcomes.to_vec().into(), counts.to_vec().into(), tests.to_vec().into(), work.to_vec().into()];
+    seen(answer, untouched, crate::search_all(circuit, faults, budgets, lent).map(written))
 }
 
 pub fn clauses(circuit: &[u8], fault: &[u8], words: &[i32], answer: &[u8]) -> Seen {

@@ -15,6 +15,7 @@ pub mod pattern;
 pub mod program;
 pub mod refusal;
 pub mod search;
+pub mod search_all;
 pub mod slice;
 pub mod values;
 
@@ -28,5 +29,6 @@ pub use pattern::Pattern;
 pub use program::{program, Files};
 pub use refusal::Refusal;
 pub use search::{search, Look, Outcome, Search, Searched};
+pub use search_all::search_all;
 pub use slice::Slice;
 pub use values::Value;

@@ -88,14 +88,19 @@ pub struct Searched {
     pub work: Option<Vec<u8>>,
 }
 
+/// The search for a fault of a circuit, and what it leaves.
+pub fn searched(circuit: &Circuit, fault: Fault, budget: u64) -> Searched {
+    let Search { outcome, nodes, last } = search_circuit(circuit, fault, budget);
+    let work = last.as_ref().map(|node| circuit.work(node, fault));
+    let test = last.filter(|_| outcome == Outcome::Test).map(|node| node.iter().map(byte).collect());
+    Searched { outcome, nodes, test, work }
+}
+
 /// The test search, lent a test buffer and a work memory of these sizes.
 pub fn search(circuit: &[u8], fault: &[u8], budget: u64, test: usize, work: usize) -> Result<Searched, Refusal> {
     let circuit = Circuit::read(circuit)?;
     let fault = Fault::read_all(&circuit, fault, 1)?[0];
     ensure(test == circuit.inputs().count(), 10)?;
     ensure(work == 2 * circuit.lines.len(), 10)?;
-    let Search { outcome, nodes, last } = search_circuit(&circuit, fault, budget);
-    let work = last.as_ref().map(|node| circuit.work(node, fault));
-    let test = last.filter(|_| outcome == Outcome::Test).map(|node| node.iter().map(byte).collect());
-    Ok(Searched { outcome, nodes, test, work })
+    Ok(searched(&circuit, fault, budget))
 }

@@ -1,13 +1,9 @@
 //! The second program on the marked examples of document 01.
-use cases::circuits::{record, AND, INPUT, NOT, OR};
+use cases::circuits::{always_0, example_a, record, INPUT, NOT};
 use cases::faults;
+use second::entries;
+use second::search_all::Lent;
 use second::{Counts, Dictionary, Outcome, Refusal, Written};
-
-/// Lines 0, 1, 2 inputs; 3 = AND(0, 1); 4 = OR(3, 2), output.
-fn example_a() -> Vec<u8> {
-    let inputs = record(INPUT, false, 0, 0).repeat(3);
-    [&inputs[..], &record(AND, false, 0, 1), &record(OR, true, 3, 2)].concat()
-}
 
 #[test]
 fn bytes_of_example_a() {
@@ -56,10 +52,29 @@ fn search() {
     assert_eq!(searched(&a, 3, true, u64::MAX), (Outcome::Test, 4, Some(vec![0, 0, 0])));
     assert_eq!(searched(&a, 3, true, 3), (Outcome::GivenUp, 3, None));
     assert_eq!(searched(&a, 3, false, u64::MAX), (Outcome::Test, 14, Some(vec![1, 1, 0])));
-    let never = [record(INPUT, false, 0, 0), record(NOT, false, 0, 0), record(AND, true, 0, 1)].concat();
+    let never = always_0();
     assert_eq!(searched(&never, 2, false, u64::MAX), (Outcome::Redundant, 3, None));
     assert_eq!(searched(&never, 2, false, 2), (Outcome::GivenUp, 2, None));
     assert_eq!(searched(&never, 2, false, 0), (Outcome::GivenUp, 0, None));
+}
+
+/// What the searches for these faults leave of memory full of 9s: outcomes, counts, tests and work.
+fn all_searched(circuit: &[u8], faults: &[[u8; 8]], budgets: &[u64]) -> (Vec<u8>, Vec<u64>, Vec<u8>, Vec<u8>) {
+    let Counts { lines, inputs, .. } = second::check(circuit).expect("sound");
+    let count = faults.len();
+    let lent = Lent { outcomes: &vec![9; count], counts: &vec![9; count], tests: &vec![9; inputs * count], work: &vec![9; 2 * lines] };
+    let mut lent = entries::search_all(circuit, &faults.concat(), budgets, lent, &[9; 32]).lent.into_iter();
+    let mut next = || lent.next().expect("lent");
+    (next().u8().clone(), next().u64().clone(), next().u8().clone(), next().u8().clone())
+}
+
+#[test]
+fn search_all() {
+    let [at_1, at_0] = [true, false].map(|stuck| faults::record(3, 0, stuck));
+    let found = (vec![0, 2, 0], vec![4, 3, 14], vec![0, 0, 0, 9, 9, 9, 1, 1, 0], vec![1, 1, 0, 1, 1, 1, 1, 0, 0, 0]);
+    assert_eq!(all_searched(&example_a(), &[at_1, at_1, at_0], &[u64::MAX, 3, u64::MAX]), found);
+    let found = (vec![1, 2, 2], vec![3, 2, 0], vec![9, 9, 9], vec![0, 1, 0, 0, 1, 0]);
+    assert_eq!(all_searched(&always_0(), &[faults::record(2, 0, false); 3], &[u64::MAX, 2, 0]), found);
 }
 
 /// Line 0 input, 1 = NOT 0 output, line 1 stuck at 0.

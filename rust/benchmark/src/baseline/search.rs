@@ -41,22 +41,29 @@ fn side<G: Gates>(circuit: &[u8], fault: Fault, n: usize, node: &mut [u8], work:
     }
 }
 
+/// The search from a node on: its outcome and the number of nodes. The test is written if there is one.
+pub fn search_from<G: Gates>(circuit: &[u8], fault: Fault, node: &[u8], budget: u64, test: &mut [u8], work: &mut [u8]) -> [u64; 2] {
+    let mut own = [2; 64];
+    let own = &mut own[..node.len()];
+    own.copy_from_slice(node);
+    match side::<G>(circuit, fault, work.len() / 2, own, work, budget) {
+        Test(nodes) => {
+            test.copy_from_slice(own);
+            [0, nodes]
+        }
+        Redundant(nodes) => [1, nodes],
+        GivenUp(nodes) => [2, nodes],
+    }
+}
+
 fn search<G: Gates>(circuit: &[u8], fault: &[u8], budget: u64, test: &mut [u8], work: &mut [u8]) -> Result<[u64; 3], (u32, usize)> {
     let [n, inputs, _] = check(circuit)?;
     check_faults(circuit, fault, 1)?;
     if test.len() != inputs || work.len() != 2 * n {
         return Err((10, 0));
     }
-    let mut node = [2; 64];
-    let node = &mut node[..inputs];
-    Ok(match side::<G>(circuit, Fault::read(fault, 0), n, node, work, budget) {
-        Test(nodes) => {
-            test.copy_from_slice(node);
-            [0, nodes, 0]
-        }
-        Redundant(nodes) => [1, nodes, 0],
-        GivenUp(nodes) => [2, nodes, 0],
-    })
+    let [outcome, nodes] = search_from::<G>(circuit, Fault::read(fault, 0), &[2; 64][..inputs], budget, test, work);
+    Ok([outcome, nodes, 0])
 }
 
 pub fn enter<G: Gates>(circuit: &[u8], fault: &[u8], budget: u64, test: &mut [u8], work: &mut [u8], answer: &mut [u8; 32]) -> u32 {
