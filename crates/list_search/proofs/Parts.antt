@@ -12,7 +12,7 @@ use Rattle.lists.specs.declared.Fault.{Fault}
 use Rattle.lists.specs.Faults.{faultCount, faultAt}
 use Rattle.lists.specs.Patterns.{patternAt}
 use Rattle.lists.proofs.Patterns.{part-fits}
-use Rattle.lists.proofs.Parts.{lent, back, lent-long, lent-piece, back-same, back-other}
+use Rattle.lists.proofs.Parts.{lent, back, lent-long, lent-piece, piece-before, apart, back-same, back-other}
 use Rattle.simulate.proofs.Settled.{shaped}
 use Rattle.nodes.specs.declared.Verdict.{Verdict}
 use Rattle.nodes.specs.Node.{start}
@@ -27,7 +27,7 @@ use Rattle.search.specs.Owed.{RunReady, RunDone}
 use Rattle.meetings.specs.Owed.{ListReady}
 use Rattle.walks.specs.Owed.{ListDone}
 use Rattle.list_search.specs.Owed.{SearchesReady, OthersDone, OneDone}
-use Rattle.list_search.proofs.Pieces.{part-before, other-before, other-places}
+use Rattle.list_search.proofs.Pieces.{other-before, other-places}
 
 -- what is ready for lists is so for others of the same lengths
 pub still-ready : {c fs : List ℕ} {n inputs budgets o k t w o′ k′ t′ w′ : ℕ}
@@ -69,14 +69,10 @@ module _ {c fs : List ℕ} {n inputs b : ℕ} (os ks ts : List ℕ) {w : ℕ} (r
   pub first-tests : length (take (at * inputs) ts) ≡ at * inputs
   first-tests = length-take-le (at * inputs) ts (omega (arith, part-inside r h))
 
-  -- a part below `at` is one of them
-  first-part : (j : ℕ) → j < at → j * inputs + inputs ≤ at * inputs
-  first-part j l = omega (arith, part-fits j at inputs l)
-
   part-of-first : (j : ℕ) → j < at → patternAt inputs ts j ≡ patternAt inputs (take (at * inputs) ts) j
   part-of-first j l =
       ap (λ (x : List ℕ). patternAt inputs x j) (sym (take-append-drop (at * inputs) ts))
-      ∙ part-before inputs j (take (at * inputs) ts) (drop (at * inputs) ts) (rw first-tests (first-part j l))
+      ∙ piece-before inputs j (take (at * inputs) ts) (drop (at * inputs) ts) (rw first-tests (apart inputs j at l))
 
   pub others-ready : ListReady c fs n inputs b (length (take at os)) (length (take at ks)) (length (take (at * inputs) ts)) w
   others-ready =
@@ -107,7 +103,7 @@ module _ {c fs : List ℕ} {n inputs b : ℕ} (os ks ts : List ℕ) {w : ℕ} (r
         rw (
           List·getD-append vo (drop at os) 0 j (omega (arith, first-outcomes)),
           List·getD-append vk (drop at ks) 0 j (omega (arith, first-counts)),
-          part-before inputs j vt (drop (at * inputs) ts) (rw (t, first-tests) (first-part j l)),
+          piece-before inputs j vt (drop (at * inputs) ts) (rw (t, first-tests) (apart inputs j at l)),
           part-of-first j l,
         )
         (done j (omega (arith, first-outcomes)));

@@ -4,22 +4,17 @@ use mathlib.Core.Path.{_≡_, sym, ap, _∙_}
 use mathlib.Core.Logic.{⊎-elim}
 use mathlib.Core.List.{List, _++_}
 use Prim.Native.Nat.{ℕ, zero, suc, _+_, _*_, _-_, _≤_, _<_}
-use native.Mathlib.Nat.{suc-mul, zero-mul, mul-le-mul-right, eq-or-lt-of-le, le-of-suc-le-suc, not-suc-le-zero}
+use native.Mathlib.Nat.{suc-mul, zero-mul, eq-or-lt-of-le, le-of-suc-le-suc, not-suc-le-zero}
 use native.Mathlib.Omega.{arith}
-use lib.ListN.{length, getD, take, drop, length-append, length-drop}
-use lib.Seq.{take-all, drop-at, take-add, take-append-le, drop-append-le, drop-append-add, getD-append-add}
+use lib.ListN.{length, getD, take, drop, length-append}
+use lib.Seq.{take-all, drop-at, take-add, drop-append-add, getD-append-add}
 use Rattle.ground.specs.Lists.{gather}
 use Rattle.lists.specs.Patterns.{patternAt}
+use Rattle.lists.proofs.Parts.{piece-before, apart}
 
 -- ---- what stands in two lists joined
 
--- part j before the seam is that of the first list, whatever follows
-pub part-before : (m j : ℕ) (p q : List ℕ) → j * m + m ≤ length p → patternAt m (p ++ q) j ≡ patternAt m p j
-part-before m j p q h =
-    rw (drop-append-le (j * m) p q (omega arith))
-    (take-append-le m (drop (j * m) p) q (rw length-drop (omega arith)))
-
--- behind the seam nothing of it is seen
+-- behind the seam nothing of the first is seen
 part-behind : (m j : ℕ) (p q : List ℕ) → length p ≤ j * m → patternAt m (p ++ q) j ≡ take m (drop (j * m - length p) q)
 part-behind m j p q h =
     let e : j * m ≡ length p + (j * m - length p) = omega arith in
@@ -59,6 +54,6 @@ module _ (m : ℕ) (piece : ℕ → List ℕ) where
       ⊎-elim
       (λ (e : i ≡ n). rw (e, drop-at (gather piece n) (piece n) (n * m) long) (take-all m (piece n) (omega (arith, wide n (omega arith)))))
       (λ (l : i < n).
-      part-before m i (gather piece n) (piece n) (omega (arith, long, suc-mul i m, mul-le-mul-right m l))
+      piece-before m i (gather piece n) (piece n) (omega (arith, long, apart m i n l))
       ∙ gathered-part n i (λ k g. wide k (omega arith)) l)
       (eq-or-lt-of-le (le-of-suc-le-suc h))

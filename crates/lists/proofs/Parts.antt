@@ -33,14 +33,17 @@ lent-piece w l i = ap (λ (z : ℕ). take z (drop (i * w) l)) (width-is (i * w) 
 pub back-same : (w : ℕ) (l v : List ℕ) (i : ℕ) → i * w + w ≤ length l → length v ≡ w → patternAt w (back (i * w) w l v) i ≡ v
 back-same w l v i h e = rw (drop-at (take (i * w) l) (v ++ drop (i * w + w - i * w) (drop (i * w) l)) (i * w) (length-take-le (i * w) l (omega arith))) (take-at v _ w e)
 
--- one below it, and one above
-front : (w q a : ℕ) (l rest : List ℕ) → q + w ≤ a → a ≤ length l → take w (drop q (take a l ++ rest)) ≡ take w (drop q (take a l))
-front w q a l rest h e =
-    let long : length (take a l) ≡ a = length-take-le a l e in
-    rw (drop-append-le q (take a l) rest (omega (arith, long))) (take-append-le w (drop q (take a l)) rest (rw (length-drop, long) (omega arith)))
+-- piece j of the first of two lists joined, whatever follows
+pub piece-before : (w j : ℕ) (p q : List ℕ) → j * w + w ≤ length p → patternAt w (p ++ q) j ≡ patternAt w p j
+piece-before w j p q h = rw (drop-append-le (j * w) p q (omega arith)) (take-append-le w (drop (j * w) p) q (rw length-drop (omega arith)))
 
-below : (w q a : ℕ) (l rest : List ℕ) → q + w ≤ a → a ≤ length l → take w (drop q (take a l ++ rest)) ≡ take w (drop q l)
-below w q a l rest h e = front w q a l rest h e ∙ sym (front w q a l (drop a l) h e) ∙ ap (λ (m : List ℕ). take w (drop q m)) (take-append-drop a l)
+-- one below the piece that comes back, and one above
+below : (w j a : ℕ) (l rest : List ℕ) → j * w + w ≤ a → a ≤ length l → patternAt w (take a l ++ rest) j ≡ patternAt w l j
+below w j a l rest h e =
+    let first : j * w + w ≤ length (take a l) = rw (length-take-le a l e) h in
+    piece-before w j (take a l) rest first
+    ∙ sym (piece-before w j (take a l) (drop a l) first)
+    ∙ ap (λ (m : List ℕ). patternAt w m j) (take-append-drop a l)
 
 above : (w a e : ℕ) (l v : List ℕ) → a + w ≤ length l → length v ≡ w → drop (a + (w + e)) (back a w l v) ≡ drop (a + (w + e)) l
 above w a e l v h long =
@@ -51,7 +54,7 @@ above w a e l v h long =
     ∙ drop-append-add v (drop (a + w - a) (drop a l)) e
     ∙ rw (width-is a w, drop-drop e w (drop a l), drop-drop (w + e) a l)
 
-apart : (w i j : ℕ) → i < j → i * w + w ≤ j * w
+pub apart : (w i j : ℕ) → i < j → i * w + w ≤ j * w
 apart w i j h = omega (arith, part-fits i j w h)
 
 -- the others stay
@@ -59,7 +62,7 @@ pub back-other : (w : ℕ) (l v : List ℕ) (i j : ℕ) → i * w + w ≤ length
 back-other w l v i j h e d = go (either j i)
   where
     go : (j < i) ⊎ (i ≤ j) → patternAt w (back (i * w) w l v) j ≡ patternAt w l j
-    go (inl b) = below w (j * w) (i * w) l (v ++ drop (i * w + w - i * w) (drop (i * w) l)) (apart w j i b) (omega arith)
+    go (inl b) = below w j (i * w) l (v ++ drop (i * w + w - i * w) (drop (i * w) l)) (apart w j i b) (omega arith)
     go (inr b) =
         let over = apart w i j (omega (arith, d)) in
         let at : j * w ≡ i * w + (w + (j * w - (i * w + w))) = omega (arith, over) in

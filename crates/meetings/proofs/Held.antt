@@ -13,20 +13,20 @@ use Rattle.lists.proofs.Patterns.{part-fits}
 use Rattle.lists.proofs.Parts.{lent, back, lent-long, lent-piece, back-same, back-other}
 use Rattle.nodes.specs.Node.{Node}
 use Rattle.standings.proofs.Levels.{asleep-at}
-use Rattle.meetings.specs.Owed.{ListReady, MeetReady, MeetDone, MeetAllReady, MeetAtDone}
+use Rattle.meetings.specs.Owed.{ListReady, MeetReady, MeetDone, Held, MeetAllReady, MeetAtDone}
 
 -- the test of fault i lies in the memory for the tests
 pub test-fits : {c fs : List ℕ} {n inputs b reaches k tests room i : ℕ} → ListReady c fs n inputs b reaches k tests room → i < reaches → i * inputs + inputs ≤ tests
 test-fits {inputs = inputs} {reaches = reaches} {i = i} r h = omega (arith, part-fits i reaches inputs h, r .tests-are)
 
-module _ (alone : Bool) {c fs : List ℕ} (bs ms ks ts : List ℕ) {n : ℕ} {s : Node} {level i : ℕ} {w : List ℕ}
-    (r : MeetAllReady alone c fs n s level (length bs) (length ms) (length ks) (length ts) w) (h : i < length ms) where
+module _ (alone : Bool) {c fs : List ℕ} (bs : List ℕ) (held : Held) {n : ℕ} {s : Node} {level i : ℕ} {w : List ℕ}
+    (r : MeetAllReady alone c fs n s level (length bs) (length (held .0)) (length (held .1)) (length (held .2)) w) (h : i < length (held .0)) where
   -- a fault that does not look at the level leaves as it came
-  pub unmet : getD ms i 0 < level → MeetAtDone alone c fs bs n s level i (ms, ks, ts) (ms, ks, ts) w
+  pub unmet : getD (held .0) i 0 < level → MeetAtDone alone c fs bs n s level i held held w
   unmet l = record { met = asleep-at alone l; others = λ j b d. record { reach = refl; count = refl; test = refl }; good = r .good }
 
   -- one that does finds its test lent
-  pub meet-ready : {fault : Fault} → fault ≡ faultAt fs i → MeetReady alone c fault n s level (length (lent (i * length s) (length s) ts)) w
+  pub meet-ready : {fault : Fault} → fault ≡ faultAt fs i → MeetReady alone c fault n s level (length (lent (i * length s) (length s) (held .2))) w
   meet-ready e = record {
     shaped = r .list .shaped;
     line = rw e (r .list .lines i h);
@@ -35,7 +35,7 @@ module _ (alone : Bool) {c fs : List ℕ} (bs ms ks ts : List ℕ) {n : ℕ} {s 
     good = r .good;
     node = r .node;
     most = r .list .most;
-    size = lent-long (i * length s) (length s) ts (test-fits (r .list) h);
+    size = lent-long (i * length s) (length s) (held .2) (test-fits (r .list) h);
     levels = r .levels;
     below = r .below;
   }
@@ -43,20 +43,20 @@ module _ (alone : Bool) {c fs : List ℕ} (bs ms ks ts : List ℕ) {n : ℕ} {s 
   -- and leaves with its reach, its count and its test; the others stay
   pub met-back : {fault : Fault} {m′ k′ : ℕ} {t′ w′ : List ℕ}
       → fault ≡ faultAt fs i
-      → level ≤ getD ms i 0
+      → level ≤ getD (held .0) i 0
       → length t′ ≡ length s
-      → MeetDone alone c fault n s level (getD ks i 0) (getD bs i 0) (lent (i * length s) (length s) ts) m′ k′ t′ w′
-      → MeetAtDone alone c fs bs n s level i (ms, ks, ts) (set ms i m′, set ks i k′, back (i * length s) (length s) ts t′) w′
+      → MeetDone alone c fault n s level (getD (held .1) i 0) (getD bs i 0) (lent (i * length s) (length s) (held .2)) m′ k′ t′ w′
+      → MeetAtDone alone c fs bs n s level i held (set (held .0) i m′, set (held .1) i k′, back (i * length s) (length s) (held .2) t′) w′
   met-back {fault} {m′} {k′} {t′} e l long p =
       let fits = test-fits (r .list) h in
       record {
         met =
-            rw (getD-set-same ms i m′ 0 h, getD-set-same ks i k′ 0 (omega (arith, r .list .counts-are)), back-same (length s) ts t′ i fits long, ← e, ← lent-piece (length s) ts i)
-            (p .met (getD ms i 0) l);
+            rw (getD-set-same (held .0) i m′ 0 h, getD-set-same (held .1) i k′ 0 (omega (arith, r .list .counts-are)), back-same (length s) (held .2) t′ i fits long, ← e, ← lent-piece (length s) (held .2) i)
+            (p .met (getD (held .0) i 0) l);
         others = λ j b d. record {
-          reach = getD-set-other ms i j m′ 0 d;
-          count = getD-set-other ks i j k′ 0 d;
-          test = back-other (length s) ts t′ i j fits long d;
+          reach = getD-set-other (held .0) i j m′ 0 d;
+          count = getD-set-other (held .1) i j k′ 0 d;
+          test = back-other (length s) (held .2) t′ i j fits long d;
         };
         good = p .good;
       }

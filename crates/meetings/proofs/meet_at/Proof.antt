@@ -4,6 +4,7 @@ use mathlib.Core.Path.{_∙_}
 use native.Mathlib.Omega.{arith}
 use borrow.Author.Needs.{needs}
 use Rattle.lists.proofs.Parts.{lent-long}
+use Rattle.meetings.specs.Owed.{Held}
 use Rattle.meetings.proofs.Held.{test-fits, unmet, meet-ready, met-back}
 use Rattle.meetings.proofs.meet_at.Statement.{statement}
 use Rattle.meetings.proofs.meet_at.Tie as tie
@@ -13,8 +14,14 @@ use Rattle.meetings.proofs.meet_at.Tie as tie
 abbrev entry : tie.After-read-fault → tie.Start
 entry c = c .before .before .before .before .before .before .before .before .before .before .before
 
+-- reaches, counts and tests at the entry
+abbrev held : tie.Start → Held
+held s = (s .args .reaches .now, s .args .counts .now, s .args .tests .now)
+
 returns : tie.Need-returns
-returns c = let s = c .before .before .before .before .before .before .before .before .before .before in unmet (s .args .alone) (s .args .budgets .now) (s .args .reaches .now) (s .args .counts .now) (s .args .tests .now) (s .pre .0) (s .pre .1) (omega arith)
+returns c =
+    let s = c .before .before .before .before .before .before .before .before .before .before in
+    unmet (s .args .alone) (s .args .budgets .now) (held s) (s .pre .0) (s .pre .1) (omega arith)
 
 mul-at : tie.Need-mul-at
 mul-at c = let p = entry c .pre in omega (arith, test-fits (p .0 .list) (p .1))
@@ -29,7 +36,7 @@ meet-requires : tie.Need-meet-requires
 meet-requires c κs =
     let read = c .before .before .before .before in
     let s = entry read in
-    meet-ready (s .args .alone) (s .args .budgets .now) (s .args .reaches .now) (s .args .counts .now) (s .args .tests .now) (s .pre .0) (s .pre .1) (read .read-fault .ensures)
+    meet-ready (s .args .alone) (s .args .budgets .now) (held s) (s .pre .0) (s .pre .1) (read .read-fault .ensures)
 
 returns-2 : tie.Need-returns-2
 returns-2 c =
@@ -38,7 +45,7 @@ returns-2 c =
     let s = entry read in
     let p = s .pre in
     let looks = read .before .if1 .left in
-    met-back (s .args .alone) (s .args .budgets .now) (s .args .reaches .now) (s .args .counts .now) (s .args .tests .now) (p .0) (p .1) (read .read-fault .ensures) (omega arith)
+    met-back (s .args .alone) (s .args .budgets .now) (held s) (p .0) (p .1) (read .read-fault .ensures) (omega arith)
     (met .meet .kept .1 .1 .1 .1 .1 .1 .1 .1 .0 ∙ lent-long _ _ (s .args .tests .now) (test-fits (p .0 .list) (p .1)))
     (met .meet .ensures)
 

@@ -71,7 +71,13 @@ module _ (t : ℕ) where
       let d = second-of t c in
       let f = first-of t d in
       let x = x-of t f in
-      walk-sides {h = held t (entry-x t x)} {h1 = held-round t (round-of t x)} {h2 = held-first t f} {h3 = held-second t d} (ready t (entry-x t x) .levels) (first-x t x) (round-of t x .round .ensures) (sizes-round t (round-of t x)) (f .walk .ensures) (sizes-first t f) (walk-of {h = held-first t f} {h′ = held-second t d} (again t f) (d .walk2 .ensures))
+      let round = round-of t x in
+      let e = entry-x t x in
+      walk-sides {h = held t e} {h1 = held-round t round} {h2 = held-first t f} {h3 = held-second t d}
+      (ready t e .levels) (first-x t x)
+      (round .round .ensures) (sizes-round t round)
+      (f .walk .ensures) (sizes-first t f)
+      (walk-of {h = held-first t f} {h′ = held-second t d} (again t f) (d .walk2 .ensures))
 
 pub +walk-spec : {M : Type 1} → statement M
 +walk-spec = close μ-walk λ t. walk-lts.spec (calls t) (here t) walk.Post

@@ -90,7 +90,10 @@ module _ (t : ℕ) where
 
   -- ---- what is known there
 
-  pub ready : (c : Entry) → let a = c .args in WalkReady (a .circuit .now) (a .faults .now) (a .n) (node c) (a .level) (length (a .budgets .now)) (length (a .reaches .now)) (length (a .counts .now)) (length (a .tests .now)) (length (a .work .now))
+  pub ready : (c : Entry)
+      → let a = c .args in
+      WalkReady (a .circuit .now) (a .faults .now) (a .n) (node c) (a .level)
+      (length (a .budgets .now)) (length (held c .0)) (length (held c .1)) (length (held c .2)) (length (a .work .now))
   ready c = c .pre .1
 
   pub first-x : (c : AtX) → FirstX (node (entry-x c)) (place c)
