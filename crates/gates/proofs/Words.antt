@@ -16,14 +16,14 @@ use Rattle.gates.proofs.Table.{other}
 
 -- ---- in words too a value above 2 is as good as 2
 
-not0 : (a : ℕ) → eqb (suc (suc a)) 0 ≡ false
+pub not0 : (a : ℕ) → eqb (suc (suc a)) 0 ≡ false
 not0 a = ne-eqb (suc (suc a)) 0 (omega arith)
 
-not1 : (a : ℕ) → eqb (suc (suc a)) 1 ≡ false
+pub not1 : (a : ℕ) → eqb (suc (suc a)) 1 ≡ false
 not1 a = ne-eqb (suc (suc a)) 1 (omega arith)
 
 -- what is the same for all values from 2 on is the same for a value and for what it counts as
-clip : (F : ℕ → ℕ) → ((a : ℕ) → F (suc (suc a)) ≡ F 2) → (a : ℕ) → F a ≡ F (threeOf a)
+pub clip : (F : ℕ → ℕ) → ((a : ℕ) → F (suc (suc a)) ≡ F 2) → (a : ℕ) → F a ≡ F (threeOf a)
 unfolding threeOf
 clip F h zero = refl
 clip F h (suc zero) = refl

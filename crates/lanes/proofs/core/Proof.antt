@@ -1,0 +1,18 @@
+-- `lanes::core` meets its contract: kinds 7 and 8 are XOR, the others AND.
+-- Assumes nothing.
+use borrow.Author.Needs.{needs}
+use borrow.Author.Tests.{le-leb, lt-leb}
+use Rattle.lanes.specs.Owed.{coreOf}
+use Rattle.lanes.proofs.core.Statement.{statement}
+use Rattle.lanes.proofs.core.Tie as tie
+
+returns : tie.Need-returns
+unfolding coreOf
+returns c v w e q = simp (le-leb _ _ (c .before .if1 .taken)) (c .odd .ensures v w e q)
+
+returns-2 : tie.Need-returns-2
+unfolding coreOf
+returns-2 c v w e q = simp (lt-leb _ _ (c .before .if1 .left)) (c .both .ensures v w e q)
+
+pub core-spec : {M : Type 1} → statement M
+core-spec = tie.close (tie.spec (λ c κs. search needs) returns (λ c κs. search needs) returns-2)

@@ -1,0 +1,119 @@
+// Sixty-four lanes of three values in two words, and the gate rule on them: every lane at once.
+ghost use mathlib.Core.Path.{_≡_};
+ghost use Prim.Native.Nat.{ℕ, _≤_};
+ghost use Rattle.gates.specs.Gate.{lastKind};
+ghost use Rattle.lanes.specs.Lanes.{laid, GateLanes};
+ghost use Rattle.lanes.specs.Owed.{turnsPins, turnsResult, turnedOf, secondOf, coreOf, Lanewise, Lanewise2};
+ghost use Rattle.gates.specs.Words.{andOf, xorOf};
+
+// Bit i of `ones` is set where lane i is 1, bit i of `zeros` where it is 0; where it is X, neither.
+pub struct Lanes {
+    pub ones: u64,
+    pub zeros: u64,
+}
+
+// Each lane negated, or as it is.
+fn turned(turn: bool, a: Lanes) -> Lanes
+    ensures { λ r. ⌜ Lanewise (turnedOf turn) a r ⌝ }
+{
+    if turn {
+        return Lanes {
+            ones: a.zeros,
+            zeros: a.ones,
+        };
+    }
+    a
+}
+
+// AND.
+fn both(a: Lanes, b: Lanes) -> Lanes
+    ensures { λ r. ⌜ Lanewise2 andOf a b r ⌝ }
+{
+    Lanes {
+        ones: a.ones & b.ones,
+        zeros: a.zeros | b.zeros,
+    }
+}
+
+// XOR: where either is X neither word gets a bit.
+fn odd(a: Lanes, b: Lanes) -> Lanes
+    ensures { λ r. ⌜ Lanewise2 xorOf a b r ⌝ }
+{
+    Lanes {
+        ones: (a.ones & b.zeros) | (a.zeros & b.ones),
+        zeros: (a.ones & b.ones) | (a.zeros & b.zeros),
+    }
+}
+
+// OR and NOR are AND and NAND of what the pins see negated, with the result turned once more.
+fn turns_pins(kind: u8) -> bool
+    ensures { λ r. ⌜ r ≡ turnsPins kind ⌝ }
+{
+    if kind == 5 {
+        return true;
+    }
+    kind == 6
+}
+
+fn turns_result(kind: u8) -> bool
+    ensures { λ r. ⌜ r ≡ turnsResult kind ⌝ }
+{
+    if kind == 2 {
+        return true;
+    }
+    if kind == 4 {
+        return true;
+    }
+    if kind == 5 {
+        return true;
+    }
+    kind == 8
+}
+
+// Buffer and NOT have one pin, and are AND and NAND of what it sees with itself.
+fn second(kind: u8, a: Lanes, b: Lanes) -> Lanes
+    ensures { λ r. ⌜ Lanewise2 (secondOf kind) a b r ⌝ }
+{
+    if kind <= 2 {
+        return a;
+    }
+    b
+}
+
+fn core(kind: u8, a: Lanes, b: Lanes) -> Lanes
+    ensures { λ r. ⌜ Lanewise2 (coreOf kind) a b r ⌝ }
+{
+    if 7 <= kind {
+        return odd(a, b);
+    }
+    both(a, b)
+}
+
+// The value of a gate whose pins see a and b, in every lane; a kind with one pin takes no notice of b. A gate is AND or XOR, with its pins or its
+// result negated: no kind has a branch of its own.
+pub fn gate_lanes(kind: u8, a: Lanes, b: Lanes) -> Lanes
+    requires { ⌜ (1 ≤ kind) × (kind ≤ lastKind) ⌝ }
+    ensures { λ r. ⌜ GateLanes kind a b r ⌝ }
+{
+    let turn = turns_pins(kind);
+    let x = turned(turn, a);
+    let y = turned(turn, second(kind, a, b));
+    turned(turns_result(kind), core(kind, x, y))
+}
+
+// One known value in every lane.
+pub fn same_lanes(value: u8) -> Lanes
+    requires { ⌜ value ≤ 1 ⌝ }
+    ensures { λ r. ⌜ r ≡ laid (λ i. value) ⌝ }
+{
+    if value == 1 {
+        return Lanes {
+            ones: 0xffff_ffff_ffff_ffff,
+            zeros: 0,
+        };
+    }
+    Lanes {
+        ones: 0,
+        zeros: 0xffff_ffff_ffff_ffff,
+    }
+}
