@@ -2,8 +2,8 @@
 -- Assumes nothing.
 use mathlib.Core.Path.{_≡_, refl, sym, ap, ap₂, _∙_}
 use mathlib.Core.Bool.{Bool, true, false, _&&_, _||_, xor}
-use Prim.Native.Nat.{ℕ, zero, suc, _+_, _*_, _/_, _%_, _^_, _<_}
-use native.Mathlib.Nat.{pow-suc, div-one}
+use Prim.Native.Nat.{ℕ, zero, suc, _+_, _*_, _/_, _%_, _^_, _≤_, _<_}
+use native.Mathlib.Nat.{add-zero, add-suc, pow-suc, div-one}
 use native.Mathlib.Omega.{arith}
 use lib.Bits.{bitAnd, bitOr, bitXor, and-block, or-block, xor-block}
 use lib.Pow.{shr-shr}
@@ -23,6 +23,12 @@ lanes-small t (suc n) = go (t n) (lanes-small t n)
     go : (b : Bool) {x : ℕ} → x < 2 ^ n → one b * 2 ^ n + x < 2 ^ suc n
     go true h = omega (arith, pow-suc 2 n)
     go false h = omega (arith, pow-suc 2 n)
+
+-- lanes to spare, where the test fails
+pub lanes-spare : (t : ℕ → Bool) (n d : ℕ) → ((i : ℕ) → n ≤ i → t i ≡ false) → lanesTo t (n + d) ≡ lanesTo t n
+lanes-spare t n zero h = ap (lanesTo t) (add-zero n)
+lanes-spare t n (suc d) h =
+    ap (lanesTo t) (add-suc n d) ∙ ap (λ (x : Bool). one x * 2 ^ (n + d) + lanesTo t (n + d)) (h (n + d) (omega arith)) ∙ omega (arith, lanes-spare t n d h)
 
 -- ---- an operation on words that is one on bits
 
