@@ -55,25 +55,25 @@ filled n w u = take n w ++ (u ++ drop (length w - n) (drop n w))
 pub lent-long : (n : ℕ) (w : List ℕ) → length w ≡ n + n → length (lentHalf n w) ≡ n
 lent-long n w e = simp (length-take, length-drop) (omega arith)
 
-module _ (fault : Fault) (c : List ℕ) (n : ℕ) (w w′ u : List ℕ) (two : length w ≡ n + n) (copied : w′ ≡ take n w ++ take n w) where
+module _ (n : ℕ) (w w′ u : List ℕ) (two : length w ≡ n + n) (copied : w′ ≡ take n w ++ take n w) where
   half-long : length (take n w) ≡ n
   half-long = length-take-le n w (omega arith)
 
   pub copied-long : length w′ ≡ n + n
   copied-long = ap length copied ∙ simp (length-append, half-long)
 
-  lent-is : lentHalf n w′ ≡ take n w
+  pub lent-is : lentHalf n w′ ≡ take n w
   lent-is =
-      take-all (length w′ - n) (drop n w′) (simp length-drop (omega arith))
+      take-all (length w′ - n) (drop n w′) (simp length-drop (omega (arith, copied-long)))
       ∙ ap (drop n) copied
       ∙ drop-at (take n w) (take n w) n half-long
 
-  filled-is : filled n w′ u ≡ take n w ++ u
+  pub filled-is : filled n w′ u ≡ take n w ++ u
   filled-is =
-      rw (drop-of-length-le (drop n w′) {i = length w′ - n} (simp length-drop (omega arith)), append-nil, copied, take-at (take n w) (take n w) n half-long)
+      rw (drop-of-length-le (drop n w′) {i = length w′ - n} (simp length-drop (omega (arith, copied-long))), append-nil, copied, take-at (take n w) (take n w) n half-long)
 
-  pub adds-faulty : SimulateFaultDone fault c (lentHalf n w′) u → FaultyValuesDone fault c n w (filled n w′ u)
-  adds-faulty makes p good =
+  pub adds-faulty : (fault : Fault) (c : List ℕ) → SimulateFaultDone fault c (lentHalf n w′) u → FaultyValuesDone fault c n w (filled n w′ u)
+  adds-faulty fault c makes p good =
       let long : length (lentHalf n w′) ≡ n = lent-long n w′ copied-long in
       let u-is : u ≡ faultyOf fault c p n = makes p (lent-is ∙ good ∙ ap (goodOf c p) (sym long)) ∙ ap (faultyOf fault c p) long in
       filled-is ∙ rw (good, u-is)

@@ -1,0 +1,58 @@
+-- `lane_lines::stuck_lanes` meets its contract: as the words of any line, with the fault looked at on each of its sites.
+-- Assumes nothing.
+use native.Mathlib.Omega.{arith}
+use borrow.Author.Needs.{needs}
+use Rattle.simulate.specs.Simulate.{stuckAt}
+use Rattle.lane_lines.proofs.Line.{source-pair, input-done, gate-done}
+use Rattle.lane_lines.proofs.stuck_lanes.Statement.{statement}
+use Rattle.lane_lines.proofs.stuck_lanes.Tie as tie
+
+returns : tie.Need-returns
+returns c =
+    let s = c .before .before .before .before .before .before in
+    input-done (stuckAt (s .args .fault)) (s .pre .0) (s .pre .1) (c .before .before .if1 .taken) (rw (c .before .lanes-at .ensures) at (c .seen-lanes .ensures))
+
+lanes-at-requires-2 : tie.Need-lanes-at-requires-2
+lanes-at-requires-2 c κs =
+    let s = c .before .before .before .before .before .before in
+    source-pair (s .args .words .now) (s .pre .0) (s .pre .1) (c .before .before .if1 .left) 1 (omega arith) (omega arith) (c .before .source .ensures)
+
+lanes-at-requires-3 : tie.Need-lanes-at-requires-3
+lanes-at-requires-3 c κs =
+    let s = c .before .before .before .before .before .before .before .before in
+    source-pair (s .args .words .now) (s .pre .0) (s .pre .1) (c .before .before .before .before .if1 .left) 2 (omega arith) (omega arith) (c .before .before .source2 .ensures)
+
+gate-lanes-requires : tie.Need-gate-lanes-requires
+gate-lanes-requires c κs =
+    let s = c .before .before .before .before .before .before .before .before .before .before in
+    (omega (arith, c .before .before .before .before .before .before .if1 .left), s .pre .0 .kinds _ (s .pre .1))
+
+returns-2 : tie.Need-returns-2
+returns-2 c =
+    let second = c .before .before in
+    let first = second .before .before in
+    let sources = first .before .before in
+    let s = sources .before .before .before .before .before .before in
+    gate-done (stuckAt (s .args .fault)) (s .pre .0) (s .pre .1) (sources .before .before .if1 .left)
+    (rw (first .before .lanes-at2 .ensures, sources .before .source .ensures) at (first .seen-lanes2 .ensures))
+    (rw (second .before .lanes-at3 .ensures, sources .source2 .ensures) at (second .seen-lanes3 .ensures)) (c .before .gate-lanes .ensures)
+    (c .seen-lanes4 .ensures)
+
+pub stuck-lanes-spec : {M : Type 1} → statement M
+stuck-lanes-spec =
+    tie.close
+    (tie.spec
+    (λ c. search needs)
+    (λ c. search needs)
+    (λ c κs. search needs)
+    (λ c κs. search needs)
+    returns
+    (λ c κs. search needs)
+    (λ c κs. search needs)
+    lanes-at-requires-2
+    (λ c κs. search needs)
+    lanes-at-requires-3
+    (λ c κs. search needs)
+    gate-lanes-requires
+    (λ c κs. search needs)
+    returns-2)
