@@ -1,10 +1,10 @@
 -- Lists gathered piece by piece: how long they are, what stands at a place, and what holds at each.
 -- Assumes nothing.
-use mathlib.Core.Path.{_≡_, refl, _∙_}
+use mathlib.Core.Path.{_≡_, refl, sym, ap, _∙_}
 use mathlib.Core.Logic.{⊎-elim}
-use mathlib.Core.List.{List, [], _∷_, _++_}
+use mathlib.Core.List.{List, [], _∷_, _++_, append-nil, append-assoc}
 use Prim.Native.Nat.{ℕ, zero, suc, _+_, _*_, _≤_, _<_}
-use native.Mathlib.Nat.{eq-or-lt-of-le, le-of-suc-le-suc, not-suc-le-zero, suc-mul, zero-mul}
+use native.Mathlib.Nat.{eq-or-lt-of-le, le-of-suc-le-suc, not-suc-le-zero, add-zero, add-suc, suc-mul, zero-mul}
 use native.Mathlib.Omega.{arith}
 use lib.ListN.{length, getD, length-append, List·getD-append}
 use lib.Seq.{getD-append-add}
@@ -32,6 +32,11 @@ module _ {A : Type 0} (piece : ℕ → List A) where
   pub gather-same : (other : ℕ → List A) (n : ℕ) → ((k : ℕ) → k < n → piece k ≡ other k) → gather piece n ≡ gather other n
   gather-same other zero same = refl
   gather-same other (suc n) same = rw (gather-same other n (λ k l. same k (omega arith)), same n (omega arith))
+
+  -- so many pieces more
+  pub gather-add : (n d : ℕ) → gather piece (n + d) ≡ gather piece n ++ gather (λ k. piece (n + k)) d
+  gather-add n zero = ap (gather piece) (add-zero n) ∙ sym (append-nil (gather piece n))
+  gather-add n (suc d) = rw (add-suc n d, gather-add n d, append-assoc)
 
   -- ---- pieces of one width
 

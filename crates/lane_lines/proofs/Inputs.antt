@@ -1,12 +1,14 @@
 -- The loop that sets the inputs' lines in every lane; and the good lines, once all lines have had their turn.
 -- Assumes nothing.
 use mathlib.Core.Path.{_≡_, refl, sym, ap, subst, _∙_}
-use mathlib.Core.Bool.{Bool, true}
+use mathlib.Core.Bool.{Bool, true, false}
 use mathlib.Core.List.{List}
 use Prim.Native.Nat.{ℕ, _+_, _*_, _-_, _≤_, _<_}
 use native.Mathlib.Numerals.{add-one}
 use native.Mathlib.Omega.{arith}
-use lib.ListN.{length, getD}
+use lib.Dec.{ltb}
+use lib.ListN.{length, getD, drop, replicate, getD-replicate}
+use lib.Seq.{getD-take, getD-drop}
 use borrow.Author.Tests.{eq-eqb, ne-eqb}
 use borrow.Author.Count.{below-more}
 use Rattle.ground.specs.Choose.{choose, one}
@@ -17,6 +19,8 @@ use Rattle.ground.proofs.Grow.{table-length, table-at}
 use Rattle.gates.specs.Gate.{X}
 use Rattle.circuit.specs.Record.{kindAt, isInput, inputsBefore}
 use Rattle.circuit.specs.Formed.{WellFormed}
+use Rattle.lists.specs.Patterns.{patternCount, patternAt}
+use Rattle.lane_inputs.specs.Inputs.{inputLane}
 use Rattle.lanes.specs.declared.Lanes.{Lanes}
 use Rattle.lanes.specs.Lanes.{lanesOf, laid}
 use Rattle.lanes.proofs.Values.{laid-same}
@@ -26,7 +30,6 @@ use Rattle.simulate.proofs.Settled.{ordered, all-good}
 use Rattle.lane_lines.specs.Lines.{lanePattern, lineWords, goodWords}
 use Rattle.lane_lines.specs.Owed.{lanesAt, PairInside, Carries, LinesReady, turns, SimulateWordsDone, InputWordsDone}
 use Rattle.lane_lines.proofs.Words.{putAt, put-long, put-here, put-other, words-are, carries-same}
-use Rattle.lane_lines.proofs.Packed.{inputIn}
 use Rattle.lane_lines.proofs.Turns.{turns-simulate}
 
 pub lines-ready : {c : List ℕ} {m n : ℕ} → WellFormed c m n → LinesReady c n (2 * n)
@@ -34,11 +37,20 @@ lines-ready w = record { ordered = ordered w; kinds = w .kinds; two = refl }
 
 -- ---- one line before its turn
 
+-- the value of an input in lane i is that of the lane's pattern
+in-pattern : (m : ℕ) (ps : List ℕ) (input : ℕ) → input < m → (i : ℕ) → inputLane m ps input i ≡ getD (lanePattern m ps i) input 0
+unfolding inputLane lanePattern
+in-pattern m ps input inside i = go (ltb i (patternCount m ps))
+  where
+    go : (t : Bool) → choose t (getD ps (i * m + input) 0) X ≡ getD (choose t (patternAt m ps i) (replicate m X)) input 0
+    go true = sym (getD-take m (drop (i * m) ps) input 0 inside ∙ getD-drop (i * m) ps input 0)
+    go false = sym (getD-replicate m input X 0 inside)
+
 module _ (c : List ℕ) (m : ℕ) (ps : List ℕ) (k i : ℕ) where
   -- an input has its values of the patterns
-  pub input-set : {r : Lanes} → kindAt c k ≡ 0 → r ≡ laid (inputIn m ps i) → r ≡ laid (λ l. inputOr c (lanePattern m ps l) k i)
+  pub input-set : {r : Lanes} → kindAt c k ≡ 0 → i < m → r ≡ laid (inputLane m ps i) → r ≡ laid (λ l. inputOr c (lanePattern m ps l) k i)
   unfolding inputOr
-  input-set e q = q ∙ laid-same (inputIn m ps i) (λ l. inputOr c (lanePattern m ps l) k i) (λ l _. rw (eq-eqb (kindAt c k) 0 e))
+  input-set e h q = q ∙ laid-same (inputLane m ps i) (λ l. inputOr c (lanePattern m ps l) k i) (λ l _. rw (eq-eqb (kindAt c k) 0 e) (in-pattern m ps i h l))
 
   -- a gate is X
   pub gate-set : (kindAt c k ≡ 0 → ⊥) → record { ones = 0; zeros = 0 } ≡ laid (λ l. inputOr c (lanePattern m ps l) k i)

@@ -4,10 +4,10 @@ use mathlib.Core.Path.{_≡_}
 use mathlib.Core.List.{List, _++_}
 use Prim.Native.Nat.{ℕ, zero, suc, _+_, _*_, _-_, _≤_, _<_}
 use lib.ListN.{length, getD, set, take}
-use Rattle.answers.specs.Records.{Records}
 use Rattle.gates.specs.Gate.{lastKind}
 use Rattle.circuit.specs.Record.{kindAt, inputsBefore}
 use Rattle.circuit.specs.Formed.{WellFormed}
+use Rattle.lane_inputs.specs.Owed.{GroupReady}
 use Rattle.lanes.specs.declared.Lanes.{Lanes}
 use Rattle.lanes.specs.Lanes.{laid}
 use Rattle.lists.specs.declared.Fault.{Fault}
@@ -35,11 +35,6 @@ pub record LinesReady (c : List ℕ) (n room : ℕ) : Type 0 where
   pub ordered : Ordered c n
   pub kinds : (k : ℕ) → k < n → kindAt c k ≤ lastKind
   pub two : room ≡ 2 * n
-
--- up to 64 patterns of m inputs
-pub record GroupReady (m : ℕ) (ps : List ℕ) : Type 0 where
-  pub records : Records m 64 (length ps)
-  pub few-inputs : m ≤ 64
 
 -- ---- one line
 

@@ -2,23 +2,24 @@
 // As in `simulate`, the loop over the lines knows no fault: the faulty circuit is simulated from the line after the fault's on.
 use circuit::equal;
 use circuit::source;
+use lane_inputs::input_lanes;
 use lanes::Lanes;
 use lanes::gate_lanes;
 use lanes::same_lanes;
 use lists::Fault;
 ghost use mathlib.Core.Path.{_≡_};
 ghost use mathlib.Core.List.{_++_};
-ghost use Prim.Native.Nat.{_+_, _*_, _^_, _<_, _≤_};
-ghost use lib.ListN.{length, getD, set, take, drop};
-ghost use Rattle.ground.specs.Choose.{one};
+ghost use Prim.Native.Nat.{_+_, _*_, _<_, _≤_};
+ghost use lib.ListN.{length, set, take, drop};
 ghost use Rattle.circuit.specs.Record.{kindAt, Inside};
 ghost use Rattle.circuit.specs.Formed.{WellFormed};
+ghost use Rattle.lane_inputs.specs.Owed.{GroupReady};
 ghost use Rattle.lanes.specs.Lanes.{laid};
 ghost use Rattle.lanes.specs.Owed.{Lanewise};
 ghost use Rattle.simulate.specs.Simulate.{unforced, stuckAt};
 ghost use Rattle.simulate.specs.Owed.{inputOr};
 ghost use Rattle.lane_lines.specs.Lines.{lanePattern, goodWords};
-ghost use Rattle.lane_lines.specs.Owed.{lanesAt, PairInside, LinesReady, GroupReady, LineDone, SimulateWordsDone, InputWordsDone, FaultLinesDone, GoodWordsReady, FaultyWordsReady, FaultyWordsDone};
+ghost use Rattle.lane_lines.specs.Owed.{lanesAt, PairInside, LinesReady, LineDone, SimulateWordsDone, InputWordsDone, FaultLinesDone, GoodWordsReady, FaultyWordsReady, FaultyWordsDone};
 
 // The words of line k.
 pub fn lanes_at(words: &[u64], k: usize) -> Lanes
@@ -37,34 +38,6 @@ fn put_lanes(words: &mut [u64], k: usize, lanes: Lanes)
 {
     words[2 * k] = lanes.ones;
     words[2 * k + 1] = lanes.zeros;
-}
-
-// The bit of lane i where a test holds.
-fn lane_bit(test: bool, i: usize) -> u64
-    requires { ⌜ i < 64 ⌝ }
-    ensures { λ r. ⌜ r ≡ one test * 2 ^ i ⌝ }
-{
-    if test { 1 << i } else { 0 }
-}
-
-// The words of an input: pattern i in lane i. A lane to spare gets no bit, and so is X.
-fn input_lanes(patterns: &[u8], inputs: usize, input: usize) -> Lanes
-    requires { ⌜ GroupReady inputs (now patterns) × (input < inputs) ⌝ }
-    ensures { λ r. ⌜ r ≡ laid (λ i. getD (lanePattern inputs (now (patterns .entry)) i) input 0) ⌝ }
-{
-    let count = patterns.len() / inputs;
-    let mut ones = 0;
-    let mut zeros = 0;
-    let mut at = input;
-    let mut i = 0;
-    while i < count {
-        let v = patterns[at];
-        ones += lane_bit(v == 1, i);
-        zeros += lane_bit(v == 0, i);
-        at += inputs;
-        i += 1;
-    }
-    Lanes { ones, zeros }
 }
 
 // What line k is set to before its turn: an input to its values in the patterns, where `used` inputs stand below it.

@@ -49,10 +49,14 @@ module _ (c : List ℕ) (n m : ℕ) (fs ps : List ℕ) where
           subst (λ (y : ℕ). getD t y 0 ≡ getD u y 0) (div-add-mod' x f)
           (same (x / f) (x % f) (div-lt-iff-lt-mul pos .1 (omega (arith, p, mul-comm f (patternCount m ps)))) (mod-lt x pos))
 
-  -- and what meets the words is the definition
+  -- and what has these entries is the table
+  pub one-table : {t : List ℕ}
+      → length t ≡ faultCount fs * patternCount m ps
+      → ((i j : ℕ) → i < patternCount m ps → j < faultCount fs → getD t (i * faultCount fs + j) 0 ≡ entryAt (faultAt fs j) c (patternAt m ps i) n)
+      → t ≡ tableOf c n m fs ps
+  one-table {t} size entry = by-place t (tableOf c n m fs ps) size (made .size) (λ i j a b. entry i j a b ∙ sym (made .entry i j a b))
+
+  -- what meets the words is the definition
   pub one-made : {t w : List ℕ} → Made c n m fs ps t w → (t ≡ tableOf c n m fs ps) × (w ≡ tableWork c n m fs ps)
-  unfolding tableOf tableWork
-  one-made {t} {w} d = (
-    by-place t (tableOf c n m fs ps) (d .size) (made .size) (λ i j a b. d .entry i j a b ∙ sym (made .entry i j a b)),
-    d .work,
-  )
+  unfolding tableWork
+  one-made d = (one-table (d .size) (d .entry), d .work)

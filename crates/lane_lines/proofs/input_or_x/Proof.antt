@@ -13,7 +13,8 @@ input-lanes-requires c κs =
 returns : tie.Need-returns
 returns c =
     let s = c .before .before .before .before .before in
-    input-set (s .args .circuit .now) (s .args .inputs) (s .args .patterns .now) (s .args .k) (s .args .used) (c .before .if1 .taken) (c .input-lanes .ensures)
+    input-set (s .args .circuit .now) (s .args .inputs) (s .args .patterns .now) (s .args .k) (s .args .used) (c .before .if1 .taken)
+    (s .pre .2 (c .before .if1 .taken)) (c .input-lanes .ensures)
 
 returns-2 : tie.Need-returns-2
 returns-2 c =

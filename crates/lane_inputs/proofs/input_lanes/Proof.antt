@@ -1,12 +1,12 @@
--- `lane_lines::input_lanes` meets its contract. The invariant: the patterns passed are laid into their lanes.
+-- `lane_inputs::input_lanes` meets its contract. The invariant: the patterns passed are laid into their lanes.
 -- Assumes nothing.
 use native.Mathlib.Omega.{arith}
 use Prim.Native.Nat.{_-_}
 use mathlib.Core.Path.{_≡_, refl}
 use Rattle.lists.specs.Patterns.{patternCount}
-use Rattle.lane_lines.proofs.Packed.{SoFar, start, lane-below, place-inside, ones-fit, zeros-fit, more, finished}
-use Rattle.lane_lines.proofs.input_lanes.Statement.{statement}
-use Rattle.lane_lines.proofs.input_lanes.Tie as tie
+use Rattle.lane_inputs.proofs.Packed.{SoFar, start, lane-below, place-inside, ones-fit, zeros-fit, more, finished}
+use Rattle.lane_inputs.proofs.input_lanes.Statement.{statement}
+use Rattle.lane_inputs.proofs.input_lanes.Tie as tie
 
 abbrev Inv-loop : tie.InvT-loop
 Inv-loop patterns inputs input count ones₀ zeros₀ at₀ i₀ ones zeros at i =

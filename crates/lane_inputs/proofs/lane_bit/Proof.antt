@@ -1,4 +1,4 @@
--- `lane_lines::lane_bit` meets its contract: a bit shifted to its lane, or none.
+-- `lane_inputs::lane_bit` meets its contract: a bit shifted to its lane, or none.
 -- Assumes nothing.
 use mathlib.Core.Path.{_≡_, refl, sym, _∙_}
 use Prim.Native.Nat.{_*_, _^_}
@@ -6,8 +6,8 @@ use native.Mathlib.Nat.{one-mul, zero-mul}
 use native.Mathlib.Omega.{arith}
 use borrow.Author.Needs.{needs}
 use lib.Pow.{shl-exact}
-use Rattle.lane_lines.proofs.lane_bit.Statement.{statement}
-use Rattle.lane_lines.proofs.lane_bit.Tie as tie
+use Rattle.lane_inputs.proofs.lane_bit.Statement.{statement}
+use Rattle.lane_inputs.proofs.lane_bit.Tie as tie
 
 returns : tie.Need-returns
 returns c = rw (c .if1 .taken) (shl-exact 1 (c .before .args .i) 64 (omega arith) (omega arith))

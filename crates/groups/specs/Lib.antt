@@ -1,0 +1,2 @@
+pub mod Work
+pub mod Owed

@@ -1,0 +1,60 @@
+-- What the functions of the groups owe each other and their callers; no reader of the promises needs it.
+-- Assumes nothing.
+use mathlib.Core.Path.{_≡_}
+use mathlib.Core.List.{List, _++_}
+use Prim.Native.Nat.{ℕ, _+_, _*_, _≤_, _<_}
+use lib.ListN.{length, take, drop}
+use Rattle.answers.specs.Records.{Records}
+use Rattle.circuit.specs.Formed.{WellFormed}
+use Rattle.lists.specs.Faults.{faultCount, faultLine, faultValue}
+use Rattle.lists.specs.Patterns.{patternCount}
+use Rattle.lane_lines.specs.Lines.{bothWords}
+use Rattle.rows.specs.Table.{tableOf, lastFault}
+use Rattle.groups.specs.Work.{laneWork}
+
+-- at most so many patterns, and memory for their table and for the words of all lines
+pub record ReadyFor (most : ℕ) (c : List ℕ) (n m : ℕ) (fs ps : List ℕ) (table work : ℕ) : Type 0 where
+  pub well : WellFormed c m n
+  pub most-lines : n ≤ 2048
+  pub some-inputs : 1 ≤ m
+  pub most-inputs : m ≤ 64
+  pub faults : Records 8 256 (length fs)
+  pub fault-lines : (j : ℕ) → j < faultCount fs → faultLine fs j < n
+  pub fault-values : (j : ℕ) → j < faultCount fs → faultValue fs j ≤ 1
+  pub patterns : Records m most (length ps)
+  pub entries : table ≡ faultCount fs * patternCount m ps
+  pub four : work ≡ 4 * n
+
+abbrev pub GroupsReady : List ℕ → ℕ → ℕ → List ℕ → List ℕ → ℕ → ℕ → Type 0
+GroupsReady = ReadyFor 256
+
+-- the table of one group, and the words of all lines with the last fault
+pub record GroupDone (c : List ℕ) (n m : ℕ) (fs ps t w : List ℕ) : Type 0 where
+  pub table-is : t ≡ tableOf c n m fs ps
+  pub work-is : w ≡ bothWords (lastFault fs) c m ps n
+
+-- so many patterns from one on
+abbrev pub patternsFrom : ℕ → List ℕ → ℕ → ℕ → List ℕ
+patternsFrom m ps from rows = take (rows * m) (drop (from * m) ps)
+
+-- the group from this pattern on has so many: 64, or all that are left of count
+pub record Next (from rows count : ℕ) : Type 0 where
+  pub some : 1 ≤ rows
+  pub few : rows ≤ 64
+  pub inside : from + rows ≤ count
+  pub last : rows < 64 → from + rows ≡ count
+
+-- so many groups: none is empty, and no pattern is left
+pub record GroupCount (count groups : ℕ) : Type 0 where
+  pub begun : (g : ℕ) → g < groups → 64 * g < count
+  pub enough : count ≤ 64 * groups
+
+-- their rows are put into the table
+pub record PutGroupDone (c : List ℕ) (n m : ℕ) (fs ps : List ℕ) (from rows : ℕ) (t t′ w′ : List ℕ) : Type 0 where
+  pub table-is :
+      t′ ≡ take (from * faultCount fs) t ++ (tableOf c n m fs (patternsFrom m ps from rows) ++ drop (from * faultCount fs + rows * faultCount fs) t)
+  pub work-is : w′ ≡ bothWords (lastFault fs) c m (patternsFrom m ps from rows) n
+
+pub record GroupsDone (c : List ℕ) (n m : ℕ) (fs ps t w : List ℕ) : Type 0 where
+  pub table-is : t ≡ tableOf c n m fs ps
+  pub work-is : w ≡ laneWork c n m fs ps
