@@ -19,8 +19,7 @@ use Rattle.lanes.specs.Lanes.{lanesTo, lanesOf, laid}
 use Rattle.lanes.proofs.Bits.{lanes-spare, lanes-small}
 use Rattle.lists.specs.Patterns.{patternCount, patternAt}
 use Rattle.lists.proofs.Patterns.{part-fits}
-use Rattle.lane_inputs.specs.Inputs.{inputLane}
-use Rattle.lane_inputs.specs.Owed.{GroupReady}
+use Rattle.lane_inputs.specs.Owed.{GroupReady, inputLane}
 
 module _ (m : ℕ) (ps : List ℕ) (input i : ℕ) where
   pub of-pattern : i < patternCount m ps → inputLane m ps input i ≡ getD ps (i * m + input) 0

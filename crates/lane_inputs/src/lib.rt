@@ -4,8 +4,7 @@ ghost use mathlib.Core.Path.{_≡_};
 ghost use Prim.Native.Nat.{_*_, _^_, _<_};
 ghost use Rattle.ground.specs.Choose.{one};
 ghost use Rattle.lanes.specs.Lanes.{laid};
-ghost use Rattle.lane_inputs.specs.Inputs.{inputLane};
-ghost use Rattle.lane_inputs.specs.Owed.{GroupReady};
+ghost use Rattle.lane_inputs.specs.Owed.{GroupReady, inputLane};
 
 // The bit of lane i where a test holds.
 fn lane_bit(test: bool, i: usize) -> u64

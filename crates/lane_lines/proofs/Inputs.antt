@@ -20,7 +20,7 @@ use Rattle.gates.specs.Gate.{X}
 use Rattle.circuit.specs.Record.{kindAt, isInput, inputsBefore}
 use Rattle.circuit.specs.Formed.{WellFormed}
 use Rattle.lists.specs.Patterns.{patternCount, patternAt}
-use Rattle.lane_inputs.specs.Inputs.{inputLane}
+use Rattle.lane_inputs.specs.Owed.{inputLane}
 use Rattle.lanes.specs.declared.Lanes.{Lanes}
 use Rattle.lanes.specs.Lanes.{lanesOf, laid}
 use Rattle.lanes.proofs.Values.{laid-same}
