@@ -26,10 +26,11 @@ saidOf d m = record { fails = lanesOf d; misses = lanesOf m }
 abbrev pub outputsSay : List ℕ → (ℕ → List ℕ) → (ℕ → List ℕ) → ℕ → Said
 outputsSay c g f k = saidOf (λ i. someOutput differ c (g i) (f i) k) (λ i. someOutput missed c (g i) (f i) k)
 
--- the words of these values
+-- the words of these values: good lines, then faulty
 abbrev pub halvesOf : (ℕ → List ℕ) → (ℕ → List ℕ) → ℕ → List ℕ
 halvesOf g f n = lineWords g n ++ lineWords f n
 
+-- n lines, and four words a line
 pub record OutputsRoom (c : List ℕ) (n room : ℕ) : Type 0 where
   pub circuit : length c ≡ 8 * n
   pub four : room ≡ 4 * n

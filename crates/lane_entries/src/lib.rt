@@ -42,8 +42,8 @@ fn next_line(circuit: &[u8], work: &[u64], n: usize, k: usize, so: Said) -> Said
     compare(so, lanes_at(work, k), lanes_at(work, n + k))
 }
 
-// What all outputs say, where those below the line `start` have their good values: a lane is unknown where an output is missed and none
-// differs.
+// What all outputs say, where those below the line `start` have their good values: a lane is unknown where some output is not as expected
+// and none differs.
 fn entries_from(circuit: &[u8], work: &[u64], n: usize, start: usize) -> EntryLanes
     requires { ⌜ OutputsRoom (now circuit) n (length (now work)) × (start ≤ n) ⌝ }
     ensures { λ r. ⌜ EntriesFromDone (now (circuit .entry)) n (now (work .entry)) start r ⌝ }
