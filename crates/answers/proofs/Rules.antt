@@ -137,6 +137,10 @@ after-refused rules more e = in-order rules more ∙ rw e
 pub after-fine : (rules more : List Rule) → refusal rules ≡ Fine → refusal (rules ++ more) ≡ refusal more
 after-fine rules more e = in-order rules more ∙ rw e
 
+-- of the rules behind others only their ruling matters
+pub same-after : (rules more more₂ : List Rule) → refusal more ≡ refusal more₂ → refusal (rules ++ more) ≡ refusal (rules ++ more₂)
+same-after rules more more₂ e = in-order rules more ∙ ap (λ (v : Ruling). orElse (refusal rules) v) e ∙ sym (in-order rules more₂)
+
 pub both-fine : (rules more : List Rule) → refusal (rules ++ more) ≡ Fine → (refusal rules ≡ Fine) × (refusal more ≡ Fine)
 both-fine rules more e = go (refusal rules) refl (sym (in-order rules more) ∙ e)
   where

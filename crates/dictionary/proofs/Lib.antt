@@ -1,2 +1,3 @@
+pub mod Checked
 pub mod Answer
 pub mod Says

@@ -1,4 +1,4 @@
--- Part 2, the dictionary maker: the refusals 1 to 10, and what it promises.
+-- Part 2, the dictionary maker: the refusals 1 to 10, and what it promises. The engines that make the table differ in their work memory alone.
 -- Assumes nothing.
 use mathlib.Core.Path.{_≡_}
 use mathlib.Core.List.{List, _++_}
@@ -15,21 +15,22 @@ use Rattle.lists.specs.Patterns.{patternCount}
 use Rattle.lists.specs.Both.{listRules}
 use Rattle.rows.specs.Table.{tableOf, tableWork}
 
--- what is checked after the circuit: the faults, the patterns, and the exact sizes: table faults × patterns, work memory 2N
-abbrev pub dictionaryRestRules : List ℕ → ℕ → ℕ → List ℕ → List ℕ → ℕ → ℕ → List Rule
-dictionaryRestRules c n m fs ps table work = listRules c m fs ps ++ lentRules (faultCount fs * patternCount m ps) table (2 * n) work
+-- what is checked after the circuit: the faults, the patterns, and the exact sizes: table faults × patterns, work memory as said
+abbrev pub dictionaryRestRules : ℕ → List ℕ → ℕ → List ℕ → List ℕ → ℕ → ℕ → List Rule
+dictionaryRestRules size c m fs ps table work = listRules c m fs ps ++ lentRules (faultCount fs * patternCount m ps) table size work
 
-abbrev pub dictionaryRules : List ℕ → List ℕ → List ℕ → List ℕ → List ℕ → List Rule
-dictionaryRules c fs ps t w = circuitRules c ++ dictionaryRestRules c (linesOf c) (inputsOf c) fs ps (length t) (length w)
+-- where each line has so many places in the work memory
+abbrev pub dictionaryRules : ℕ → List ℕ → List ℕ → List ℕ → ℕ → ℕ → List Rule
+dictionaryRules places c fs ps table work = circuitRules c ++ dictionaryRestRules (places * linesOf c) c (inputsOf c) fs ps table work
 
--- where these rules are to be checked, t and w were lent, and r, t′ and w′ come back: the answer, its number and values,
--- and every byte of the table and of the work memory
-pub record Answered (rules : List Rule) (c : List ℕ) (n m : ℕ) (fs ps t w : List ℕ) (r : Ruling) (t′ w′ : List ℕ) : Type 0 where
-  pub answer : r ≡ refusal rules
-  pub numbers : told r done ≡ told (refusal rules) done
-  pub table : t′ ≡ unless (refusal rules) t (tableOf c n m fs ps)
-  pub work : w′ ≡ unless (refusal rules) w (tableWork c n m fs ps)
+-- where t and w were lent, and r, t′ and w′ come back: the answer, its number and values, every byte of the table, and every place of the work
+-- memory, which is to hold `left`
+pub record Answered (places : ℕ) (left c fs ps t w : List ℕ) (r : Ruling) (t′ w′ : List ℕ) : Type 0 where
+  pub answer : r ≡ refusal (dictionaryRules places c fs ps (length t) (length w))
+  pub numbers : told r done ≡ told (refusal (dictionaryRules places c fs ps (length t) (length w))) done
+  pub table : t′ ≡ unless (refusal (dictionaryRules places c fs ps (length t) (length w))) t (tableOf c (linesOf c) (inputsOf c) fs ps)
+  pub work : w′ ≡ unless (refusal (dictionaryRules places c fs ps (length t) (length w))) w left
 
--- the promise, whatever the bytes
+-- the promise, whatever the bytes, of the engine that has a byte for each line's good value and one for its faulty value
 abbrev pub Dictionary : List ℕ → List ℕ → List ℕ → List ℕ → List ℕ → Ruling → List ℕ → List ℕ → Type 0
-Dictionary c fs ps t w r t′ w′ = Answered (dictionaryRules c fs ps t w) c (linesOf c) (inputsOf c) fs ps t w r t′ w′
+Dictionary c fs ps t w r t′ w′ = Answered 2 (tableWork c (linesOf c) (inputsOf c) fs ps) c fs ps t w r t′ w′

@@ -6,23 +6,23 @@ use circuit::check;
 use lists::check_lists;
 use rows::fill_table;
 ghost use mathlib.Core.Path.{_≡_};
+ghost use Prim.Native.Nat.{_<_, _≤_};
 ghost use Rattle.answers.specs.Rules.{refusal};
-ghost use Rattle.circuit.specs.Formed.{Known};
 ghost use Rattle.dictionary.specs.Promise.{dictionaryRestRules, Dictionary};
-ghost use Rattle.dictionary.specs.Owed.{DictionaryDone};
+ghost use Rattle.dictionary.specs.Owed.{AllChecked};
 
-// Refusals 6 to 10.
+// Refusals 6 to 10, where the work memory is to have this size.
 fn check_rest(
     circuit: &[u8],
-    n: usize,
     inputs: usize,
     faults: &[u8],
     patterns: &[u8],
     table: usize,
+    size: usize,
     work: usize,
 ) -> Ruling
-    requires { ⌜ Known (now circuit) n inputs ⌝ }
-    ensures { λ r. ⌜ r ≡ refusal (dictionaryRestRules (now (circuit .entry)) n inputs (now (faults .entry)) (now (patterns .entry)) table work) ⌝ }
+    requires { ⌜ 0 < inputs ⌝ }
+    ensures { λ r. ⌜ r ≡ refusal (dictionaryRestRules size (now (circuit .entry)) inputs (now (faults .entry)) (now (patterns .entry)) table work) ⌝ }
 {
     let v = check_lists(circuit, inputs, faults, patterns);
     match v {
@@ -30,39 +30,32 @@ fn check_rest(
         Ruling::Fine => {
             let f = faults.len() / 8;
             let p = patterns.len() / inputs;
-            check_lent(f * p, table, 2 * n, work)
+            check_lent(f * p, table, size, work)
         }
     }
 }
 
-// The dictionary of an accepted circuit.
-fn accepted(
+// Refusals 1 to 10, where each line has so many places in the work memory: every engine starts with them. The circuit's numbers come back.
+pub fn check_all(
     circuit: &[u8],
-    n: usize,
-    inputs: usize,
     faults: &[u8],
     patterns: &[u8],
-    table: &mut [u8],
-    work: &mut [u8],
-) -> Ruling
-    requires { ⌜ Known (now circuit) n inputs ⌝ }
-    ensures { λ r. ⌜ DictionaryDone (now (circuit .entry)) n inputs (now (faults .entry)) (now (patterns .entry)) (now (table .entry)) (now (work .entry))
-        r (now (table .exit)) (now (work .exit)) ⌝ }
+    table: usize,
+    places: usize,
+    work: usize,
+) -> Checked
+    requires { ⌜ places ≤ 4 ⌝ }
+    ensures { λ r. ⌜ AllChecked places (now (circuit .entry)) (now (faults .entry)) (now (patterns .entry)) table work r ⌝ }
 {
-    let v = check_rest(
-        circuit,
-        n,
-        inputs,
-        faults,
-        patterns,
-        table.len(),
-        work.len(),
-    );
+    let v = check(circuit);
     match v {
-        Ruling::Refused(number, place) => Ruling::Refused(number, place),
-        Ruling::Fine => {
-            fill_table(circuit, n, inputs, faults, patterns, table, work);
-            Ruling::Fine
+        Checked::Refused(number, place) => Checked::Refused(number, place),
+        Checked::Accepted(n, inputs, outputs) => {
+            let rest = check_rest(circuit, inputs, faults, patterns, table, places * n, work);
+            match rest {
+                Ruling::Refused(number, place) => Checked::Refused(number, place),
+                Ruling::Fine => Checked::Accepted(n, inputs, outputs),
+            }
         }
     }
 }
@@ -77,17 +70,12 @@ pub fn dictionary(
 ) -> Ruling
     ensures { λ r. ⌜ Dictionary (now (circuit .entry)) (now (faults .entry)) (now (patterns .entry)) (now (table .entry)) (now (work .entry)) r (now (table .exit)) (now (work .exit)) ⌝ }
 {
-    let v = check(circuit);
+    let v = check_all(circuit, faults, patterns, table.len(), 2, work.len());
     match v {
         Checked::Refused(number, place) => Ruling::Refused(number, place),
-        Checked::Accepted(n, inputs, _) => accepted(
-            circuit,
-            n,
-            inputs,
-            faults,
-            patterns,
-            table,
-            work,
-        ),
+        Checked::Accepted(n, inputs, _) => {
+            fill_table(circuit, n, inputs, faults, patterns, table, work);
+            Ruling::Fine
+        }
     }
 }

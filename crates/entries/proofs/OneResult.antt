@@ -5,12 +5,13 @@ use mathlib.Core.List.{List}
 use Prim.Native.Nat.{ℕ}
 use lib.IntN.{ℤ}
 use Rattle.replies.proofs.Entered.{one-return}
-use Rattle.entries.specs.Entries.{DictionaryEntered, CompactEntered, SearchEntered, SearchAllEntered, ClausesEntered, BenchEntered}
+use Rattle.entries.specs.Entries.{EngineEntered, CompactEntered, SearchEntered, SearchAllEntered, ClausesEntered, BenchEntered}
 
-module _ {c fs ps t w a : List ℕ} {r s : ℕ} {t₁ w₁ a₁ t₂ w₂ a₂ : List ℕ} where
+-- of either engine
+module _ {places : ℕ} {left c fs ps t w a : List ℕ} {r s : ℕ} {t₁ w₁ a₁ t₂ w₂ a₂ : List ℕ} where
   pub one-made :
-      DictionaryEntered c fs ps t w a r t₁ w₁ a₁
-      → DictionaryEntered c fs ps t w a s t₂ w₂ a₂
+      EngineEntered places left c fs ps t w a r t₁ w₁ a₁
+      → EngineEntered places left c fs ps t w a s t₂ w₂ a₂
       → (r ≡ s) × (t₁ ≡ t₂) × (w₁ ≡ w₂) × (a₁ ≡ a₂)
   one-made p q =
       let o = one-return (p .answer) (q .answer) in

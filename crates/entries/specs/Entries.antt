@@ -28,11 +28,16 @@ use Rattle.clauses.specs.Promise.{clauseRules, clausesFor, wordsFor}
 abbrev pub checkNumbers : List ℕ → Numbers
 checkNumbers c = told (refusal (circuitRules c)) (success (linesOf c) (inputsOf c) (outputsOf c))
 
--- the dictionary maker: done; the table t and the work memory w, lent with the answer area a, become t′ and w′
-pub record DictionaryEntered (c fs ps t w a : List ℕ) (r : ℕ) (t′ w′ a′ : List ℕ) : Type 0 where
-  pub answer : Entered a (told (refusal (dictionaryRules c fs ps t w)) done) r a′
-  pub table : t′ ≡ entered a t (unless (refusal (dictionaryRules c fs ps t w)) t (tableOf c (linesOf c) (inputsOf c) fs ps))
-  pub work : w′ ≡ entered a w (unless (refusal (dictionaryRules c fs ps t w)) w (tableWork c (linesOf c) (inputsOf c) fs ps))
+-- the dictionary maker, of an engine with so many places for each line in the work memory: done; the table t and the work memory w, lent with the
+-- answer area a, become t′ and w′, which is to hold `left`
+pub record EngineEntered (places : ℕ) (left c fs ps t w a : List ℕ) (r : ℕ) (t′ w′ a′ : List ℕ) : Type 0 where
+  pub answer : Entered a (told (refusal (dictionaryRules places c fs ps (length t) (length w))) done) r a′
+  pub table : t′ ≡ entered a t (unless (refusal (dictionaryRules places c fs ps (length t) (length w))) t (tableOf c (linesOf c) (inputsOf c) fs ps))
+  pub work : w′ ≡ entered a w (unless (refusal (dictionaryRules places c fs ps (length t) (length w))) w left)
+
+-- a byte for each line's good value, and one for its faulty value
+abbrev pub DictionaryEntered : List ℕ → List ℕ → List ℕ → List ℕ → List ℕ → List ℕ → ℕ → List ℕ → List ℕ → List ℕ → Type 0
+DictionaryEntered c fs ps t w a r t′ w′ a′ = EngineEntered 2 (tableWork c (linesOf c) (inputsOf c) fs ps) c fs ps t w a r t′ w′ a′
 
 -- the compactor: done; the marks m, lent with the answer area a, become m′
 pub record CompactEntered (F P : ℕ) (t m a : List ℕ) (r : ℕ) (m′ a′ : List ℕ) : Type 0 where

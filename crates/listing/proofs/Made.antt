@@ -9,7 +9,7 @@ use Rattle.answers.specs.declared.Ruling.{Ruling}
 use Rattle.answers.specs.declared.Ruling.the-variants.{Fine, Refused}
 use Rattle.answers.specs.Rules.{Rule, refusal, unless, AllHold}
 use Rattle.answers.specs.Lent.{lentRules}
-use Rattle.answers.proofs.Rules.{after-refused, after-fine, both-fine, fine}
+use Rattle.answers.proofs.Rules.{after-refused, after-fine, same-after, both-fine, fine}
 use Rattle.answers.proofs.Lent.{lent-fine}
 use Rattle.circuit.specs.Record.{linesOf, inputsOf}
 use Rattle.circuit.specs.Promise.{circuitRules}
@@ -19,7 +19,7 @@ use Rattle.lists.specs.Both.{listRules}
 use Rattle.lists.proofs.Both.{good-lists, lists-few}
 use Rattle.rows.specs.Table.{tableOf}
 use Rattle.rows.proofs.Entries.{made}
-use Rattle.dictionary.specs.Promise.{dictionaryRestRules, dictionaryRules, Dictionary}
+use Rattle.dictionary.specs.Promise.{dictionaryRestRules, dictionaryRules, Answered}
 use Rattle.tables.specs.Entries.{entriesOf}
 use Rattle.needs.specs.Needs as needs
 use Rattle.tables.specs.Table.{tableRules, Sized}
@@ -29,47 +29,42 @@ use Rattle.listing.specs.Promise.{programRules, dictionaryOf}
 use Rattle.listing.specs.Owed.{PutTableReady, PutMadeReady, MakeReady, MakeDone}
 use Rattle.listing.proofs.Small.{table-small}
 
-module _ (c fs ps t w : List ℕ) where
+module _ (places : ℕ) (c fs ps t w : List ℕ) where
   -- where the lists are fine, so are the buffers
   rest-same : {n : ℕ} → MakeReady c n fs ps (length t)
-      → length w ≡ 2 * n
-      → refusal (dictionaryRestRules c (linesOf c) (inputsOf c) fs ps (length t) (length w)) ≡ refusal (listRules c (inputsOf c) fs ps)
-  rest-same {n} s two = go (refusal (listRules c (inputsOf c) fs ps)) refl
+      → length w ≡ places * n
+      → refusal (dictionaryRestRules (places * linesOf c) c (inputsOf c) fs ps (length t) (length w)) ≡ refusal (listRules c (inputsOf c) fs ps)
+  rest-same {n} s size = go (refusal (listRules c (inputsOf c) fs ps)) refl
     where
       lists : List Rule
       lists = listRules c (inputsOf c) fs ps
 
       buffers : List Rule
-      buffers = lentRules (faultCount fs * patternCount (inputsOf c) ps) (length t) (2 * linesOf c) (length w)
+      buffers = lentRules (faultCount fs * patternCount (inputsOf c) ps) (length t) (places * linesOf c) (length w)
 
       go : (v : Ruling) → refusal lists ≡ v → refusal (lists ++ buffers) ≡ refusal lists
       go (Refused x y) e = after-refused lists buffers e ∙ sym e
       go Fine e =
           let few = lists-few c (inputsOf c) fs ps e in
           after-fine lists buffers e
-          ∙ lent-fine (faultCount fs * patternCount (inputsOf c) ps) (length t) (2 * linesOf c) (length w) (s .entries (few .0) (few .1)) (two ∙ ap (λ (x : ℕ). 2 * x) (s .lines-are))
+          ∙ lent-fine (faultCount fs * patternCount (inputsOf c) ps) (length t) (places * linesOf c) (length w) (s .entries (few .0) (few .1)) (size ∙ ap (λ (x : ℕ). places * x) (s .lines-are))
           ∙ sym e
 
-  same-refusal : {n : ℕ} → MakeReady c n fs ps (length t) → length w ≡ 2 * n → refusal (dictionaryRules c fs ps t w) ≡ refusal (programRules c fs ps)
-  same-refusal {n} s two = go (refusal (circuitRules c)) refl
-    where
-      rest : List Rule
-      rest = dictionaryRestRules c (linesOf c) (inputsOf c) fs ps (length t) (length w)
+  same-refusal : {n : ℕ} → MakeReady c n fs ps (length t) → length w ≡ places * n → refusal (dictionaryRules places c fs ps (length t) (length w)) ≡ refusal (programRules c fs ps)
+  same-refusal s size = same-after (circuitRules c) _ _ (rest-same s size)
 
-      lists : List Rule
-      lists = listRules c (inputsOf c) fs ps
-
-      go : (v : Ruling) → refusal (circuitRules c) ≡ v → refusal (circuitRules c ++ rest) ≡ refusal (circuitRules c ++ lists)
-      go (Refused x y) e = after-refused (circuitRules c) rest e ∙ sym (after-refused (circuitRules c) lists e)
-      go Fine e = after-fine (circuitRules c) rest e ∙ rest-same s two ∙ sym (after-fine (circuitRules c) lists e)
-
-  pub tabled : {n : ℕ} {r : Ruling} {t′ w′ : List ℕ} → MakeReady c n fs ps (length t) → length w ≡ 2 * n → Dictionary c fs ps t w r t′ w′ → MakeDone c fs ps t r t′
-  tabled s two d =
-      let q = same-refusal s two in
-      record {
-        answer = d .answer ∙ q;
-        table = d .table ∙ ap (λ (v : Ruling). unless v t (tableOf c (linesOf c) (inputsOf c) fs ps)) q;
-      }
+-- whichever engine makes the table
+pub tabled : {places n : ℕ} {left c fs ps t w : List ℕ} {r : Ruling} {t′ w′ : List ℕ}
+    → MakeReady c n fs ps (length t)
+    → length w ≡ places * n
+    → Answered places left c fs ps t w r t′ w′
+    → MakeDone c fs ps t r t′
+tabled {places} {c = c} {fs = fs} {ps = ps} {t = t} {w = w} s size d =
+    let q = same-refusal places c fs ps t w s size in
+    record {
+      answer = d .answer ∙ q;
+      table = d .table ∙ ap (λ (v : Ruling). unless v t (tableOf c (linesOf c) (inputsOf c) fs ps)) q;
+    }
 
 -- where nothing is refused, the dictionary is a table for the compactor
 pub fine-sized : (c fs ps : List ℕ) → refusal (programRules c fs ps) ≡ Fine → Sized (faultCount fs) (patternCount (inputsOf c) ps) (length (dictionaryOf c fs ps))

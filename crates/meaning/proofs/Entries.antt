@@ -10,7 +10,6 @@ use borrow.Author.Tests.{eq-eqb, eqb-true}
 use Rattle.ground.specs.Choose.{one}
 use Rattle.answers.specs.declared.Ruling.the-variants.{Fine}
 use Rattle.answers.specs.Rules.{refusal}
-use Rattle.answers.proofs.Rules.{both-fine}
 use Rattle.gates.specs.Gate.{Refines}
 use Rattle.circuit.specs.Record.{linesOf, inputsOf}
 use Rattle.circuit.specs.Promise.{circuitRules}
@@ -32,8 +31,10 @@ use Rattle.entry.specs.Entry.{entryAt}
 use Rattle.entry.proofs.Words.{expected-passes, entry-small, fail-some, pass-every}
 use Rattle.entry.proofs.Decided.{decided}
 use Rattle.entry.proofs.Fillings.{differ-truths, agree-truths}
-use Rattle.dictionary.specs.Promise.{dictionaryRestRules, Dictionary}
-use Rattle.dictionary.proofs.Says.{in-words}
+use Rattle.rows.proofs.Entries.{made}
+use Rattle.dictionary.specs.Promise.{Answered}
+use Rattle.dictionary.proofs.Checked.{taken}
+use Rattle.dictionary.proofs.Says.{made-so}
 use Rattle.meaning.specs.Entries.{Exposes, Clears, Means}
 
 module _ (fault : Fault) (small : fault .value ≤ 1) (c p : List ℕ) (n : ℕ) (well : WellFormed c (length p) n) where
@@ -100,24 +101,16 @@ listed-means c fs ps fine listed i j a b =
     let lists = good-lists c (inputsOf c) fs ps listed in
     entry-means c fs (patternAt (inputsOf c) ps i) j fine (lists .0 .faults j b) (pattern-whole ps (lists .1 .records) a)
 
--- what the dictionary maker accepts
-pub accepted : (c fs ps t w : List ℕ) {t′ w′ : List ℕ}
-    → Dictionary c fs ps t w Fine t′ w′
-    → (refusal (circuitRules c) ≡ Fine) × (refusal (listRules c (inputsOf c) fs ps) ≡ Fine)
-accepted c fs ps t w d =
-    let fine = both-fine (circuitRules c) (dictionaryRestRules c (linesOf c) (inputsOf c) fs ps (length t) (length w)) (sym (d .answer)) in
-    (fine .0, both-fine (listRules c (inputsOf c) fs ps) _ (fine .1) .0)
-
--- of the table that the dictionary maker leaves: the byte of pattern i and fault j
-pub dictionary-means : (c fs ps t w : List ℕ) {t′ w′ : List ℕ}
-    → Dictionary c fs ps t w Fine t′ w′
+-- of the table that an engine of the dictionary maker leaves: the byte of pattern i and fault j
+pub dictionary-means : {places : ℕ} {left c fs ps t w t′ w′ : List ℕ}
+    → Answered places left c fs ps t w Fine t′ w′
     → (i j : ℕ)
     → i < patternCount (inputsOf c) ps
     → j < faultCount fs
     → Means (getD t′ (i * faultCount fs + j) 0) c (faultAt fs j) (linesOf c) (patternAt (inputsOf c) ps i)
-dictionary-means c fs ps t w d i j a b =
-    let fine = accepted c fs ps t w d in
-    rw (in-words c fs ps t w d .made refl .entry i j a b) (listed-means c fs ps (fine .0) (fine .1) i j a b)
+dictionary-means {places} {c = c} {fs = fs} {ps = ps} {t = t} {w = w} d i j a b =
+    let k = taken places c fs ps (length t) (length w) (sym (d .answer)) in
+    rw (made-so d .0, made c (linesOf c) (inputsOf c) fs ps .entry i j a b) (listed-means c fs ps (k .circuit-fine) (k .lists-fine) i j a b)
 
 -- there is a filling: X may be read as 0
 pub some-filling : (p : List ℕ) → Fills p (λ i. eqb (getD p i 0) 1)

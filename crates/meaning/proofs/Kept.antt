@@ -1,9 +1,10 @@
 -- The marks of a dictionary's table serve: no fault that some pattern fails is lost, and no pair of them told apart.
 -- Assumes nothing.
-use mathlib.Core.Path.{_≡_}
+use mathlib.Core.Path.{_≡_, sym}
 use mathlib.Core.Logic.{_⊎_, inl, inr, ⊎-elim}
 use mathlib.Core.List.{List}
 use Prim.Native.Nat.{ℕ, _<_}
+use lib.ListN.{length}
 use Rattle.answers.specs.declared.Ruling.the-variants.{Fine}
 use Rattle.answers.specs.Rules.{refusal}
 use Rattle.circuit.specs.Record.{linesOf, inputsOf}
@@ -14,7 +15,9 @@ use Rattle.lists.specs.Both.{listRules}
 use Rattle.tables.specs.Entries.{entriesOf}
 use Rattle.rows.specs.Table.{tableOf}
 use Rattle.rows.proofs.Entries.{made}
-use Rattle.dictionary.specs.Promise.{Dictionary}
+use Rattle.dictionary.specs.Promise.{Answered}
+use Rattle.dictionary.proofs.Checked.{taken}
+use Rattle.dictionary.proofs.Says.{made-so}
 use Rattle.needs.specs.Needs.{compacted}
 use Rattle.needs.specs.Words.{TellsApart, Sound}
 use Rattle.needs.proofs.Sound.{compacted-sound}
@@ -23,7 +26,7 @@ use Rattle.compact.specs.Promise.{Compacts}
 use Rattle.compact.proofs.Promise.{marks-are}
 use Rattle.meaning.specs.Entries.{Means}
 use Rattle.meaning.specs.Kept.{entriesFor, ExposesAt, ClearsAt, Serves}
-use Rattle.meaning.proofs.Entries.{accepted, listed-means}
+use Rattle.meaning.proofs.Entries.{listed-means}
 
 -- sound marks serve, in an accepted circuit with accepted lists
 module _ (c fs ps m : List ℕ) (fine : refusal (circuitRules c) ≡ Fine) (listed : refusal (listRules c (inputsOf c) fs ps) ≡ Fine) where
@@ -62,11 +65,11 @@ table-serves c fs ps fine listed =
     serves c fs ps (compacted E F P) fine listed
     (sound-same {E = E} (made c (linesOf c) (inputsOf c) fs ps .entry) (compacted-sound E F P))
 
--- of the two parts: the marks that the compactor leaves for the dictionary maker's table
-pub kept-serve : (c fs ps t w : List ℕ) {t′ w′ m m′ : List ℕ}
-    → Dictionary c fs ps t w Fine t′ w′
+-- of the two parts: the marks that the compactor leaves for the table of an engine of the dictionary maker
+pub kept-serve : {places : ℕ} {left c fs ps t w t′ w′ m m′ : List ℕ}
+    → Answered places left c fs ps t w Fine t′ w′
     → Compacts (faultCount fs) (patternCount (inputsOf c) ps) t′ m Fine m′
     → Serves c fs ps m′
-kept-serve c fs ps t w d k =
-    let fine = accepted c fs ps t w d in
-    rw (marks-are k, d .table, ← d .answer) (table-serves c fs ps (fine .0) (fine .1))
+kept-serve {places} {c = c} {fs = fs} {ps = ps} {t = t} {w = w} d k =
+    let so = taken places c fs ps (length t) (length w) (sym (d .answer)) in
+    rw (marks-are k, made-so d .0) (table-serves c fs ps (so .circuit-fine) (so .lists-fine))

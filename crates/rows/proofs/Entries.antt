@@ -1,6 +1,6 @@
 -- The table by its entries: the definition has at each place the entry that the words ask for, and only that table has.
 -- Assumes nothing.
-use mathlib.Core.Path.{_≡_, refl, sym, subst, _∙_}
+use mathlib.Core.Path.{_≡_, sym, subst, _∙_}
 use mathlib.Core.List.{List}
 use Prim.Native.Nat.{ℕ, zero, suc, _+_, _*_, _/_, _%_, _<_}
 use native.Mathlib.Nat.{zero-mul, mul-comm, div-add-mod', div-lt-iff-lt-mul, mod-lt}
@@ -12,7 +12,7 @@ use Rattle.ground.proofs.Gather.{gather-length, gather-at}
 use Rattle.lists.specs.Faults.{faultCount, faultAt}
 use Rattle.lists.specs.Patterns.{patternCount, patternAt}
 use Rattle.entry.specs.Entry.{entryAt}
-use Rattle.rows.specs.Table.{rowOf, tableOf, tableWork}
+use Rattle.rows.specs.Table.{rowOf, tableOf}
 use Rattle.rows.specs.Words.{Made}
 
 module _ (c : List ℕ) (n m : ℕ) (fs ps : List ℕ) where
@@ -20,14 +20,13 @@ module _ (c : List ℕ) (n m : ℕ) (fs ps : List ℕ) where
   row-long i = table-length (λ j. entryAt (faultAt fs j) c (patternAt m ps i) n) (faultCount fs)
 
   -- the definition meets the words
-  pub made : Made c n m fs ps (tableOf c n m fs ps) (tableWork c n m fs ps)
-  unfolding tableOf tableWork
+  pub made : Made c n m fs ps (tableOf c n m fs ps)
+  unfolding tableOf
   made = record {
     size = gather-length (λ i. rowOf c n fs (patternAt m ps i)) (faultCount fs) row-long (patternCount m ps) ∙ mul-comm (patternCount m ps) (faultCount fs);
     entry = λ i j h g.
         gather-at (λ k. rowOf c n fs (patternAt m ps k)) (faultCount fs) row-long 0 (patternCount m ps) i j h g
         ∙ table-at (λ k. entryAt (faultAt fs k) c (patternAt m ps i) n) (faultCount fs) 0 j g;
-    work = refl;
   }
 
   -- a place of the table is that of a pattern and a fault
@@ -49,14 +48,6 @@ module _ (c : List ℕ) (n m : ℕ) (fs ps : List ℕ) where
           subst (λ (y : ℕ). getD t y 0 ≡ getD u y 0) (div-add-mod' x f)
           (same (x / f) (x % f) (div-lt-iff-lt-mul pos .1 (omega (arith, p, mul-comm f (patternCount m ps)))) (mod-lt x pos))
 
-  -- and what has these entries is the table
-  pub one-table : {t : List ℕ}
-      → length t ≡ faultCount fs * patternCount m ps
-      → ((i j : ℕ) → i < patternCount m ps → j < faultCount fs → getD t (i * faultCount fs + j) 0 ≡ entryAt (faultAt fs j) c (patternAt m ps i) n)
-      → t ≡ tableOf c n m fs ps
-  one-table {t} size entry = by-place t (tableOf c n m fs ps) size (made .size) (λ i j a b. entry i j a b ∙ sym (made .entry i j a b))
-
-  -- what meets the words is the definition
-  pub one-made : {t w : List ℕ} → Made c n m fs ps t w → (t ≡ tableOf c n m fs ps) × (w ≡ tableWork c n m fs ps)
-  unfolding tableWork
-  one-made d = (one-table (d .size) (d .entry), d .work)
+  -- and what meets the words is the definition
+  pub one-made : {t : List ℕ} → Made c n m fs ps t → t ≡ tableOf c n m fs ps
+  one-made {t} d = by-place t (tableOf c n m fs ps) (d .size) (made .size) (λ i j a b. d .entry i j a b ∙ sym (made .entry i j a b))

@@ -16,9 +16,6 @@ mul-check-lent c =
     let few = lists-few (s .args .circuit .now) (s .args .inputs) (s .args .faults .now) (s .args .patterns .now) (sym (c .before .before .check-lists .ensures) ∙ c .enum-told .given .1) in
     omega (arith, mul-le-mul (few .0) (few .1))
 
-mul-check-lent-2 : tie.Need-mul-check-lent-2
-mul-check-lent-2 c = let k = c .before .before .before .before .before .before .pre in omega (arith, k .lines, k .good .most-lines)
-
 returns : tie.Need-returns
 returns c = let s = c .before .before .before .before .before .before .before in
     sym
@@ -41,7 +38,6 @@ check-rest-spec =
     (λ c. search needs)
     (λ c. search needs)
     mul-check-lent
-    mul-check-lent-2
     (λ c κs. search needs)
     returns
     returns-2)

@@ -1,26 +1,27 @@
--- `dictionary::dictionary` meets its contract: a refusal of the circuit is handed on, else the rest decides.
+-- `dictionary::dictionary` meets its contract: a refusal is handed on, else the table is filled.
 -- Assumes nothing.
 use borrow.Author.Needs.{needs}
-use Rattle.answers.proofs.Answer.{first-refused, first-fine}
-use Rattle.dictionary.proofs.Answer.{dictionaries}
-use Rattle.circuit.proofs.Accepted.{accepts, refuses, known}
+use Rattle.dictionary.proofs.Checked.{all-accepts}
+use Rattle.dictionary.proofs.Answer.{ready, refused-answer, made-answer}
 use Rattle.dictionary.proofs.dictionary.Statement.{statement}
 use Rattle.dictionary.proofs.dictionary.Tie as tie
 
-accepted-requires : tie.Need-accepted-requires
-accepted-requires c κs =
+fill-table-requires : tie.Need-fill-table-requires
+fill-table-requires c κs =
     let told = c .before .before .before in
-    known (accepts (told .v2 .given .1) (told .before .before .check .ensures))
+    let k = all-accepts (told .before .before .check-all .ensures) (told .v2 .given .1) in
+    rw (k .1, k .2) (ready (k .0))
 
 returns : tie.Need-returns
-returns c = dictionaries (first-refused _ _ (refuses (c .before .v .given .1) (c .before .before .before .check .ensures)))
+returns c = refused-answer (c .before .before .before .check-all .ensures) (c .before .v .given .1)
 
 returns-2 : tie.Need-returns-2
 returns-2 c =
-    let rest = c .before .before .before .before in
-    let told = rest .before .before .before .before in
-    let k = accepts (told .v2 .given .1) (told .before .before .check .ensures) in
-    dictionaries (first-fine _ _ (k .fine) (rw (k .lines, k .inputs) at (rest .accepted .ensures)))
+    let filled = c .before .before .before .before in
+    let told = filled .before .before .before .before in
+    let k = all-accepts (told .before .before .check-all .ensures) (told .v2 .given .1) in
+    let done = rw (k .1, k .2) at (filled .fill-table .ensures) in
+    made-answer (k .0) (done .table-is) (done .work-is)
 
 pub dictionary-spec : {M : Type 1} → statement M
 dictionary-spec =
@@ -29,7 +30,7 @@ dictionary-spec =
     (λ c κs. search needs)
     (λ c. search needs)
     (λ c. search needs)
-    accepted-requires
+    fill-table-requires
     returns
     (λ c. search needs)
     (λ c. search needs)

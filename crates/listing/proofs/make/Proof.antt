@@ -15,8 +15,7 @@ returns : tie.Need-returns
 returns c =
     let made = c .before .before .before in
     let s = made .before .before .before .before .before .before .before in
-    tabled (s .args .circuit .now) (s .args .faults .now) (s .args .patterns .now) (s .args .table .now) _ (s .pre)
-    (length-take-le _ _ (omega arith)) (made .dictionary .ensures)
+    tabled (s .pre) (length-take-le _ _ (omega arith)) (made .dictionary .ensures)
 
 pub make-spec : {M : Type 1} → statement M
 make-spec =
