@@ -1,0 +1,5 @@
+pub mod Ready
+pub mod Lanes
+pub mod Words
+pub mod Says
+pub mod Same
