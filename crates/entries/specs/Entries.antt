@@ -12,6 +12,7 @@ use Rattle.circuit.specs.Record.{linesOf, inputsOf, outputsOf}
 use Rattle.circuit.specs.Promise.{circuitRules}
 use Rattle.rows.specs.Table.{tableOf, tableWork}
 use Rattle.dictionary.specs.Promise.{dictionaryRules}
+use Rattle.groups.specs.Work.{laneWork}
 use Rattle.tables.specs.Entries.{entriesOf}
 use Rattle.lists.specs.Faults.{faultAt}
 use Rattle.needs.specs.Needs as needs
@@ -38,6 +39,10 @@ pub record EngineEntered (places : ℕ) (left c fs ps t w a : List ℕ) (r : ℕ
 -- a byte for each line's good value, and one for its faulty value
 abbrev pub DictionaryEntered : List ℕ → List ℕ → List ℕ → List ℕ → List ℕ → List ℕ → ℕ → List ℕ → List ℕ → List ℕ → Type 0
 DictionaryEntered c fs ps t w a r t′ w′ a′ = EngineEntered 2 (tableWork c (linesOf c) (inputsOf c) fs ps) c fs ps t w a r t′ w′ a′
+
+-- a word each for a line's 1-lanes and 0-lanes, good and faulty, of 64 patterns
+abbrev pub DictionaryLanesEntered : List ℕ → List ℕ → List ℕ → List ℕ → List ℕ → List ℕ → ℕ → List ℕ → List ℕ → List ℕ → Type 0
+DictionaryLanesEntered c fs ps t w a r t′ w′ a′ = EngineEntered 4 (laneWork c (linesOf c) (inputsOf c) fs ps) c fs ps t w a r t′ w′ a′
 
 -- the compactor: done; the marks m, lent with the answer area a, become m′
 pub record CompactEntered (F P : ℕ) (t m a : List ℕ) (r : ℕ) (m′ a′ : List ℕ) : Type 0 where

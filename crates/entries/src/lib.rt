@@ -5,6 +5,7 @@ use circuit::check;
 use clauses::clauses;
 use compact::compact;
 use dictionary::dictionary;
+use dictionary_lanes::dictionary_lanes;
 use replies::AREA;
 use replies::OTHER_SIZE;
 use replies::of_checked;
@@ -16,7 +17,7 @@ use replies::report;
 use search::search;
 use search_all::search_all;
 ghost use Rattle.answers.specs.Area.{Entered};
-ghost use Rattle.entries.specs.Entries.{checkNumbers, DictionaryEntered, CompactEntered, SearchEntered, SearchAllEntered, ClausesEntered, BenchEntered};
+ghost use Rattle.entries.specs.Entries.{checkNumbers, DictionaryEntered, DictionaryLanesEntered, CompactEntered, SearchEntered, SearchAllEntered, ClausesEntered, BenchEntered};
 
 #[no_mangle]
 pub extern "C" fn ullimaqsu_check(circuit: &[u8], answer: &mut [u8]) -> u32
@@ -42,6 +43,25 @@ pub extern "C" fn ullimaqsu_dictionary(
         return OTHER_SIZE;
     }
     let v = dictionary(circuit, faults, patterns, table, work);
+    report(of_ruling(v), answer)
+}
+
+#[no_mangle]
+pub extern "C" fn ullimaqsu_dictionary_lanes(
+    circuit: &[u8],
+    faults: &[u8],
+    patterns: &[u8],
+    table: &mut [u8],
+    work: &mut [u64],
+    answer: &mut [u8],
+) -> u32
+    ensures { λ r. ⌜ DictionaryLanesEntered (now (circuit .entry)) (now (faults .entry)) (now (patterns .entry))
+        (now (table .entry)) (now (work .entry)) (now (answer .entry)) r (now (table .exit)) (now (work .exit)) (now (answer .exit)) ⌝ }
+{
+    if answer.len() != AREA {
+        return OTHER_SIZE;
+    }
+    let v = dictionary_lanes(circuit, faults, patterns, table, work);
     report(of_ruling(v), answer)
 }
 

@@ -3,7 +3,7 @@ use answers::Ruling;
 use circuit::Checked;
 use circuit::check;
 use compact::compact;
-use dictionary::dictionary;
+use dictionary_lanes::dictionary_lanes;
 use letters::put_lines;
 use letters::put_refused;
 ghost use mathlib.Core.Path.{_≡_};
@@ -56,9 +56,9 @@ fn make(circuit: &[u8], n: usize, faults: &[u8], patterns: &[u8], table: &mut [u
     requires { ⌜ MakeReady (now circuit) n (now faults) (now patterns) (length (now table)) ⌝ }
     ensures { λ r. ⌜ MakeDone (now (circuit .entry)) (now (faults .entry)) (now (patterns .entry)) (now (table .entry)) r (now (table .exit)) ⌝ }
 {
-    let mut work = [0u8; 4096];
-    let two = 2 * n;
-    dictionary(circuit, faults, patterns, table, &mut work[..two])
+    let mut work = [0u64; 8192];
+    let four = 4 * n;
+    dictionary_lanes(circuit, faults, patterns, table, &mut work[..four])
 }
 
 // The text of a circuit of n lines, with a table of its size.

@@ -2,12 +2,12 @@
 -- Assumes nothing.
 use borrow.Author.Tests.{eq-eqb, ne-eqb}
 use borrow.Author.Needs.{needs}
-use Rattle.replies.proofs.Entered.{other-size, stays, reported, becomes}
+use Rattle.entries.proofs.Engines.{nothing-made, made-reported}
 use Rattle.entries.proofs.ullimaqsu_dictionary.Statement.{statement}
 use Rattle.entries.proofs.ullimaqsu_dictionary.Tie as tie
 
 returns : tie.Need-returns
-returns c = let other = ne-eqb _ _ (c .if1 .taken) in record { answer = other-size _ other; table = stays _ other; work = stays _ other }
+returns c = nothing-made (ne-eqb _ _ (c .if1 .taken))
 
 -- the places, the last first: the report, the answer in numbers, the part, the test of the size
 returns-2 : tie.Need-returns-2
@@ -16,13 +16,7 @@ returns-2 c =
     let reply = told .before .before in
     let called = reply .before .before .before .before .before in
     let sized = called .before .before .before in
-    let right = eq-eqb _ _ (sized .if1 .left) in
-    let done = called .dictionary .ensures in
-    record {
-      answer = reported (told .report .ensures) (reply .of-ruling .ensures) (done .numbers);
-      table = becomes _ right (done .table);
-      work = becomes _ right (done .work);
-    }
+    made-reported (eq-eqb _ _ (sized .if1 .left)) (called .dictionary .ensures) (reply .of-ruling .ensures) (told .report .ensures)
 
 pub ullimaqsu-dictionary-spec : {M : Type 1} → statement M
 ullimaqsu-dictionary-spec =
