@@ -1,10 +1,13 @@
 //! The circuit check against the second program.
 //!
 //! `sound_circuits` and `damaged_circuits` compare 1,000,000 cases together; over the bridge that takes a few seconds.
+#[path = "harness/defects.rs"]
+mod defects;
 mod harness;
 
 use cases::circuits::{circuit, example_a, record, small, AND, BUFFER, INPUT, NOT};
 use cases::{damage, drawn, Random};
+use defects::defects;
 use harness::{compare, first_defect_is_told, library, wrong_programs_are_seen, Case, Check, Defect};
 use second::entries::{self, Seen};
 use second::{Counts, Refusal};
@@ -145,13 +148,7 @@ fn wrong_programs() {
 #[test]
 fn two_defects_at_once() {
     let circuit = [record(INPUT, false, 0, 0), record(INPUT, true, 0, 0), record(AND, true, 0, 1)].concat();
-    let defects: [Defect<Check>; 5] = [
-        (10, |case| case.answer.push(0)),
-        (1, |case| case.circuit.push(0)),
-        (2, |case| case.circuit[15] = 1),
-        (4, |case| case.circuit.extend(record(INPUT, false, 0, 0).repeat(64))),
-        (5, |case| case.circuit.chunks_mut(8).for_each(|record| record[1] &= 2)),
-    ];
+    let defects: [Defect<Check>; 5] = defects![];
     first_defect_is_told(&Check { circuit, answer: vec![7; 32] }, &defects);
 }
 

@@ -1,9 +1,12 @@
 //! The clause writer against the second program, which has an encoder of its own: every word and the answer.
+#[path = "harness/defects.rs"]
+mod defects;
 mod harness;
 
 use cases::circuits::{circuit, record, small, AND, INPUT, NOT, XOR};
 use cases::faults::{self, some};
 use cases::{damage, drawn, Random};
+use defects::defects;
 use harness::{compare, first_defect_is_told, wrong_programs_are_seen, Case, Clauses, Defect};
 use second::clauses::{clauses_of, words, Clause};
 use second::entries::{self, Seen};
@@ -84,16 +87,8 @@ fn boundaries_and_largest() {
 }
 
 /// What can be wrong, in the order in which it is looked for.
-const DEFECTS: [Defect<Clauses>; 8] = [
-    (10, |case| case.answer.push(0)),
-    (1, |case| case.circuit.push(0)),
-    (2, |case| case.circuit[15] = 1),
-    (4, |case| case.circuit.extend(record(INPUT, false, 0, 0).repeat(64))),
-    (5, |case| case.circuit.chunks_mut(8).for_each(|record| record[1] &= 2)),
-    (6, |case| case.fault.extend([0; 8])),
-    (7, |case| case.fault[3] = 2),
-    (11, |case| case.words.clear()),
-];
+const DEFECTS: [Defect<Clauses>; 8] =
+    defects![(6, |case| case.fault.extend([0; 8])), (7, |case| case.fault[3] = 2), (11, |case| case.words.clear()),];
 
 #[test]
 fn two_defects_at_once() {

@@ -1,12 +1,19 @@
 //! The dictionary maker against the second program: table, work memory and answer, byte by byte.
+#[path = "wrong/changed.rs"]
+mod changed;
+#[path = "harness/defects.rs"]
+mod defects;
 mod harness;
 
-use cases::circuits::{circuit, example_a, record, small, sources, AND, INPUT};
-use cases::faults::{self, every, inputs, patterns, some};
-use cases::{damage, drawn, Random};
+use cases::circuits::{record, sources, AND, INPUT};
+use cases::faults::{self, inputs};
+use cases::files::{boundaries, example_a, largest, small};
+use cases::{damage, drawn, Files, Random};
+use changed::{accepted, written_though_refused};
+use defects::defects;
 use harness::{compare, first_defect_is_told, wrong_programs_are_seen, Case, Defect, Dictionary};
 use second::entries::{self, Seen};
-use second::{Circuit, Entry, Fault, Value};
+use second::{Entry, Given, Value};
 
 impl Case for Dictionary {
     fn second(&self) -> Seen {
@@ -15,24 +22,16 @@ impl Case for Dictionary {
 }
 
 /// Lends junk of the right sizes.
-fn lend(random: &mut Random, circuit: Vec<u8>, faults: Vec<u8>, patterns: Vec<u8>) -> Dictionary {
-    let table = random.junk(faults.len() / 8 * (patterns.len() / inputs(&circuit)));
-    let (work, answer) = (random.junk(circuit.len() / 4), random.junk(32));
+fn lend(random: &mut Random, files: Files) -> Dictionary {
+    let (table, work, answer) = (random.junk(files.entries()), random.junk(2 * files.lines()), random.junk(32));
+    let Files { circuit, faults, patterns } = files;
     Dictionary { circuit, faults, patterns, table, work, answer }
 }
 
-/// A small circuit with some of its faults or all of them, and some patterns.
 fn sound(random: &mut Random) -> Dictionary {
-    let circuit = small(random);
-    let faults = if random.once_in(20) {
-        every(&circuit).concat()
-    } else {
-        let count = 1 + random.below(8);
-        some(random, &circuit, count)
-    };
     let count = 1 + random.below(8);
-    let patterns = patterns(random, &circuit, count);
-    lend(random, circuit, faults, patterns)
+    let files = small(random, count);
+    lend(random, files)
 }
 
 /// One thing or several are wrong.
@@ -40,41 +39,12 @@ fn damaged(random: &mut Random) -> Dictionary {
     let mut case = sound(random);
     let lines = case.circuit.len() / 8;
     damage::several(random, &mut case, |random, case| match random.below(12) {
-        0..=1 => damage::several(random, &mut case.circuit, damage::circuit),
-        2..=4 => damage::several(random, &mut case.faults, |random, bytes| damage::faults(random, bytes, lines)),
-        5..=7 => damage::several(random, &mut case.patterns, damage::patterns),
+        0..=7 => damage::files(random, [&mut case.circuit, &mut case.faults, &mut case.patterns], lines),
         8..=9 => case.table.resize(damage::size(random, case.table.len()), 7),
         10 => case.work.resize(damage::size(random, case.work.len()), 7),
         _ => case.answer.resize(random.pick(&[0, 31, 33, 64]), 7),
     });
     case
-}
-
-/// The sizes at which something changes.
-fn boundaries(random: &mut Random) -> Vec<Dictionary> {
-    let mut all = vec![];
-    for (lines, wide) in [(1, 1), (2, 1), (64, 64), (65, 64), (66, 65), (2047, 64), (2048, 1), (2048, 64), (2049, 64)] {
-        for fault_count in [0, 1, 2, 255, 256, 257] {
-            for pattern_count in [0, 1, 2] {
-                let circuit = circuit(random, lines, wide);
-                let (faults, patterns) = (some(random, &circuit, fault_count), patterns(random, &circuit, pattern_count));
-                all.push(lend(random, circuit, faults, patterns));
-            }
-        }
-    }
-    for pattern_count in [255, 256, 257] {
-        let circuit = circuit(random, 100, 10);
-        let (faults, patterns) = (some(random, &circuit, 3), patterns(random, &circuit, pattern_count));
-        all.push(lend(random, circuit, faults, patterns));
-    }
-    all
-}
-
-/// 2,048 lines, 64 inputs, 256 faults, 256 patterns.
-fn largest(random: &mut Random) -> Dictionary {
-    let circuit = circuit(random, 2048, 64);
-    let (faults, patterns) = (some(random, &circuit, 256), patterns(random, &circuit, 256));
-    lend(random, circuit, faults, patterns)
 }
 
 #[test]
@@ -89,17 +59,15 @@ fn damaged_dictionaries() {
 
 #[test]
 fn boundaries_and_largest() {
-    assert_eq!(compare("dictionary, boundaries", boundaries(&mut Random::new(3)).into_iter()).seen(), [0, 1, 4, 6, 8]);
-    assert_eq!(compare("dictionary, largest", drawn(4, 1, largest)).seen(), [0]);
+    let mut random = Random::new(3);
+    let boundaries = boundaries(&mut random).into_iter().map(|files| lend(&mut random, files));
+    assert_eq!(compare("dictionary, boundaries", boundaries).seen(), [0, 1, 4, 6, 8]);
+    let files = largest(&mut random);
+    assert_eq!(compare("dictionary, largest", [lend(&mut random, files)].into_iter()).seen(), [0]);
 }
 
 /// What can be wrong, in the order in which it is looked for.
-const DEFECTS: [Defect<Dictionary>; 11] = [
-    (10, |case| case.answer.push(0)),
-    (1, |case| case.circuit.push(0)),
-    (2, |case| case.circuit[15] = 1),
-    (4, |case| case.circuit.extend(record(INPUT, false, 0, 0).repeat(64))),
-    (5, |case| case.circuit.chunks_mut(8).for_each(|record| record[1] &= 2)),
+const DEFECTS: [Defect<Dictionary>; 11] = defects![
     (6, |case| case.faults.push(0)),
     (7, |case| case.faults[11] = 2),
     (8, |case| case.patterns.push(0)),
@@ -112,42 +80,29 @@ const DEFECTS: [Defect<Dictionary>; 11] = [
 fn two_defects_at_once() {
     let circuit = [record(INPUT, false, 0, 0), record(INPUT, true, 0, 0), record(AND, true, 0, 1)].concat();
     let mut random = Random::new(5);
-    let (faults, patterns) = (some(&mut random, &circuit, 2), patterns(&mut random, &circuit, 3));
-    first_defect_is_told(&lend(&mut random, circuit, faults, patterns), &DEFECTS);
+    let files = Files::some(&mut random, circuit, 2, 3);
+    first_defect_is_told(&lend(&mut random, files), &DEFECTS);
 }
 
 /// The table by another entry, and otherwise what the second program says.
 fn by(case: &Dictionary, entry: fn(&[(Value, Value)]) -> Entry) -> Seen {
-    let mut seen = case.second();
-    if seen.returned == 0 {
-        let circuit = Circuit::read(&case.circuit).expect("sound");
-        let faults = Fault::read_all(&circuit, &case.faults, 256).expect("sound");
-        let patterns = second::pattern::read_all(&case.patterns, inputs(&case.circuit)).expect("sound");
+    accepted(case, |seen| {
+        let Given { circuit, faults, patterns } = Given::read(&case.circuit, &case.faults, &case.patterns).expect("sound");
         let of = |pattern: &[Value], fault| {
             let (good, faulty) = (circuit.values(pattern, None), circuit.values(pattern, Some(fault)));
             entry(&circuit.outputs().map(|line| (good[line], faulty[line])).collect::<Vec<_>>()) as u8
         };
         *seen.lent[0].u8() = patterns.iter().flat_map(|pattern| faults.iter().map(|&fault| of(pattern, fault))).collect();
-    }
-    seen
+    })
 }
 
 /// What the second program says of an accepted case that is changed first.
 fn of_changed(case: &Dictionary, change: fn(&mut Dictionary)) -> Seen {
-    then(case, |case, seen| {
+    accepted(case, |seen| {
         let mut other = case.clone();
         change(&mut other);
         *seen = other.second();
     })
-}
-
-/// What the second program says, changed where it accepts.
-fn then(case: &Dictionary, change: impl Fn(&Dictionary, &mut Seen)) -> Seen {
-    let mut seen = case.second();
-    if seen.returned == 0 {
-        change(case, &mut seen);
-    }
-    seen
 }
 
 /// The right entry.
@@ -205,9 +160,9 @@ const WRONG: [Wrong; 12] = [
             case.faults.chunks_exact_mut(8).filter(two_pins).for_each(|fault| fault[2] = 3 - fault[2])
         })
     }),
-    ("puts each row at the next one's place", |case| then(case, |case, seen| seen.lent[0].u8().rotate_right(case.faults.len() / 8))),
+    ("puts each row at the next one's place", |case| accepted(case, |seen| seen.lent[0].u8().rotate_right(case.faults.len() / 8))),
     ("leaves the work of the first fault", |case| {
-        then(case, |case, seen| {
+        accepted(case, |seen| {
             let mut first = case.clone();
             first.faults.truncate(8);
             first.table.truncate(case.patterns.len() / inputs(&case.circuit));
@@ -221,13 +176,7 @@ const WRONG: [Wrong; 12] = [
         }
         seen
     }),
-    ("writes the table though something is refused", |case| {
-        let mut seen = case.second();
-        if seen.returned == 10 && case.answer.len() == 32 {
-            seen.lent[0].u8().fill(2);
-        }
-        seen
-    }),
+    ("writes the table though something is refused", written_though_refused),
 ];
 
 #[test]
@@ -267,13 +216,11 @@ fn a_filling_that_detects_under_pass() {
 /// The safe call, on example A.
 #[test]
 fn bindings() {
-    let a = example_a();
-    let faults = [[3, 0, 0, 0, 0, 0, 0, 0], [3, 0, 0, 1, 0, 0, 0, 0], [2, 0, 0, 1, 0, 0, 0, 0], [0, 0, 0, 0, 0, 0, 0, 0]].concat();
-    let patterns = [1, 1, 0, 0, 1, 0, 0, 2, 0, 2, 1, 0];
+    let Files { circuit, faults, patterns } = example_a();
     let (mut table, mut work) = ([9; 16], [9; 10]);
-    assert_eq!(ullimaqsu::dictionary(&a, &faults, &patterns, &mut table, &mut work), Ok(()));
+    assert_eq!(ullimaqsu::dictionary(&circuit, &faults, &patterns, &mut table, &mut work), Ok(()));
     assert_eq!(table, [1, 0, 0, 1, 0, 1, 1, 0, 0, 1, 1, 0, 0, 0, 0, 0]);
     assert_eq!(work, [2, 1, 0, 2, 2, 0, 1, 0, 0, 0]);
-    let refused = ullimaqsu::dictionary(&a, &[0, 0, 1, 0, 0, 0, 0, 0], &patterns, &mut table, &mut work);
+    let refused = ullimaqsu::dictionary(&circuit, &[0, 0, 1, 0, 0, 0, 0, 0], &patterns, &mut table, &mut work);
     assert_eq!(refused, Err(ullimaqsu::Refusal { number: 7, place: 0 }));
 }

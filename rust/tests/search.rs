@@ -1,6 +1,8 @@
 //! The test search against the second program, and its verdicts against all input vectors.
 #[path = "harness/budgets.rs"]
 mod budgets;
+#[path = "harness/defects.rs"]
+mod defects;
 mod harness;
 #[path = "wrong/search.rs"]
 mod wrong;
@@ -9,6 +11,7 @@ use budgets::budget;
 use cases::circuits::{self, always_0, circuit, parity, record, AND, INPUT};
 use cases::faults::{self, some};
 use cases::{damage, drawn, Random};
+use defects::defects;
 use harness::{compare, first_defect_is_told, library, wrong_programs_are_seen, Case, Defect, Search};
 use second::entries::{self, Seen};
 use second::values::byte;
@@ -142,12 +145,7 @@ fn verdicts_and_all_vectors() {
 }
 
 /// What can be wrong, in the order in which it is looked for.
-const DEFECTS: [Defect<Search>; 9] = [
-    (10, |case| case.answer.push(0)),
-    (1, |case| case.circuit.push(0)),
-    (2, |case| case.circuit[15] = 1),
-    (4, |case| case.circuit.extend(record(INPUT, false, 0, 0).repeat(64))),
-    (5, |case| case.circuit.chunks_mut(8).for_each(|record| record[1] &= 2)),
+const DEFECTS: [Defect<Search>; 9] = defects![
     (6, |case| case.fault.extend([0; 8])),
     (7, |case| case.fault[3] = 2),
     (10, |case| case.test.push(0)),

@@ -1,25 +1,33 @@
 //! The search for a list of faults against the second program, and against single calls of the search one after the other.
 #[path = "harness/budgets.rs"]
 mod budgets;
+#[path = "wrong/changed.rs"]
+mod changed;
+#[path = "harness/defects.rs"]
+mod defects;
 mod harness;
+#[path = "harness/mixes.rs"]
+mod mixes;
 #[path = "wrong/search_all.rs"]
 mod wrong;
 
 use budgets::budget;
-use cases::circuits::{always_0, circuit, example_a, few_inputs, parity, record, INPUT};
+use cases::circuits::{always_0, circuit, example_a, few_inputs, parity};
 use cases::faults::{self, inputs, some};
 use cases::{damage, drawn, Random};
+use defects::defects;
 use harness::{compare, first_defect_is_told, first_difference, library, wrong_programs_are_seen, Case, Defect, SearchAll};
+use mixes::{mix_or_refusal, OF};
 use second::entries::{self, Seen};
 use second::search::search_circuit;
 use second::search_all::Lent;
-use second::{Circuit, Fault, Slice};
+use second::{Circuit, Fault};
 use ullimaqsu::{Outcome, Refusal, Search};
 
 /// An accepted list is counted with the sum of these over the outcomes that it has.
-const TEST: u32 = 100;
-const REDUNDANT: u32 = 200;
-const GIVEN_UP: u32 = 400;
+const TEST: u32 = OF[0];
+const REDUNDANT: u32 = OF[1];
+const GIVEN_UP: u32 = OF[2];
 
 /// Every mix of outcomes, and from the fourth on those with a fault that is given up.
 const MIXES: [u32; 7] = [TEST, REDUNDANT, TEST + REDUNDANT, GIVEN_UP, TEST + GIVEN_UP, REDUNDANT + GIVEN_UP, TEST + REDUNDANT + GIVEN_UP];
@@ -30,17 +38,7 @@ impl Case for SearchAll {
         entries::search_all(&self.circuit, &self.faults, &self.budgets, lent, &self.answer)
     }
     fn counted(seen: &Seen) -> u32 {
-        if seen.returned == 0 {
-            let Slice::U8(outcomes) = &seen.lent[0] else { panic!("outcomes are bytes") };
-            [TEST, REDUNDANT, GIVEN_UP]
-                .into_iter()
-                .zip(0..)
-                .filter(|(_, outcome)| outcomes.contains(outcome))
-                .map(|(number, _)| number)
-                .sum()
-        } else {
-            seen.returned
-        }
+        mix_or_refusal(seen)
     }
 }
 
@@ -55,7 +53,7 @@ fn parts(circuit: &[u8], faults: &[u8]) -> (Circuit, Vec<Fault>) {
 fn lend(random: &mut Random, circuit: Vec<u8>, faults: Vec<u8>, budgets: Vec<u64>) -> SearchAll {
     let count = budgets.len();
     let (outcomes, tests) = (random.junk(count), random.junk(count * inputs(&circuit)));
-    let counts = (0..count).map(|_| random.word()).collect();
+    let counts = random.junk_words(count);
     let (work, answer) = (random.junk(circuit.len() / 4), random.junk(32));
     SearchAll { circuit, faults, budgets, outcomes, counts, tests, work, answer }
 }
@@ -227,12 +225,7 @@ fn no_budget_at_all() {
 }
 
 /// What can be wrong, in the order in which it is looked for, sizes by one too many.
-const DEFECTS: [Defect<SearchAll>; 12] = [
-    (10, |case| case.answer.push(0)),
-    (1, |case| case.circuit.push(0)),
-    (2, |case| case.circuit[15] = 1),
-    (4, |case| case.circuit.extend(record(INPUT, false, 0, 0).repeat(64))),
-    (5, |case| case.circuit.chunks_mut(8).for_each(|record| record[1] &= 2)),
+const DEFECTS: [Defect<SearchAll>; 12] = defects![
     (6, |case| case.faults.push(0)),
     (7, |case| case.faults[11] = 2),
     (10, |case| case.budgets.push(0)),

@@ -91,6 +91,15 @@ pub fn patterns(random: &mut Random, bytes: &mut Vec<u8>) {
     }
 }
 
+/// Does one damage or several to one of the three files that a dictionary of so many lines is made of.
+pub fn files(random: &mut Random, [circuit, faults, patterns]: [&mut Vec<u8>; 3], lines: usize) {
+    match random.below(8) {
+        0..=1 => several(random, circuit, self::circuit),
+        2..=4 => several(random, faults, |random, bytes| self::faults(random, bytes, lines)),
+        _ => several(random, patterns, self::patterns),
+    }
+}
+
 /// Does one damage to a text: a byte is changed, taken out, put in or exchanged with the next; a piece is doubled; the end is cut off.
 pub fn text(random: &mut Random, bytes: &mut Vec<u8>) {
     let Some(last) = bytes.len().checked_sub(1) else { return };

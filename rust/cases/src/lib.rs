@@ -4,12 +4,14 @@
 pub mod circuits;
 pub mod damage;
 pub mod faults;
+pub mod files;
 mod lent;
 mod random;
 pub mod tables;
 mod tally;
 pub mod texts;
 
+pub use files::Files;
 pub use lent::Lent;
 pub use random::{drawn, Random};
 pub use tally::Tally;

@@ -40,6 +40,11 @@ impl Random {
     pub fn junk(&mut self, len: usize) -> Vec<u8> {
         (0..len).map(|_| self.byte()).collect()
     }
+
+    /// The same in words.
+    pub fn junk_words(&mut self, len: usize) -> Vec<u64> {
+        (0..len).map(|_| self.word()).collect()
+    }
 }
 
 /// So many cases, drawn one after the other.

@@ -32,7 +32,14 @@ pub fn check(circuit: &[u8], answer: &[u8]) -> Seen {
 }
 
 pub fn dictionary(circuit: &[u8], faults: &[u8], patterns: &[u8], table: &[u8], work: &[u8], answer: &[u8]) -> Seen {
-    let made = crate::dictionary(circuit, faults, patterns, table.len(), work.len());
+    made(table, work, answer, crate::dictionary(circuit, faults, patterns, table.len(), work.len()))
+}
+
+/// What the entry of a dictionary maker does, whatever its work memory is of.
+fn made<W: Clone>(table: &[u8], work: &[W], answer: &[u8], made: Result<Dictionary<W>, Refusal>) -> Seen
+where
+    Slice: From<Vec<W>>,
+{
     let untouched = vec![table.to_vec().into(), work.to_vec().into()];
     seen(answer, untouched, made.map(|Dictionary { table, work }| (vec![], vec![table.into(), work.into()])))
 }

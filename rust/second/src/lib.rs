@@ -23,7 +23,7 @@ pub use bench::bench;
 pub use circuit::{check, Circuit, Counts};
 pub use clauses::{clauses, Written};
 pub use compact::compact;
-pub use dictionary::{dictionary, Dictionary, Entry};
+pub use dictionary::{dictionary, Dictionary, Entry, Given};
 pub use fault::{Fault, Site};
 pub use pattern::Pattern;
 pub use program::{program, Files};

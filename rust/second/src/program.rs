@@ -1,9 +1,6 @@
 //! The dictionary program.
-use crate::circuit::Circuit;
 use crate::compact::{kept, Row};
-use crate::dictionary::Entry;
-use crate::fault::Fault;
-use crate::pattern;
+use crate::dictionary::{Entry, Given};
 use crate::refusal::Refusal;
 
 /// The files of a directory; one that is absent is none.
@@ -21,10 +18,8 @@ fn read(file: &Option<Vec<u8>>, limit: usize) -> &[u8] {
 }
 
 fn table(files: &Files) -> Result<Vec<Row>, Refusal> {
-    let circuit = Circuit::read(read(&files.circuit, 16_384))?;
-    let faults = Fault::read_all(&circuit, read(&files.faults, 2_048), 256)?;
-    let patterns = pattern::read_all(read(&files.patterns, 16_384), circuit.inputs().count())?;
-    Ok(patterns.iter().map(|pattern| faults.iter().map(|&fault| circuit.entry(pattern, fault)).collect()).collect())
+    let given = Given::read(read(&files.circuit, 16_384), read(&files.faults, 2_048), read(&files.patterns, 16_384))?;
+    Ok(given.rows())
 }
 
 fn line(number: usize, kept: bool, row: &Row) -> String {

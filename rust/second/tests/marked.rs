@@ -1,6 +1,6 @@
 //! The second program on the marked examples of document 01.
 use cases::circuits::{always_0, example_a, record, INPUT, NOT};
-use cases::faults;
+use cases::{faults, files, Files};
 use second::entries;
 use second::search_all::Lent;
 use second::{Counts, Dictionary, Outcome, Refusal, Written};
@@ -19,14 +19,16 @@ fn check() {
     assert_eq!(second::check(&[1, 1, 0, 0, 0, 0, 0, 0]), Err(Refusal { number: 2, place: 0 }));
 }
 
+/// Entries as letters.
+fn letters(table: &[u8]) -> String {
+    table.iter().map(|&entry| ["P", "F", "U"][entry as usize]).collect()
+}
+
 #[test]
 fn dictionary() {
-    let faults =
-        [faults::record(3, 0, false), faults::record(3, 0, true), faults::record(2, 0, true), faults::record(0, 0, false)].concat();
-    let patterns = [1, 1, 0, 0, 1, 0, 0, 2, 0, 2, 1, 0];
-    let Dictionary { table, work } = second::dictionary(&example_a(), &faults, &patterns, 16, 10).expect("sound");
-    let letters: String = table.iter().map(|&entry| ["P", "F", "U"][entry as usize]).collect();
-    assert_eq!(letters, "FPPFPFFPPFFPPPPP");
+    let Files { circuit, faults, patterns } = files::example_a();
+    let Dictionary { table, work } = second::dictionary(&circuit, &faults, &patterns, 16, 10).expect("sound");
+    assert_eq!(letters(&table), "FPPFPFFPPFFPPPPP");
     assert_eq!(work, [2, 1, 0, 2, 2, 0, 1, 0, 0, 0]);
 }
 

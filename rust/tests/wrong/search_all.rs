@@ -1,27 +1,19 @@
 //! Searches for a list of faults that are wrong in one way each.
+use super::changed::{accepted, written_though_refused};
 use super::{parts, Case, SearchAll};
 use cases::faults::inputs;
 use second::entries::Seen;
 use second::search::search_circuit;
 use second::Outcome;
 
-/// What the second program says, changed where it accepts.
-fn then(case: &SearchAll, change: impl Fn(&mut Seen)) -> Seen {
-    let mut seen = case.second();
-    if seen.returned == 0 {
-        change(&mut seen);
-    }
-    seen
-}
-
 /// What the second program says, where it accepts, of the list with other budgets.
 fn with_budgets(case: &SearchAll, budgets: fn(&SearchAll) -> Vec<u64>) -> Seen {
-    then(case, |seen| *seen = SearchAll { budgets: budgets(case), ..case.clone() }.second())
+    accepted(case, |seen| *seen = SearchAll { budgets: budgets(case), ..case.clone() }.second())
 }
 
 /// What the second program says, where it accepts, with something written to the tests of faults of this outcome.
 fn with_tests(case: &SearchAll, outcome: Outcome) -> Seen {
-    then(case, |seen| {
+    accepted(case, |seen| {
         let outcomes = seen.lent[0].u8().clone();
         let tests = seen.lent[2].u8().chunks_exact_mut(inputs(&case.circuit));
         tests.zip(outcomes).filter(|(_, other)| *other == outcome as u8).for_each(|(test, _)| test.fill(2));
@@ -30,7 +22,7 @@ fn with_tests(case: &SearchAll, outcome: Outcome) -> Seen {
 
 /// What the second program says, where it accepts, with another work memory, if there is another.
 fn with_work(case: &SearchAll, work: fn(&SearchAll) -> Option<Vec<u8>>) -> Seen {
-    then(case, |seen| {
+    accepted(case, |seen| {
         if let Some(work) = work(case) {
             seen.lent[3] = work.into();
         }
@@ -72,9 +64,9 @@ pub const PROGRAMS: [Wrong; 16] = [
     ("lets what is left of a budget serve the next fault", |case| with_budgets(case, carried)),
     ("writes a test for a redundant fault", |case| with_tests(case, Outcome::Redundant)),
     ("writes a test for a fault that it gives up", |case| with_tests(case, Outcome::GivenUp)),
-    ("leaves tests unwritten", |case| then(case, |seen| seen.lent[2] = case.tests.clone().into())),
+    ("leaves tests unwritten", |case| accepted(case, |seen| seen.lent[2] = case.tests.clone().into())),
     ("gives its results from the last fault to the first", |case| {
-        then(case, |seen| {
+        accepted(case, |seen| {
             seen.lent[0].u8().reverse();
             seen.lent[1].u64().reverse();
             let tests = seen.lent[2].u8();
@@ -82,7 +74,7 @@ pub const PROGRAMS: [Wrong; 16] = [
         })
     }),
     ("counts the nodes of all faults together", |case| {
-        then(case, |seen| {
+        accepted(case, |seen| {
             let mut all = 0;
             for count in seen.lent[1].u64() {
                 all += *count;
@@ -106,7 +98,7 @@ pub const PROGRAMS: [Wrong; 16] = [
             (case.budgets.last() == Some(&0)).then(|| circuit.work(&vec![None; inputs(&case.circuit)], faults[faults.len() - 1]))
         })
     }),
-    ("answers the last outcome", |case| then(case, |seen| seen.answer[0] = *seen.lent[0].u8().last().expect("a fault"))),
+    ("answers the last outcome", |case| accepted(case, |seen| seen.answer[0] = *seen.lent[0].u8().last().expect("a fault"))),
     ("counts 256 faults in a byte", |case| {
         let mut seen = case.second();
         if case.faults.len() == 256 * 8 && seen.returned == 0 {
@@ -122,11 +114,5 @@ pub const PROGRAMS: [Wrong; 16] = [
         }
         seen
     }),
-    ("writes outcomes though something is refused", |case| {
-        let mut seen = case.second();
-        if seen.returned == 10 && case.answer.len() == 32 {
-            seen.lent[0].u8().fill(2);
-        }
-        seen
-    }),
+    ("writes outcomes though something is refused", written_though_refused),
 ];
