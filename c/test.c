@@ -99,6 +99,7 @@ static const uint8_t
     patterns[] = {1, 1, 0, 0, 1, 0, 0, 2, 0, 2, 1, 0},
     table_of_a[] = {F, P, P, F, P, F, F, P, P, F, F, P, P, P, P, P},
     work_of_a[] = {2, 1, 0, 2, 2, 0, 1, 0, 0, 0};
+static const uint64_t none[4];
 
 /* Example A, with other lengths. */
 static const struct {
@@ -120,7 +121,6 @@ static const struct {
 };
 
 static void test_dictionary(void) {
-    static const uint64_t none[4];
     for (size_t i = 0; i < sizeof dictionaries / sizeof *dictionaries; i++) {
         uint8_t table[20], work[20], area[32];
         fill(table, sizeof table), fill(work, sizeof work);
@@ -133,14 +133,49 @@ static void test_dictionary(void) {
     }
 }
 
+/* Example A in lanes 0 to 3, its last fault line 0 stuck at 0: a line's 1-lanes and its 0-lanes, good lines and then faulty ones. In a spare
+   lane all is X but for line 0, which is stuck there too, and line 3, an AND that reads it; line 4 is the OR of this 0 and of X. */
+#define ALL ((uint64_t)-1)
+static const uint64_t words_of_a[] = {
+    1, 2 + 4, 1 + 2 + 8, 0, 0, 1 + 2 + 4 + 8, 1, 2 + 4, 1, 2 + 4,
+    0, ALL, 1 + 2 + 8, 0, 0, 1 + 2 + 4 + 8, 0, ALL, 0, 1 + 2 + 4 + 8,
+};
+
+/* One of the dictionaries, 64 patterns at once, with so many words of work memory and an area of so many bytes. */
+static void expect_lanes(size_t i, size_t words, size_t len, uint32_t expected) {
+    uint8_t table[20], area[32];
+    uint64_t work[24];
+    fill(table, sizeof table), fill(area, sizeof area);
+    for (size_t k = 0; k < 24; k++) work[k] = JUNK;
+    uint32_t returned = ullimaqsu_dictionary_lanes(example_a, dictionaries[i].circuit, faults, dictionaries[i].faults, patterns,
+                                                   dictionaries[i].patterns, table, dictionaries[i].table, work, words, area, len);
+    size_t made = returned ? 0 : sizeof table_of_a, worked = returned ? 0 : 20;
+    expect(returned == expected && (len == 32 ? answers(area, none) : stays(area, sizeof area)), dictionaries[i].name);
+    expect(same(table, table_of_a, made) && stays(table + made, sizeof table - made), "in lanes the table is filled, and nothing else");
+    for (size_t k = 0; k < 24; k++) expect(work[k] == (k < worked ? words_of_a[k] : JUNK), "the words are filled, and nothing else");
+}
+
+/* The same dictionaries in lanes, with two words for each byte of the work memory; then that of example A with each number of words, 2 N
+   among them, and with areas of another size. */
+static void test_lanes(void) {
+    for (size_t i = 0; i < sizeof dictionaries / sizeof *dictionaries; i++)
+        expect_lanes(i, 2 * dictionaries[i].work, 32, dictionaries[i].returned);
+    for (size_t words = 0; words <= 24; words++) expect_lanes(0, words, 32, words == 20 ? ULLIMAQSU_FINE : ULLIMAQSU_BUFFER_SIZE);
+    for (size_t len = 0; len < 32; len++) expect_lanes(0, 20, len, ULLIMAQSU_BUFFER_SIZE);
+}
+
 /* An AND of two inputs, the output, line 0 stuck at 1, and each entry that there is: with 0X the good value is 0 and the faulty one X, with X1
-   the good value is X and the output masked. */
+   the good value is X and the output masked. Both dictionary makers find them. */
 static void test_entries(void) {
     static const uint8_t and_of_two[] = {INPUT, INPUT, LINE(ULLIMAQSU_AND, 1, 0, 1)}, line_0_at_1[] = {0, 0, 0, 1, 0, 0, 0, 0};
     static const uint8_t each[] = {0, 1, 0, 0, 0, 2, 2, 1}, expected[] = {F, P, ULLIMAQSU_UNKNOWN, P};
     uint8_t table[4], work[6], area[32];
+    uint64_t words[12];
     uint32_t returned = ullimaqsu_dictionary(and_of_two, 24, line_0_at_1, 8, each, 8, table, 4, work, 6, area, 32);
     expect(returned == ULLIMAQSU_FINE && same(table, expected, 4), "fail, pass, unknown, and pass where the output is masked");
+    fill(table, 4);
+    returned = ullimaqsu_dictionary_lanes(and_of_two, 24, line_0_at_1, 8, each, 8, table, 4, words, 12, area, 32);
+    expect(returned == ULLIMAQSU_FINE && same(table, expected, 4), "the same in lanes");
 }
 
 /* Example A's table, with other counts and lengths; where a byte is bad, it is this one. */
@@ -368,6 +403,7 @@ int main(void) {
     test_check();
     test_areas();
     test_dictionary();
+    test_lanes();
     test_entries();
     test_compact();
     test_search();

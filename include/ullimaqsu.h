@@ -142,6 +142,19 @@ uint32_t ullimaqsu_dictionary(const uint8_t *circuit, size_t circuit_len,
                               uint8_t *work, size_t work_len,
                               uint8_t *answer, size_t answer_len);
 
+/* The dictionary maker that carries 64 patterns at once, one in each bit of a word. Refusals 1 to 10. N is the number of lines.
+   Fills the table as ullimaqsu_dictionary does. The patterns go in groups of 64, the last of which may have fewer: its spare lanes carry a
+   pattern of all X. The work memory, exactly 4 N words, then holds the last group with the last fault. Bit i belongs to the group's pattern
+   i: at word 2k it is set where the good value of line k is 1, at word 2k+1 where it is 0, and at neither where it is X; the faulty values
+   stand 2 N words further on. What is stuck is stuck in the spare lanes too.
+   Answer: nothing but that it is done. */
+uint32_t ullimaqsu_dictionary_lanes(const uint8_t *circuit, size_t circuit_len,
+                                    const uint8_t *faults, size_t faults_len,
+                                    const uint8_t *patterns, size_t patterns_len,
+                                    uint8_t *table, size_t table_len,
+                                    uint64_t *work, size_t work_len,
+                                    uint8_t *answer, size_t answer_len);
+
 /* The compactor. Refusals 12, 13, then 10.
    The needs of the whole table are that each detected fault stays detected, and that each pair of detected faults told apart, one failing
    and the other passing under some pattern, stays told apart. From the last pattern to the first, a pattern is dropped exactly if those

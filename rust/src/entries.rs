@@ -11,6 +11,9 @@ macro_rules! entries {
             Dictionary = ullimaqsu_dictionary(
                 circuit: &[u8], faults: &[u8], patterns: &[u8], table: &mut [u8], work: &mut [u8], answer: &mut [u8]
             );
+            DictionaryLanes = ullimaqsu_dictionary_lanes(
+                circuit: &[u8], faults: &[u8], patterns: &[u8], table: &mut [u8], work: &mut [u64], answer: &mut [u8]
+            );
             Compact = ullimaqsu_compact(
                 fault_count: u64, pattern_count: u64, table: &[u8], marks: &mut [u8], answer: &mut [u8]
             );

@@ -97,6 +97,28 @@ pub fn dictionary(circuit: &[u8], faults: &[u8], patterns: &[u8], table: &mut [u
     answered(returned, area).map(|_| ())
 }
 
+/// The dictionary maker that carries 64 patterns at once, one in each bit of a word. Fills the table as [`dictionary`] does. The patterns go in
+/// groups of 64, and the spare lanes of the last group carry a pattern of all X. The work memory, four words for each line, then holds the last
+/// group with the last fault: for each line the word of those lanes where it is 1 and the word of those where it is 0, bit i for the group's
+/// pattern i, first the good ones of all lines and then the faulty ones. What is stuck is stuck in the spare lanes too. A refusal writes
+/// nothing.
+///
+/// ```
+/// let not = [0, 0, 0, 0, 0, 0, 0, 0, 2, 1, 0, 0, 0, 0, 0, 0];
+/// let output_stuck_at_0 = [1, 0, 0, 0, 0, 0, 0, 0];
+/// let (mut table, mut work) = ([9; 3], [9; 8]);
+/// ullimaqsu::dictionary_lanes(&not, &output_stuck_at_0, &[0, 1, 2], &mut table, &mut work)?;
+/// assert_eq!(table, [1, 0, 0]);
+/// assert_eq!(work[..4], [0b010, 0b001, 0b001, 0b010]);
+/// assert_eq!(work[4..], [0b010, 0b001, 0, u64::MAX]);
+/// # Ok::<(), ullimaqsu::Refusal>(())
+/// ```
+pub fn dictionary_lanes(circuit: &[u8], faults: &[u8], patterns: &[u8], table: &mut [u8], work: &mut [u64]) -> Result<(), Refusal> {
+    let mut area = [0; 32];
+    let returned = enter(Call::DictionaryLanes { circuit, faults, patterns, table, work, answer: &mut area });
+    answered(returned, area).map(|_| ())
+}
+
 /// The compactor. Marks each pattern of a table, 1 kept or 0 dropped, so that the kept ones detect every fault and tell apart every pair of
 /// detected faults that the whole table does, and none of them can be spared. A refusal writes nothing.
 ///

@@ -5,6 +5,7 @@ pub mod circuits;
 pub mod damage;
 pub mod faults;
 pub mod files;
+mod lanes;
 mod lent;
 mod random;
 pub mod tables;
@@ -12,6 +13,7 @@ mod tally;
 pub mod texts;
 
 pub use files::Files;
+pub use lanes::lane;
 pub use lent::Lent;
 pub use random::{drawn, Random};
 pub use tally::Tally;

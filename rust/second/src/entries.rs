@@ -35,6 +35,10 @@ pub fn dictionary(circuit: &[u8], faults: &[u8], patterns: &[u8], table: &[u8], 
     made(table, work, answer, crate::dictionary(circuit, faults, patterns, table.len(), work.len()))
 }
 
+pub fn dictionary_lanes(circuit: &[u8], faults: &[u8], patterns: &[u8], table: &[u8], work: &[u64], answer: &[u8]) -> Seen {
+    made(table, work, answer, crate::dictionary_lanes(circuit, faults, patterns, table.len(), work.len()))
+}
+
 /// What the entry of a dictionary maker does, whatever its work memory is of.
 fn made<W: Clone>(table: &[u8], work: &[W], answer: &[u8], made: Result<Dictionary<W>, Refusal>) -> Seen
 where

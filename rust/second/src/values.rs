@@ -64,6 +64,11 @@ impl Gate<Value> {
 impl Circuit {
     /// The values of all lines under a pattern, with or without a fault.
     pub fn values(&self, pattern: &[Value], fault: Option<Fault>) -> Vec<Value> {
+        self.values_by(Gate::value, pattern, fault)
+    }
+
+    /// The same where gates go by this rule.
+    pub fn values_by(&self, rule: fn(Gate<Value>) -> Value, pattern: &[Value], fault: Option<Fault>) -> Vec<Value> {
         let mut pattern = pattern.iter().copied();
         let mut values = Vec::with_capacity(self.lines.len());
         for (number, line) in self.lines.iter().enumerate() {
@@ -71,7 +76,7 @@ impl Circuit {
             let seen = |pin, source: usize| stuck(Site::Pin(pin)).unwrap_or(values[source]);
             let value = match line.gate {
                 Gate::Input => pattern.next().expect("a value for each input"),
-                gate => gate.over(seen).value(),
+                gate => rule(gate.over(seen)),
             };
             values.push(stuck(Site::Line).unwrap_or(value));
         }

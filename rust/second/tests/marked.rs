@@ -32,6 +32,17 @@ fn dictionary() {
     assert_eq!(work, [2, 1, 0, 2, 2, 0, 1, 0, 0, 0]);
 }
 
+/// The patterns stand in lanes 0 to 3. Line 0 stuck at 0 makes line 3 a 0 in all lanes, and line 4 an X in the spare ones.
+#[test]
+fn dictionary_lanes() {
+    let Files { circuit, faults, patterns } = files::example_a();
+    let Dictionary { table, work } = second::dictionary_lanes(&circuit, &faults, &patterns, 16, 20).expect("sound");
+    assert_eq!(letters(&table), "FPPFPFFPPFFPPPPP");
+    let (good, faulty) = work.split_at(10);
+    assert_eq!(good, [0b0001, 0b0110, 0b1011, 0, 0, 0b1111, 0b0001, 0b0110, 0b0001, 0b0110]);
+    assert_eq!(faulty, [0, u64::MAX, 0b1011, 0, 0, 0b1111, 0, u64::MAX, 0, 0b1111]);
+}
+
 /// Example A's table, the rows FUP and FFF, and one unknown entry.
 #[test]
 fn compaction() {

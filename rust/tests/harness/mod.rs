@@ -17,17 +17,20 @@ pub trait Case: Parameters {
     fn counted(seen: &Seen) -> u32 {
         seen.returned
     }
+
+    /// What else is asked of what the library does with some cases: nothing, unless there is more to compare with.
+    fn hold_more(_cases: &[Self], _library: &[Seen]) {}
 }
 
 /// What a caller sees of the memory of a call.
-fn seen<C: Case>(returned: u32, memory: &C::Memory) -> Seen {
+fn seen<C: Parameters>(returned: u32, memory: &C::Memory) -> Seen {
     let mut lent = C::lent(memory);
     let mut answer = lent.pop().expect("the answer area is lent last");
     Seen { returned, answer: std::mem::take(answer.u8()), lent }
 }
 
 /// What the library does.
-pub fn library<C: Case>(cases: &[C]) -> Vec<Seen> {
+pub fn library<C: Parameters>(cases: &[C]) -> Vec<Seen> {
     let mut memories: Vec<_> = cases.iter().map(C::memory).collect();
     let returned = enter_all(&mut memories.iter_mut().map(C::call).collect::<Vec<_>>());
     let seen_of = |((case, memory), returned): ((&C, &C::Memory), _)| {
@@ -52,10 +55,11 @@ pub fn compare<C: Case>(name: &str, mut cases: impl Iterator<Item = C>) -> Tally
         if some.is_empty() {
             break;
         }
-        let said: Vec<_> = some.iter().map(C::second).collect();
-        if let Some(difference) = first_difference(&some, &library(&some), &said) {
+        let (library, said) = (library(&some), some.iter().map(C::second).collect::<Vec<_>>());
+        if let Some(difference) = first_difference(&some, &library, &said) {
             panic!("{name}: {difference}");
         }
+        C::hold_more(&some, &library);
         said.iter().for_each(|seen| tally.count(C::counted(seen)));
     }
     println!("{name}: {tally}, {:.1} s", began.elapsed().as_secs_f64());
