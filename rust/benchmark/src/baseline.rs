@@ -7,6 +7,7 @@ pub mod clauses;
 pub mod compact;
 pub mod dictionary;
 pub mod gates;
+pub mod lanes;
 pub mod search;
 pub mod search_all;
 mod simulate;

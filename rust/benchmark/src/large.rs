@@ -1,17 +1,22 @@
 //! Inputs of the largest sizes.
 use crate::baseline::gates::{Branches, Table};
-use crate::parts::{self, Files};
+use crate::parts;
 use crate::timing::Row;
 use cases::circuits::{circuit, record, AND, INPUT, NOT, XOR};
-use cases::{faults, texts, Random};
+use cases::{faults, texts, Files, Random};
 
-/// A dictionary of the largest size: random lines, faults and patterns.
-fn files() -> Files {
+/// Random lines, faults on lines, and patterns.
+fn drawn(lines: usize, inputs: usize, fault_count: usize, pattern_count: usize) -> Files {
     let random = &mut Random::new(2);
-    let circuit = circuit(random, 2048, 64);
-    let faults = (0..256).flat_map(|_| faults::record(random.below(2048), 0, random.below(2) == 1)).collect();
-    let patterns = (0..256 * 64).map(|_| random.below(3) as u8).collect();
+    let circuit = circuit(random, lines, inputs);
+    let faults = (0..fault_count).flat_map(|_| faults::record(random.below(lines), 0, random.below(2) == 1)).collect();
+    let patterns = (0..pattern_count * inputs).map(|_| random.below(3) as u8).collect();
     Files { circuit, faults, patterns }
+}
+
+/// A dictionary of the largest size.
+fn files() -> Files {
+    drawn(2048, 64, 256, 256)
 }
 
 /// The entries that a dictionary has most: few fail.
@@ -63,6 +68,24 @@ pub fn rows() -> impl Iterator<Item = Row> {
         || parts::bench("bench: a chain of 2,048 lines, backwards", &texts::chain(2048, true)),
         // every gate in the first half reads one in the second, so that the cursor goes back and forth
         || parts::bench("bench: 1,023 pairs of gates, half a text apart", &texts::crossed(1023)),
+    ];
+    rows.into_iter().map(|row| row())
+}
+
+/// Dictionaries that carry 64 patterns at once: the largest, and one of middle size.
+pub fn lanes() -> impl Iterator<Item = Row<6>> {
+    let rows: [fn() -> Row<6>; 2] = [
+        || parts::dictionary_lanes("2,048 lines, 256 faults, 256 patterns", &files()),
+        || parts::dictionary_lanes("500 lines, 128 faults, 128 patterns", &drawn(500, 32, 128, 128)),
+    ];
+    rows.into_iter().map(|row| row())
+}
+
+/// The largest table, also where there is little else to do.
+pub fn orders() -> impl Iterator<Item = Row> {
+    let rows: [fn() -> Row; 2] = [
+        || parts::orders("2,048 lines, 256 faults, 256 patterns", &files()),
+        || parts::orders("32 lines, 256 faults, 256 patterns", &drawn(32, 16, 256, 256)),
     ];
     rows.into_iter().map(|row| row())
 }

@@ -1,9 +1,14 @@
 //! The proved parts beside the same algorithms in safe Rust, both compiled for this machine, in one run. `.ci/benchmark` builds and runs it.
 //!
-//! Each time is the best of many rounds, in which the two take turns. A ratio above 1 says that the proved code is faster. Buffers are not
-//! cleared between rounds: every round writes the same bytes over the last. The Rust branches over the kinds of gates; at the largest sizes
-//! dictionary and searches are also timed beside Rust that looks gates up in a table (`baseline/gates.rs`). One row has single calls of the
-//! proved search in place of Rust: its ratio says what a list in one call brings.
+//! Each time is the best of many rounds, in which all take turns. A ratio is to the first column: above 1 it says that the proved code is
+//! faster. Buffers are not cleared between rounds: every round writes the same bytes over the last. The Rust branches over the kinds of gates;
+//! at the largest sizes dictionary and searches are also timed beside Rust that looks gates up in a table (`baseline/gates.rs`). One row has
+//! single calls of the proved search in place of Rust: its ratio says what a list in one call brings.
+//!
+//! The dictionary that carries 64 patterns at once has tables of its own. It runs beside the same in Rust, whose gates choose or branch
+//! (`baseline/lanes/gates.rs`): branches are faster where the processor learns the circuit's kinds, choices where it does not. And it runs
+//! beside dictionaries that simulate a byte at a time, in Rust and proved. The last table is of Rust alone: what it costs that the entries of
+//! a fault, which come out of one word, stand a row apart.
 
 mod baseline;
 mod large;
@@ -11,8 +16,14 @@ mod parts;
 mod small;
 mod timing;
 
+use parts::{BESIDE_LANES, ORDERS};
+use timing::{print, MICROSECONDS, NANOSECONDS};
+
 fn main() {
     println!("{}; buffers not cleared between rounds", timing::machine());
-    timing::print("the largest sizes", timing::MICROSECONDS, large::rows());
-    timing::print("small calls", timing::NANOSECONDS, small::rows());
+    print("the largest sizes", MICROSECONDS, ["proved", "Rust"], large::rows());
+    print("small calls", NANOSECONDS, ["proved", "Rust"], small::rows());
+    print("64 patterns at once", MICROSECONDS, BESIDE_LANES, large::lanes());
+    print("64 patterns at once, small calls", NANOSECONDS, BESIDE_LANES, small::lanes());
+    print("the order of their entries, in Rust", MICROSECONDS, ORDERS, large::orders());
 }

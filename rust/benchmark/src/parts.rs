@@ -1,47 +1,12 @@
 //! Each part beside its baseline, on any input.
-use crate::baseline::{self, gates::Gates, search_all::Lent};
-use crate::timing::{race, Row};
+use crate::baseline::gates::{Branches, Gates, Table};
+use crate::baseline::lanes::gates::{self as words, Choices, WordGates};
+use crate::baseline::lanes::{ByFault, ByPattern, Order};
+use crate::baseline::{self, search_all::Lent};
+use crate::timing::{race, race_all, timed, Row};
+use cases::Files;
 use std::hint::black_box;
 use ullimaqsu::raw::{enter, Call};
-
-/// A circuit, its faults and its patterns.
-pub struct Files {
-    pub circuit: Vec<u8>,
-    pub faults: Vec<u8>,
-    pub patterns: Vec<u8>,
-}
-
-impl Files {
-    fn lines(&self) -> usize {
-        self.circuit.len() / 8
-    }
-
-    fn inputs(&self) -> usize {
-        self.circuit.chunks_exact(8).filter(|record| record[0] == 0).count()
-    }
-
-    pub fn fault_count(&self) -> usize {
-        self.faults.len() / 8
-    }
-
-    fn pattern_count(&self) -> usize {
-        self.patterns.len() / self.inputs()
-    }
-
-    /// What the search for all of its faults is lent.
-    fn lent(&self) -> Lent {
-        let count = self.fault_count();
-        Lent { outcomes: vec![0; count], counts: vec![0; count], tests: vec![0; count * self.inputs()], work: vec![0; 2 * self.lines()] }
-    }
-
-    /// The table of its dictionary.
-    pub fn table(&self) -> Vec<u8> {
-        let mut table = vec![0; self.fault_count() * self.pattern_count()];
-        let mut work = vec![0; 2 * self.lines()];
-        ullimaqsu::dictionary(&self.circuit, &self.faults, &self.patterns, &mut table, &mut work).expect("sound");
-        table
-    }
-}
 
 pub fn check(name: &str, files: &Files) -> Row {
     let (mut proved, mut plain) = ([0; 32], [0; 32]);
@@ -54,21 +19,80 @@ pub fn check(name: &str, files: &Files) -> Row {
     row
 }
 
+/// A dictionary's table, its work memory and its answer.
+type Made<W> = (Vec<u8>, Vec<W>, [u8; 32]);
+
+/// What a dictionary maker is lent that takes so much of work memory for each line.
+fn unmade<W: Clone + Default>(files: &Files, each_line: usize) -> Made<W> {
+    (vec![0; files.entries()], vec![W::default(); each_line * files.lines()], [0; 32])
+}
+
+fn proved_bytes(Files { circuit, faults, patterns }: &Files, (table, work, answer): &mut Made<u8>) -> u32 {
+    enter(Call::Dictionary { circuit: black_box(circuit), faults, patterns, table, work, answer })
+}
+
+fn proved_lanes(Files { circuit, faults, patterns }: &Files, (table, work, answer): &mut Made<u64>) -> u32 {
+    enter(Call::DictionaryLanes { circuit: black_box(circuit), faults, patterns, table, work, answer })
+}
+
+fn plain_bytes<G: Gates>(Files { circuit, faults, patterns }: &Files, (table, work, answer): &mut Made<u8>) -> u32 {
+    baseline::dictionary::enter::<G>(black_box(circuit), faults, patterns, table, work, answer)
+}
+
+fn plain_lanes<G: WordGates, O: Order>(Files { circuit, faults, patterns }: &Files, (table, work, answer): &mut Made<u64>) -> u32 {
+    baseline::lanes::enter::<G, O>(black_box(circuit), faults, patterns, table, work, answer)
+}
+
 /// The dictionary beside Rust with one of the forms of the gate rule.
 pub fn dictionary<G: Gates>(name: &str, files: &Files) -> Row {
-    let Files { circuit, faults, patterns } = files;
-    let mut proved = (vec![0; files.fault_count() * files.pattern_count()], vec![0; 2 * files.lines()], [0; 32]);
-    let mut plain = proved.clone();
-    let row = race(
-        name,
-        || {
-            let (table, work, answer) = &mut proved;
-            enter(Call::Dictionary { circuit: black_box(circuit), faults, patterns, table, work, answer })
-        },
-        || baseline::dictionary::enter::<G>(black_box(circuit), faults, patterns, &mut plain.0, &mut plain.1, &mut plain.2),
-    );
+    let (mut proved, mut plain) = (unmade(files, 2), unmade(files, 2));
+    let row = race(name, || proved_bytes(files, &mut proved), || plain_bytes::<G>(files, &mut plain));
     assert_eq!(proved, plain);
     row
+}
+
+/// The columns of the dictionary that carries 64 patterns at once. It runs beside the same in Rust, by choices and by branches over the kinds of
+/// gates; beside Rust that simulates a byte at a time, by branches and by a table; and beside the proved dictionary that does so.
+pub const BESIDE_LANES: [&str; 6] = ["proved", "Rust", "branching", "Rust bytes", "by table", "proved bytes"];
+
+/// The dictionary that carries 64 patterns at once, in these columns.
+pub fn dictionary_lanes(name: &str, files: &Files) -> Row<6> {
+    let [mut proved, mut choices, mut branches] = [(); 3].map(|_| unmade(files, 4));
+    let [mut bytes, mut by_table, mut proved_by_byte] = [(); 3].map(|_| unmade(files, 2));
+    let row = race_all(
+        name,
+        [
+            &mut timed(|| proved_lanes(files, &mut proved)),
+            &mut timed(|| plain_lanes::<Choices, ByPattern>(files, &mut choices)),
+            &mut timed(|| plain_lanes::<words::Branches, ByPattern>(files, &mut branches)),
+            &mut timed(|| plain_bytes::<Branches>(files, &mut bytes)),
+            &mut timed(|| plain_bytes::<Table>(files, &mut by_table)),
+            &mut timed(|| proved_bytes(files, &mut proved_by_byte)),
+        ],
+    );
+    assert_eq!([&proved, &proved], [&choices, &branches], "{name}");
+    assert_eq!([&proved.0; 3], [&bytes.0, &by_table.0, &proved_by_byte.0], "{name}");
+    row
+}
+
+/// The columns of what the order of its entries costs such a dictionary.
+pub const ORDERS: [&str; 2] = ["by pattern", "by fault"];
+
+/// The Rust that carries 64 patterns at once, with its entries in the table's order, and with those of a fault in one run of memory.
+pub fn orders(name: &str, files: &Files) -> Row {
+    let (mut by_pattern, mut by_fault) = (unmade(files, 4), unmade(files, 4));
+    let row =
+        race(name, || plain_lanes::<Choices, ByPattern>(files, &mut by_pattern), || plain_lanes::<Choices, ByFault>(files, &mut by_fault));
+    let mut rows = by_pattern.0.chunks_exact(files.fault_count()).enumerate();
+    assert!(rows.all(|(pattern, row)| by_fault.0[pattern..].iter().step_by(files.pattern_count()).eq(row)), "{name}");
+    row
+}
+
+/// The table of a dictionary.
+pub fn table(files: &Files) -> Vec<u8> {
+    let mut made = unmade(files, 2);
+    assert_eq!(proved_bytes(files, &mut made), 0, "sound");
+    made.0
 }
 
 pub fn compact(name: &str, faults: usize, table: &[u8]) -> Row {
@@ -120,6 +144,12 @@ pub fn search<G: Gates>(name: &str, files: &Files, budget: u64) -> Row {
     row
 }
 
+/// What the search for all of the faults is lent.
+fn lent(files: &Files) -> Lent {
+    let count = files.fault_count();
+    Lent { outcomes: vec![0; count], counts: vec![0; count], tests: vec![0; count * files.inputs()], work: vec![0; 2 * files.lines()] }
+}
+
 fn enter_search_all(files: &Files, budgets: &[u64], lent: &mut Lent, answer: &mut [u8; 32]) -> u32 {
     let Lent { outcomes, counts, tests, work } = lent;
     enter(Call::SearchAll { circuit: black_box(&files.circuit), faults: &files.faults, budgets, outcomes, counts, tests, work, answer })
@@ -128,7 +158,7 @@ fn enter_search_all(files: &Files, budgets: &[u64], lent: &mut Lent, answer: &mu
 /// The search for all of the faults in one call, with this budget for each, likewise.
 pub fn search_all<G: Gates>(name: &str, files: &Files, budget: u64) -> Row {
     let budgets = vec![budget; files.fault_count()];
-    let mut proved = (files.lent(), [0; 32]);
+    let mut proved = (lent(files), [0; 32]);
     let mut plain = proved.clone();
     let row = race(
         name,
@@ -142,7 +172,7 @@ pub fn search_all<G: Gates>(name: &str, files: &Files, budget: u64) -> Row {
 /// The same beside calls of the proved search, one after the other.
 pub fn search_all_singly(name: &str, files: &Files, budget: u64) -> Row {
     let budgets = vec![budget; files.fault_count()];
-    let (mut proved, mut single, mut answer) = (files.lent(), files.lent(), [0; 32]);
+    let (mut proved, mut single, mut answer) = (lent(files), lent(files), [0; 32]);
     let row = race(
         name,
         || enter_search_all(files, &budgets, &mut proved, &mut answer),

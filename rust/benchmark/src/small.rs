@@ -1,7 +1,8 @@
 //! Calls of the size of example A and of c17: here it shows what a call costs whatever it is given.
 use crate::baseline::gates::Branches;
-use crate::parts::{self, Files};
+use crate::parts;
 use crate::timing::Row;
+use cases::Files;
 use std::fs;
 
 /// Example A in the bench notation.
@@ -24,11 +25,16 @@ pub fn rows() -> impl Iterator<Item = Row> {
     let parts: [Part; 7] = [
         |name, files, _| parts::check(&format!("check: {name}"), files),
         |name, files, _| parts::dictionary::<Branches>(&format!("dictionary: {name}"), files),
-        |name, files, _| parts::compact(&format!("compactor: {name}"), files.fault_count(), &files.table()),
+        |name, files, _| parts::compact(&format!("compactor: {name}"), files.fault_count(), &parts::table(files)),
         |name, files, _| parts::search::<Branches>(&format!("search: {name}"), files, u64::MAX),
         |name, files, _| parts::search_all::<Branches>(&format!("search_all: {name}"), files, u64::MAX),
         |name, files, _| parts::clauses(&format!("clauses: {name}"), files),
         |name, _, text| parts::bench(&format!("bench: {name}"), text),
     ];
     parts.into_iter().flat_map(move |part| examples.each_ref().map(|(name, files, text)| part(name, files, text)))
+}
+
+/// Dictionaries that carry 64 patterns at once, and here have fewer.
+pub fn lanes() -> impl Iterator<Item = Row<6>> {
+    [("example A", "a"), ("c17", "c17")].into_iter().map(|(name, directory)| parts::dictionary_lanes(name, &files(directory)))
 }

@@ -24,7 +24,8 @@ pub fn check_faults(circuit: &[u8], faults: &[u8], most: usize) -> Result<(), (u
     }
 }
 
-fn dictionary<G: Gates>(circuit: &[u8], faults: &[u8], patterns: &[u8], table: &mut [u8], work: &mut [u8]) -> Result<(), (u32, usize)> {
+/// Refusals 1 to 9, or the numbers of lines and inputs.
+pub fn check_given(circuit: &[u8], faults: &[u8], patterns: &[u8]) -> Result<[usize; 2], (u32, usize)> {
     let [n, inputs, _] = check(circuit)?;
     check_faults(circuit, faults, 256)?;
     if patterns.is_empty() || !patterns.len().is_multiple_of(inputs) || patterns.len() / inputs > 256 {
@@ -33,6 +34,11 @@ fn dictionary<G: Gates>(circuit: &[u8], faults: &[u8], patterns: &[u8], table: &
     if let Some(bad) = patterns.iter().position(|&v| v > 2) {
         return Err((9, bad));
     }
+    Ok([n, inputs])
+}
+
+fn dictionary<G: Gates>(circuit: &[u8], faults: &[u8], patterns: &[u8], table: &mut [u8], work: &mut [u8]) -> Result<(), (u32, usize)> {
+    let [n, inputs] = check_given(circuit, faults, patterns)?;
     let count = faults.len() / 8;
     if table.len() != count * (patterns.len() / inputs) || work.len() != 2 * n {
         return Err((10, 0));
