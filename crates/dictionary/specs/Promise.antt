@@ -19,7 +19,7 @@ use Rattle.rows.specs.Table.{tableOf, tableWork}
 abbrev pub dictionaryRestRules : ℕ → List ℕ → ℕ → List ℕ → List ℕ → ℕ → ℕ → List Rule
 dictionaryRestRules size c m fs ps table work = listRules c m fs ps ++ lentRules (faultCount fs * patternCount m ps) table size work
 
--- where each line has so many places in the work memory
+-- all that is checked, where each line has so many places in the work memory
 abbrev pub dictionaryRules : ℕ → List ℕ → List ℕ → List ℕ → ℕ → ℕ → List Rule
 dictionaryRules places c fs ps table work = circuitRules c ++ dictionaryRestRules (places * linesOf c) c (inputsOf c) fs ps table work
 
