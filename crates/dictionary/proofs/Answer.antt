@@ -3,7 +3,6 @@
 use mathlib.Core.Path.{_≡_}
 use mathlib.Core.List.{List}
 use Prim.Native.Nat.{ℕ}
-use native.Mathlib.Omega.{arith}
 use lib.ListN.{length}
 use Rattle.answers.specs.declared.Ruling.{Ruling}
 use Rattle.answers.specs.declared.Ruling.the-variants.{Fine, Refused}
@@ -16,16 +15,18 @@ use Rattle.dictionary.specs.Owed.{AllChecked}
 use Rattle.dictionary.proofs.Checked.{Taken, all-refuses}
 
 -- what is not refused is ready
-pub ready : {c fs ps : List ℕ} {table work : ℕ} → Taken 2 c fs ps table work → TableReady c (linesOf c) (inputsOf c) fs ps table work
+pub ready : {places : ℕ} {c fs ps : List ℕ} {table work : ℕ} → Taken places c fs ps table work → TableReady 256 places c (linesOf c) (inputsOf c) fs ps table work
 ready k = record {
   well = k .good .well;
+  most-lines = k .good .most-lines;
   some-inputs = k .good .some-inputs;
   most-inputs = k .good .most-inputs;
   faults = k .faults .records;
   fault-lines = λ j l. k .faults .faults j l .line;
+  fault-values = λ j l. k .faults .faults j l .value;
   patterns = k .patterns .records;
   entries = k .table-is;
-  two = omega (arith, k .work-is);
+  room = k .work-is;
 }
 
 module _ {places : ℕ} {left c fs ps t w : List ℕ} where

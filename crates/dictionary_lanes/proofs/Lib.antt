@@ -1,4 +1,3 @@
-pub mod Ready
 pub mod Lanes
 pub mod Words
 pub mod Says

@@ -23,7 +23,8 @@ use Rattle.lane_lines.proofs.Words.{words-long}
 use Rattle.lane_entries.specs.Owed.{FaultEntriesDone}
 use Rattle.rows.proofs.Entries.{one-made}
 use Rattle.simulate.proofs.Settled.{ordered}
-use Rattle.groups.specs.Owed.{ReadyFor, GroupDone}
+use Rattle.rows.specs.Owed.{TableReady}
+use Rattle.groups.specs.Owed.{GroupDone}
 
 -- ---- the work memory
 
@@ -54,22 +55,22 @@ pub record SoFar (c : List ℕ) (n m : ℕ) (fs ps t w : List ℕ) (j : ℕ) : T
   pub good : take (2 * n) w ≡ goodWords c m ps n
   pub last : 1 ≤ j → w ≡ bothWords (faultAt fs (j - 1)) c m ps n
 
-module _ {c : List ℕ} {n m : ℕ} {fs ps : List ℕ} (t w : List ℕ) (r : ReadyFor 64 c n m fs ps (length t) (length w)) where
+module _ {c : List ℕ} {n m : ℕ} {fs ps : List ℕ} (t w : List ℕ) (r : TableReady 64 4 c n m fs ps (length t) (length w)) where
   pub good-ready : GoodWordsReady c m n ps (length w)
-  good-ready = record { well = r .well; group = record { records = r .patterns; few-inputs = r .most-inputs }; four = r .four }
+  good-ready = record { well = r .well; group = record { records = r .patterns; few-inputs = r .most-inputs }; four = r .room }
 
   pub start : {w′ : List ℕ} → w′ ≡ goodWords c m ps n ++ drop (2 * n) w → SoFar c n m fs ps t w′ 0
   start {w′} e = record {
     at-most = omega arith;
     long = r .entries;
     done = λ i k a b. absurd (omega arith);
-    room = ap length e ∙ length-append (goodWords c m ps n) (drop (2 * n) w) ∙ simp length-drop (omega (arith, good-long c m ps n, r .four));
+    room = ap length e ∙ length-append (goodWords c m ps n) (drop (2 * n) w) ∙ simp length-drop (omega (arith, good-long c m ps n, r .room));
     good = rw e (good-front c m ps n (drop (2 * n) w));
     last = λ h. absurd (omega arith);
   }
 
 module _ {c : List ℕ} {n m : ℕ} {fs ps t w : List ℕ} {j : ℕ} (so : SoFar c n m fs ps t w j) where
-  module _ {table work : ℕ} (r : ReadyFor 64 c n m fs ps table work) (l : j < faultCount fs) where
+  module _ {table work : ℕ} (r : TableReady 64 4 c n m fs ps table work) (l : j < faultCount fs) where
     pub fault-ready : {fault : Fault} → fault ≡ faultAt fs j → FaultyWordsReady c fault n (length w)
     fault-ready e = record {
       ordered = ordered (r .well);
@@ -110,7 +111,7 @@ module _ {c : List ℕ} {n m : ℕ} {fs ps t w : List ℕ} {j : ℕ} (so : SoFar
       at i k a b here others (yes q) = rw (q, ← lane m ps i a) here
       at i k a b here others (no d) = others (omega arith) d ∙ so .done i k a (omega (arith, d))
 
-  pub finished : {table work : ℕ} → ReadyFor 64 c n m fs ps table work → faultCount fs ≤ j → GroupDone c n m fs ps t w
+  pub finished : {table work : ℕ} → TableReady 64 4 c n m fs ps table work → faultCount fs ≤ j → GroupDone c n m fs ps t w
   finished r l =
       let e : j ≡ faultCount fs = omega (arith, so .at-most) in
       record {

@@ -15,15 +15,17 @@ use Rattle.lists.specs.Faults.{faultCount}
 use Rattle.lists.specs.Patterns.{patternCount, patternAt}
 use Rattle.lane_lines.specs.Lines.{bothWords}
 use Rattle.rows.specs.Table.{rowOf, tableTo, tableOf, lastFault}
+use Rattle.rows.proofs.Part.{still-ready}
 use Rattle.rows.proofs.Entries.{made}
 use Rattle.groups.specs.Work.{groupAt, laneWork}
-use Rattle.groups.specs.Owed.{GroupsReady, patternsFrom, Next, GroupCount, PutGroupDone, GroupsDone}
+use Rattle.rows.specs.Owed.{TableReady}
+use Rattle.groups.specs.Owed.{patternsFrom, Next, GroupCount, PutGroupDone, GroupsDone}
 use Rattle.groups.proofs.Columns.{both-long}
 use Rattle.groups.proofs.Parts.{from-count, from-at, entries-fit}
 
 -- ---- one group
 
-module _ {c : List ℕ} {n m : ℕ} {fs ps : List ℕ} {table work from rows : ℕ} (r : GroupsReady c n m fs ps table work) (next : Next from rows (patternCount m ps)) where
+module _ {c : List ℕ} {n m : ℕ} {fs ps : List ℕ} {table work from rows : ℕ} (r : TableReady 256 4 c n m fs ps table work) (next : Next from rows (patternCount m ps)) where
   count-is : patternCount m (patternsFrom m ps from rows) ≡ rows
   count-is = from-count ps (r .patterns) next (r .some-inputs)
 
@@ -41,7 +43,7 @@ module _ {c : List ℕ} {n m : ℕ} {fs ps : List ℕ} {table work from rows : �
       ∙ sym (gather-add (λ k. rowOf c n fs (patternAt m ps k)) from rows)
 
 -- group g, with all of its patterns
-is-group : {c : List ℕ} {n m : ℕ} {fs ps : List ℕ} {table work : ℕ} (g : ℕ) {rows : ℕ} → GroupsReady c n m fs ps table work → Next (64 * g) rows (patternCount m ps) → patternsFrom m ps (64 * g) rows ≡ groupAt m ps g
+is-group : {c : List ℕ} {n m : ℕ} {fs ps : List ℕ} {table work : ℕ} (g : ℕ) {rows : ℕ} → TableReady 256 4 c n m fs ps table work → Next (64 * g) rows (patternCount m ps) → patternsFrom m ps (64 * g) rows ≡ groupAt m ps g
 is-group {m = m} {ps = ps} g {rows} r next = go (either rows 64)
   where
     left : rows < 64 → length (drop (64 * g * m) ps) ≤ rows * m
@@ -69,34 +71,23 @@ pub record SoFar (c : List ℕ) (n m : ℕ) (fs ps t w : List ℕ) (groups g : �
   pub done : take (rowsTo g (patternCount m ps) * faultCount fs) t ≡ tableTo c n m fs ps (rowsTo g (patternCount m ps))
   pub last : 1 ≤ g → w ≡ bothWords (lastFault fs) c m (groupAt m ps (g - 1)) n
 
-pub start : {c : List ℕ} {n m : ℕ} {fs ps : List ℕ} (t w : List ℕ) (groups : ℕ) → GroupsReady c n m fs ps (length t) (length w) → SoFar c n m fs ps t w groups 0
+pub start : {c : List ℕ} {n m : ℕ} {fs ps : List ℕ} (t w : List ℕ) (groups : ℕ) → TableReady 256 4 c n m fs ps (length t) (length w) → SoFar c n m fs ps t w groups 0
 start {m = m} {fs = fs} {ps = ps} t w groups r =
     let none : rowsTo 0 (patternCount m ps) ≡ 0 = omega arith in
     record {
       at-most = omega arith;
       long = r .entries;
-      room = r .four;
+      room = r .room;
       done = rw (none, zero-mul);
       last = λ h. absurd (omega arith);
     }
 
 module _ {c : List ℕ} {n m : ℕ} {fs ps t w : List ℕ} {groups g : ℕ} (so : SoFar c n m fs ps t w groups g) where
-  pub still : {x y : ℕ} → GroupsReady c n m fs ps x y → GroupsReady c n m fs ps (length t) (length w)
-  still r = record {
-    well = r .well;
-    most-lines = r .most-lines;
-    some-inputs = r .some-inputs;
-    most-inputs = r .most-inputs;
-    faults = r .faults;
-    fault-lines = r .fault-lines;
-    fault-values = r .fault-values;
-    patterns = r .patterns;
-    entries = so .long;
-    four = so .room;
-  }
+  pub still : {x y : ℕ} → TableReady 256 4 c n m fs ps x y → TableReady 256 4 c n m fs ps (length t) (length w)
+  still r = still-ready r (so .long) (so .room)
 
   pub more : {rows : ℕ} {t′ w′ : List ℕ}
-      → GroupsReady c n m fs ps (length t) (length w)
+      → TableReady 256 4 c n m fs ps (length t) (length w)
       → g < groups
       → GroupCount (patternCount m ps) groups
       → Next (64 * g) rows (patternCount m ps)

@@ -14,7 +14,8 @@ use Rattle.lists.proofs.Patterns.{part-fits}
 use Rattle.lists.proofs.Parts.{lent, back, width-is, lent-long}
 use Rattle.lane_lines.specs.Lines.{bothWords}
 use Rattle.rows.specs.Table.{lastFault}
-use Rattle.groups.specs.Owed.{ReadyFor, GroupsReady, GroupDone, patternsFrom, Next, PutGroupDone}
+use Rattle.rows.specs.Owed.{TableReady}
+use Rattle.groups.specs.Owed.{GroupDone, patternsFrom, Next, PutGroupDone}
 
 -- so many rows of a width from one on lie in the memory of all
 rows-fit : (from rows : ℕ) {count : ℕ} (width : ℕ) {size : ℕ} → from + rows ≤ count → size ≡ width * count → from * width + rows * width ≤ size
@@ -60,7 +61,7 @@ module _ {m : ℕ} (ps : List ℕ) {most from rows : ℕ} (records : Records m m
           ∙ sym (getD-drop ((from + k) * m) ps x 0)
           ∙ sym (getD-take m (drop ((from + k) * m) ps) x 0 inside)
 
-module _ {c : List ℕ} {n m : ℕ} {fs ps : List ℕ} {table work from rows : ℕ} (r : GroupsReady c n m fs ps table work) (next : Next from rows (patternCount m ps)) where
+module _ {c : List ℕ} {n m : ℕ} {fs ps : List ℕ} {table work from rows : ℕ} (r : TableReady 256 4 c n m fs ps table work) (next : Next from rows (patternCount m ps)) where
   pub entries-fit : from * faultCount fs + rows * faultCount fs ≤ table
   entries-fit = rows-fit from rows (faultCount fs) (next .inside) (r .entries)
 
@@ -68,9 +69,9 @@ module _ (c : List ℕ) (n m : ℕ) (fs ps t : List ℕ) (from rows : ℕ) where
   lent-patterns : lent (from * m) (rows * m) ps ≡ patternsFrom m ps from rows
   lent-patterns = ap (λ (x : ℕ). take x (drop (from * m) ps)) (width-is (from * m) (rows * m))
 
-  pub group-ready : {work : ℕ} → GroupsReady c n m fs ps (length t) work
+  pub group-ready : {work : ℕ} → TableReady 256 4 c n m fs ps (length t) work
       → Next from rows (patternCount m ps)
-      → ReadyFor 64 c n m fs (lent (from * m) (rows * m) ps) (length (lent (from * faultCount fs) (rows * faultCount fs) t)) work
+      → TableReady 64 4 c n m fs (lent (from * m) (rows * m) ps) (length (lent (from * faultCount fs) (rows * faultCount fs) t)) work
   group-ready r next =
       rw (lent-patterns, lent-long (from * faultCount fs) (rows * faultCount fs) t (entries-fit r next))
       (record {
@@ -83,7 +84,7 @@ module _ (c : List ℕ) (n m : ℕ) (fs ps t : List ℕ) (from rows : ℕ) where
         fault-values = r .fault-values;
         patterns = from-records ps (r .patterns) next (r .some-inputs);
         entries = mul-comm rows (faultCount fs) ∙ ap (λ (x : ℕ). faultCount fs * x) (sym (from-count ps (r .patterns) next (r .some-inputs)));
-        four = r .four;
+        room = r .room;
       })
 
   pub put : (u w′ : List ℕ) → GroupDone c n m fs (lent (from * m) (rows * m) ps) u w′

@@ -3,30 +3,11 @@
 use mathlib.Core.Path.{_≡_}
 use mathlib.Core.List.{List, _++_}
 use Prim.Native.Nat.{ℕ, _+_, _*_, _≤_, _<_}
-use lib.ListN.{length, take, drop}
-use Rattle.answers.specs.Records.{Records}
-use Rattle.circuit.specs.Formed.{WellFormed}
-use Rattle.lists.specs.Faults.{faultCount, faultLine, faultValue}
-use Rattle.lists.specs.Patterns.{patternCount}
+use lib.ListN.{take, drop}
+use Rattle.lists.specs.Faults.{faultCount}
 use Rattle.lane_lines.specs.Lines.{bothWords}
 use Rattle.rows.specs.Table.{tableOf, lastFault}
 use Rattle.groups.specs.Work.{laneWork}
-
--- at most so many patterns, and memory for their table and for the words of all lines
-pub record ReadyFor (most : ℕ) (c : List ℕ) (n m : ℕ) (fs ps : List ℕ) (table work : ℕ) : Type 0 where
-  pub well : WellFormed c m n
-  pub most-lines : n ≤ 2048
-  pub some-inputs : 1 ≤ m
-  pub most-inputs : m ≤ 64
-  pub faults : Records 8 256 (length fs)
-  pub fault-lines : (j : ℕ) → j < faultCount fs → faultLine fs j < n
-  pub fault-values : (j : ℕ) → j < faultCount fs → faultValue fs j ≤ 1
-  pub patterns : Records m most (length ps)
-  pub entries : table ≡ faultCount fs * patternCount m ps
-  pub four : work ≡ 4 * n
-
-abbrev pub GroupsReady : List ℕ → ℕ → ℕ → List ℕ → List ℕ → ℕ → ℕ → Type 0
-GroupsReady = ReadyFor 256
 
 -- the table of one group, and the words of all lines with the last fault
 pub record GroupDone (c : List ℕ) (n m : ℕ) (fs ps t w : List ℕ) : Type 0 where

@@ -6,7 +6,8 @@ use lists::read_fault;
 ghost use Prim.Native.Nat.{_<_, _≤_};
 ghost use lib.ListN.{length};
 ghost use Rattle.lists.specs.Patterns.{patternCount};
-ghost use Rattle.groups.specs.Owed.{ReadyFor, GroupsReady, GroupDone, Next, GroupCount, PutGroupDone, GroupsDone};
+ghost use Rattle.rows.specs.Owed.{TableReady};
+ghost use Rattle.groups.specs.Owed.{GroupDone, Next, GroupCount, PutGroupDone, GroupsDone};
 
 // Fills the table of one group: the good lines once, the faulty ones for each fault, whose entries are a column.
 fn fill_group(
@@ -18,7 +19,7 @@ fn fill_group(
     table: &mut [u8],
     work: &mut [u64],
 )
-    requires { ⌜ ReadyFor 64 (now circuit) n inputs (now faults) (now patterns) (length (now table)) (length (now work)) ⌝ }
+    requires { ⌜ TableReady 64 4 (now circuit) n inputs (now faults) (now patterns) (length (now table)) (length (now work)) ⌝ }
     ensures { λ _. ⌜ GroupDone (now (circuit .entry)) n inputs (now (faults .entry)) (now (patterns .entry)) (now (table .exit)) (now (work .exit)) ⌝ }
 {
     good_words(circuit, inputs, patterns, work, n);
@@ -45,7 +46,7 @@ fn put_group(
     table: &mut [u8],
     work: &mut [u64],
 )
-    requires { ⌜ GroupsReady (now circuit) n inputs (now faults) (now patterns) (length (now table)) (length (now work)) × Next from rows (patternCount inputs (now patterns)) ⌝ }
+    requires { ⌜ TableReady 256 4 (now circuit) n inputs (now faults) (now patterns) (length (now table)) (length (now work)) × Next from rows (patternCount inputs (now patterns)) ⌝ }
     ensures { λ _. ⌜ PutGroupDone (now (circuit .entry)) n inputs (now (faults .entry)) (now (patterns .entry)) from rows (now (table .entry)) (now (table .exit)) (now (work .exit)) ⌝ }
 {
     let width = faults.len() / 8;
@@ -87,7 +88,7 @@ pub fn fill_groups(
     table: &mut [u8],
     work: &mut [u64],
 )
-    requires { ⌜ GroupsReady (now circuit) n inputs (now faults) (now patterns) (length (now table)) (length (now work)) ⌝ }
+    requires { ⌜ TableReady 256 4 (now circuit) n inputs (now faults) (now patterns) (length (now table)) (length (now work)) ⌝ }
     ensures { λ _. ⌜ GroupsDone (now (circuit .entry)) n inputs (now (faults .entry)) (now (patterns .entry)) (now (table .exit)) (now (work .exit)) ⌝ }
 {
     let count = patterns.len() / inputs;

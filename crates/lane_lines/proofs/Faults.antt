@@ -14,7 +14,7 @@ use Rattle.simulate.specs.Owed.{lineIn, SimulateDone}
 use Rattle.simulate.proofs.Below.{makes-faulty}
 use Rattle.simulate.proofs.Halves.{lentHalf, filled, lent-is, filled-is}
 use Rattle.lane_lines.specs.Lines.{lanePattern, lineWords, goodWords, faultyWords}
-use Rattle.lane_lines.specs.Owed.{Carries, LinesReady, LineDone, turns, SimulateWordsDone, FaultLinesDone, FaultyWordsDone}
+use Rattle.lane_lines.specs.Owed.{Carries, LinesReady, LineDone, lineTurns, SimulateWordsDone, FaultLinesDone, FaultyWordsDone}
 use Rattle.lane_lines.proofs.Words.{putAt, put-carries, words-carry, words-are, carries-same}
 use Rattle.lane_lines.proofs.Turns.{turns-simulate}
 
@@ -33,11 +33,11 @@ module _ (fault : Fault) {c : List ℕ} {n : ℕ} {w w′ : List ℕ} {a : Lanes
       stuck : ℕ → List ℕ
       stuck i = set (goodOf c (p i) n) (fault .line) (lineIn (stuckAt fault) c (goodOf c (p i) n) (fault .line))
 
-      lane : (i : ℕ) → turns c (stuck i) (fault .line + 1) (n - (fault .line + 1)) ≡ faultyOf fault c (p i) n
+      lane : (i : ℕ) → lineTurns c (stuck i) (fault .line + 1) (n - (fault .line + 1)) ≡ faultyOf fault c (p i) n
       lane i =
           let long : length (stuck i) ≡ n = simp length-set (size i) in
-          let done : SimulateDone c (stuck i) (fault .line + 1) (turns c (stuck i) (fault .line + 1) (n - (fault .line + 1))) =
-          subst (λ (x : ℕ). SimulateDone c (stuck i) (fault .line + 1) (turns c (stuck i) (fault .line + 1) (x - (fault .line + 1)))) long
+          let done : SimulateDone c (stuck i) (fault .line + 1) (lineTurns c (stuck i) (fault .line + 1) (n - (fault .line + 1))) =
+          subst (λ (x : ℕ). SimulateDone c (stuck i) (fault .line + 1) (lineTurns c (stuck i) (fault .line + 1) (x - (fault .line + 1)))) long
           (turns-simulate c (stuck i) (fault .line + 1) (rw long (ready .ordered)) (omega arith)) in
           makes-faulty fault {vs = goodOf c (p i) n} (rw (size i) (ready .ordered)) (omega (arith, size i)) refl (simp length-set) done (p i) (ap (goodOf c (p i)) (sym (size i)))
           ∙ ap (faultyOf fault c (p i)) (size i)

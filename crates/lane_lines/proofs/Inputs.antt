@@ -28,7 +28,7 @@ use Rattle.simulate.specs.Work.{goodOf}
 use Rattle.simulate.specs.Owed.{inputOr, InputsFrom, SimulateDone}
 use Rattle.simulate.proofs.Settled.{ordered, all-good}
 use Rattle.lane_lines.specs.Lines.{lanePattern, lineWords, goodWords}
-use Rattle.lane_lines.specs.Owed.{lanesAt, PairInside, Carries, LinesReady, turns, SimulateWordsDone, InputWordsDone}
+use Rattle.lane_lines.specs.Owed.{lanesAt, PairInside, Carries, LinesReady, lineTurns, SimulateWordsDone, InputWordsDone}
 use Rattle.lane_lines.proofs.Words.{putAt, put-long, put-here, put-other, words-are, carries-same}
 use Rattle.lane_lines.proofs.Turns.{turns-simulate}
 
@@ -119,10 +119,10 @@ module _ (c : List ℕ) (m n : ℕ) (ps : List ℕ) where
   pub good-lines-made : {w w′ : List ℕ} → WellFormed c m n → length w ≡ 2 * n → InputWordsDone c m n ps w → SimulateWordsDone c n w 0 w′ → w′ ≡ goodWords c m ps n
   good-lines-made well long done simulated = words-are _ n (carries-same lane (simulated inputsIn (carried long done)))
     where
-      lane : (i : ℕ) → turns c (inputsIn i) 0 (n - 0) ≡ goodOf c (lanePattern m ps i) n
+      lane : (i : ℕ) → lineTurns c (inputsIn i) 0 (n - 0) ≡ goodOf c (lanePattern m ps i) n
       lane i =
           let size = inputs-long i in
           all-good c (lanePattern m ps i) (inputsIn i) refl (inputs-from i)
-          (subst (λ (x : ℕ). SimulateDone c (inputsIn i) 0 (turns c (inputsIn i) 0 (x - 0))) size
+          (subst (λ (x : ℕ). SimulateDone c (inputsIn i) 0 (lineTurns c (inputsIn i) 0 (x - 0))) size
           (turns-simulate c (inputsIn i) 0 (rw size (ordered well)) (omega arith)))
           ∙ ap (goodOf c (lanePattern m ps i)) size

@@ -11,18 +11,18 @@ use Rattle.lanes.specs.declared.Lanes.{Lanes}
 use Rattle.simulate.specs.Simulate.{unforced}
 use Rattle.simulate.specs.Owed.{Ordered, lineIn, SimulateDone}
 use Rattle.simulate.proofs.Settled as settled
-use Rattle.lane_lines.specs.Owed.{Carries, LinesReady, LineDone, turns, SimulateWordsDone}
+use Rattle.lane_lines.specs.Owed.{Carries, LinesReady, LineDone, lineTurns, SimulateWordsDone}
 use Rattle.lane_lines.proofs.Words.{putAt, put-long, put-carries}
 
 -- ---- in one lane
 
-so-far : (c vs : List ℕ) (start : ℕ) → Ordered c (length vs) → (j : ℕ) → start + j ≤ length vs → settled.SoFar c vs start (turns c vs start j) (start + j)
+so-far : (c vs : List ℕ) (start : ℕ) → Ordered c (length vs) → (j : ℕ) → start + j ≤ length vs → settled.SoFar c vs start (lineTurns c vs start j) (start + j)
 so-far c vs start o zero h = rw (add-zero start) (settled.start c vs start (omega arith))
 so-far c vs start o (suc j) h =
     rw (add-suc start j, ← add-one (start + j)) (settled.more (so-far c vs start o j (omega arith)) o (omega arith) refl)
 
 -- all turns taken, the lines are simulated
-pub turns-simulate : (c vs : List ℕ) (start : ℕ) → Ordered c (length vs) → start ≤ length vs → SimulateDone c vs start (turns c vs start (length vs - start))
+pub turns-simulate : (c vs : List ℕ) (start : ℕ) → Ordered c (length vs) → start ≤ length vs → SimulateDone c vs start (lineTurns c vs start (length vs - start))
 turns-simulate c vs start o h = settled.finished (so-far c vs start o (length vs - start) (omega arith)) (omega arith)
 
 -- ---- in every lane
@@ -32,7 +32,7 @@ pub record SoFar (c : List ℕ) (n : ℕ) (w₀ : List ℕ) (start : ℕ) (w : L
   pub above : start ≤ k
   pub at-most : k ≤ n
   pub long : length w ≡ length w₀
-  pub carries : (vs : ℕ → List ℕ) → Carries vs n w₀ → Carries (λ i. turns c (vs i) start (k - start)) n w
+  pub carries : (vs : ℕ → List ℕ) → Carries vs n w₀ → Carries (λ i. lineTurns c (vs i) start (k - start)) n w
 
 pub start : (c : List ℕ) (n : ℕ) (w : List ℕ) (k : ℕ) → k ≤ n → SoFar c n w k w k
 start c n w k h = record {
@@ -55,8 +55,8 @@ module _ {c : List ℕ} {n : ℕ} {w₀ : List ℕ} {start : ℕ} {w : List ℕ}
         let held = so .carries vs b in
         let next : k + 1 - start ≡ suc (k - start) = omega (arith, so .above) in
         let here : k ≡ start + (k - start) = omega (arith, so .above) in
-        rw (next, ← here) (put-carries held l (λ i. lineIn unforced c (turns c (vs i) start (k - start)) k) (line _ held));
+        rw (next, ← here) (put-carries held l (λ i. lineIn unforced c (lineTurns c (vs i) start (k - start)) k) (line _ held));
   }
 
   pub finished : n ≤ k → SimulateWordsDone c n w₀ start w
-  finished l vs b = let e : k ≡ n = omega (arith, so .at-most) in subst (λ (x : ℕ). Carries (λ i. turns c (vs i) start (x - start)) n w) e (so .carries vs b)
+  finished l vs b = let e : k ≡ n = omega (arith, so .at-most) in subst (λ (x : ℕ). Carries (λ i. lineTurns c (vs i) start (x - start)) n w) e (so .carries vs b)

@@ -45,13 +45,13 @@ LineDone f c n w k r = (vs : ℕ → List ℕ) → Carries vs n w → r ≡ laid
 -- ---- all lines
 
 -- so many lines from start on get their values, one after the other
-abbrev pub turns : List ℕ → List ℕ → ℕ → ℕ → List ℕ
-turns c vs start zero = vs
-turns c vs start (suc j) = set (turns c vs start j) (start + j) (lineIn unforced c (turns c vs start j) (start + j))
+abbrev pub lineTurns : List ℕ → List ℕ → ℕ → ℕ → List ℕ
+lineTurns c vs start zero = vs
+lineTurns c vs start (suc j) = set (lineTurns c vs start j) (start + j) (lineIn unforced c (lineTurns c vs start j) (start + j))
 
 -- in every lane
 abbrev pub SimulateWordsDone : List ℕ → ℕ → List ℕ → ℕ → List ℕ → Type 0
-SimulateWordsDone c n w start w′ = (vs : ℕ → List ℕ) → Carries vs n w → Carries (λ i. turns c (vs i) start (n - start)) n w′
+SimulateWordsDone c n w start w′ = (vs : ℕ → List ℕ) → Carries vs n w → Carries (λ i. lineTurns c (vs i) start (n - start)) n w′
 
 -- each input's line has its values of the patterns, every other line X
 abbrev pub InputWordsDone : List ℕ → ℕ → ℕ → List ℕ → List ℕ → Type 0

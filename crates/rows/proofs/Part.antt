@@ -1,6 +1,6 @@
 -- Row i of the table, lent and filled.
 -- Assumes nothing.
-use mathlib.Core.Path.{ap, _∙_}
+use mathlib.Core.Path.{_≡_, sym, ap, _∙_}
 use mathlib.Core.List.{List}
 use Prim.Native.Nat.{ℕ, _+_, _*_, _≤_, _<_}
 use native.Mathlib.Omega.{arith}
@@ -14,11 +14,19 @@ use Rattle.simulate.specs.Work.{bothOf}
 use Rattle.rows.specs.Table.{lastFault}
 use Rattle.rows.specs.Owed.{RowReady, RowDone, TableReady, PutRowDone}
 
-pub row-fits : {c : List ℕ} {n m : ℕ} {fs ps : List ℕ} {x y i : ℕ} → TableReady c n m fs ps x y → i < patternCount m ps → i * faultCount fs + faultCount fs ≤ x
+-- other memory of the same sizes
+pub still-ready : {most places : ℕ} {c : List ℕ} {n m : ℕ} {fs ps : List ℕ} {x y x′ y′ : ℕ}
+    → TableReady most places c n m fs ps x y
+    → x′ ≡ faultCount fs * patternCount m ps
+    → y′ ≡ places * n
+    → TableReady most places c n m fs ps x′ y′
+still-ready r e q = rw (e ∙ sym (r .entries), q ∙ sym (r .room)) r
+
+pub row-fits : {c : List ℕ} {n m : ℕ} {fs ps : List ℕ} {x y i : ℕ} → TableReady 256 2 c n m fs ps x y → i < patternCount m ps → i * faultCount fs + faultCount fs ≤ x
 row-fits {c} {n} {m} {fs} {ps} {x} {y} {i} r h = omega (arith, part-fits i (patternCount m ps) (faultCount fs) h, r .entries)
 
 module _ (c : List ℕ) (n m : ℕ) (fs ps t : List ℕ) (i : ℕ) where
-  pub row-ready : {y : ℕ} → TableReady c n m fs ps (length t) y
+  pub row-ready : {y : ℕ} → TableReady 256 2 c n m fs ps (length t) y
       → i < patternCount m ps
       → RowReady c n (lent (i * m) m ps) fs (length (lent (i * faultCount fs) (faultCount fs) t)) y
   row-ready r h =
@@ -28,7 +36,7 @@ module _ (c : List ℕ) (n m : ℕ) (fs ps t : List ℕ) (i : ℕ) where
         faults = r .faults .multiple;
         lines = r .fault-lines;
         some = r .faults .some;
-        two = r .two;
+        two = omega (arith, r .room);
       })
 
   pub put : (row w′ : List ℕ) → RowDone c n (lent (i * m) m ps) fs row w′ → PutRowDone c n m fs ps i t (back (i * faultCount fs) (faultCount fs) t row) w′

@@ -15,7 +15,7 @@ use Rattle.simulate.specs.Work.{bothOf}
 use Rattle.simulate.proofs.Work.{both-length}
 use Rattle.rows.specs.Table.{rowOf, tableTo, tableOf, lastFault, tableWork}
 use Rattle.rows.specs.Owed.{TableReady, PutRowDone, TableDone}
-use Rattle.rows.proofs.Part.{row-fits}
+use Rattle.rows.proofs.Part.{still-ready, row-fits}
 
 -- the first i rows are in the table, and the work memory holds what the last of them left
 pub record SoFar (c : List ℕ) (n m : ℕ) (fs ps t w : List ℕ) (i : ℕ) : Type 0 where
@@ -25,29 +25,20 @@ pub record SoFar (c : List ℕ) (n m : ℕ) (fs ps t w : List ℕ) (i : ℕ) : T
   pub done : take (i * faultCount fs) t ≡ tableTo c n m fs ps i
   pub last : 1 ≤ i → w ≡ bothOf (lastFault fs) c (patternAt m ps (i - 1)) n
 
-pub start : {c : List ℕ} {n m : ℕ} {fs ps : List ℕ} (t w : List ℕ) → TableReady c n m fs ps (length t) (length w) → SoFar c n m fs ps t w 0
+pub start : {c : List ℕ} {n m : ℕ} {fs ps : List ℕ} (t w : List ℕ) → TableReady 256 2 c n m fs ps (length t) (length w) → SoFar c n m fs ps t w 0
 start {c} {n} {m} {fs} {ps} t w r = record {
   at-most = omega arith;
   long = r .entries;
-  room = r .two;
+  room = omega (arith, r .room);
   done = rw zero-mul;
   last = λ h. absurd (omega arith);
 }
 
 module _ {c : List ℕ} {n m : ℕ} {fs ps t w : List ℕ} {i : ℕ} (so : SoFar c n m fs ps t w i) where
-  pub still : {x y : ℕ} → TableReady c n m fs ps x y → TableReady c n m fs ps (length t) (length w)
-  still r = record {
-    well = r .well;
-    some-inputs = r .some-inputs;
-    most-inputs = r .most-inputs;
-    faults = r .faults;
-    fault-lines = r .fault-lines;
-    patterns = r .patterns;
-    entries = so .long;
-    two = so .room;
-  }
+  pub still : {x y : ℕ} → TableReady 256 2 c n m fs ps x y → TableReady 256 2 c n m fs ps (length t) (length w)
+  still r = still-ready r (so .long) (omega (arith, so .room))
 
-  pub more : {t′ w′ : List ℕ} → TableReady c n m fs ps (length t) (length w) → i < patternCount m ps → PutRowDone c n m fs ps i t t′ w′ → SoFar c n m fs ps t′ w′ (i + 1)
+  pub more : {t′ w′ : List ℕ} → TableReady 256 2 c n m fs ps (length t) (length w) → i < patternCount m ps → PutRowDone c n m fs ps i t t′ w′ → SoFar c n m fs ps t′ w′ (i + 1)
   more {t′} {w′} r l p =
       let k = faultCount fs in
       let row = rowOf c n fs (patternAt m ps i) in

@@ -6,7 +6,7 @@ use Prim.Native.Nat.{ℕ, _+_, _*_, _≤_, _<_}
 use lib.ListN.{length, take, drop}
 use Rattle.answers.specs.Records.{Records}
 use Rattle.circuit.specs.Formed.{WellFormed}
-use Rattle.lists.specs.Faults.{faultCount, faultLine}
+use Rattle.lists.specs.Faults.{faultCount, faultLine, faultValue}
 use Rattle.lists.specs.Patterns.{patternCount, patternAt}
 use Rattle.simulate.specs.Work.{bothOf}
 use Rattle.rows.specs.Table.{rowOf, tableOf, lastFault, tableWork}
@@ -26,15 +26,18 @@ pub record RowDone (c : List ℕ) (n : ℕ) (p fs row work : List ℕ) : Type 0 
 
 -- ---- the table
 
-pub record TableReady (c : List ℕ) (n m : ℕ) (fs ps : List ℕ) (table work : ℕ) : Type 0 where
+-- an accepted circuit with its faults and at most so many patterns, a table for them, and work memory with so many places for each line
+pub record TableReady (most places : ℕ) (c : List ℕ) (n m : ℕ) (fs ps : List ℕ) (table work : ℕ) : Type 0 where
   pub well : WellFormed c m n
+  pub most-lines : n ≤ 2048
   pub some-inputs : 1 ≤ m
   pub most-inputs : m ≤ 64
   pub faults : Records 8 256 (length fs)
   pub fault-lines : (j : ℕ) → j < faultCount fs → faultLine fs j < n
-  pub patterns : Records m 256 (length ps)
+  pub fault-values : (j : ℕ) → j < faultCount fs → faultValue fs j ≤ 1
+  pub patterns : Records m most (length ps)
   pub entries : table ≡ faultCount fs * patternCount m ps
-  pub two : work ≡ n + n
+  pub room : work ≡ places * n
 
 -- row i is put into the table
 pub record PutRowDone (c : List ℕ) (n m : ℕ) (fs ps : List ℕ) (i : ℕ) (t t′ w′ : List ℕ) : Type 0 where

@@ -40,7 +40,7 @@ fn put_row(
     table: &mut [u8],
     work: &mut [u8],
 )
-    requires { ⌜ TableReady (now circuit) n inputs (now faults) (now patterns) (length (now table)) (length (now work)) × (i < patternCount inputs (now patterns)) ⌝ }
+    requires { ⌜ TableReady 256 2 (now circuit) n inputs (now faults) (now patterns) (length (now table)) (length (now work)) × (i < patternCount inputs (now patterns)) ⌝ }
     ensures { λ _. ⌜ PutRowDone (now (circuit .entry)) n inputs (now (faults .entry)) (now (patterns .entry)) i (now (table .entry)) (now (table .exit)) (now (work .exit)) ⌝ }
 {
     let from = i * inputs;
@@ -62,7 +62,7 @@ pub fn fill_table(
     table: &mut [u8],
     work: &mut [u8],
 )
-    requires { ⌜ TableReady (now circuit) n inputs (now faults) (now patterns) (length (now table)) (length (now work)) ⌝ }
+    requires { ⌜ TableReady 256 2 (now circuit) n inputs (now faults) (now patterns) (length (now table)) (length (now work)) ⌝ }
     ensures { λ _. ⌜ TableDone (now (circuit .entry)) n inputs (now (faults .entry)) (now (patterns .entry)) (now (table .exit)) (now (work .exit)) ⌝ }
 {
     let count = patterns.len() / inputs;

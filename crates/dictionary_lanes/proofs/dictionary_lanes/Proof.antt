@@ -2,8 +2,7 @@
 -- Assumes nothing.
 use borrow.Author.Needs.{needs}
 use Rattle.dictionary.proofs.Checked.{all-accepts}
-use Rattle.dictionary.proofs.Answer.{refused-answer, made-answer}
-use Rattle.dictionary_lanes.proofs.Ready.{ready}
+use Rattle.dictionary.proofs.Answer.{ready, refused-answer, made-answer}
 use Rattle.dictionary_lanes.proofs.dictionary_lanes.Statement.{statement}
 use Rattle.dictionary_lanes.proofs.dictionary_lanes.Tie as tie
 

@@ -33,7 +33,7 @@ same-length : tie.Need-same-length Inv-loop μ-loop
 same-length c = c .before .loop .inv .1 .long ∙ sym (c .before .before .before .before .before .before .before .pre .entries)
 
 same-length-2 : tie.Need-same-length-2 Inv-loop μ-loop
-same-length-2 c = c .before .loop .inv .1 .room ∙ sym (c .before .before .before .before .before .before .before .pre .two)
+same-length-2 c = omega (arith, c .before .loop .inv .1 .room, c .before .before .before .before .before .before .before .pre .room)
 
 returns : tie.Need-returns Inv-loop μ-loop
 returns c = finished (c .before .loop .inv .1) (omega arith) (c .before .before .before .before .before .before .before .pre .patterns .some)
