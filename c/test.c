@@ -143,14 +143,14 @@ static const uint64_t words_of_a[] = {
 
 /* One of the dictionaries, 64 patterns at once, with so many words of work memory and an area of so many bytes. */
 static void expect_lanes(size_t i, size_t words, size_t len, uint32_t expected) {
-    uint8_t table[20], area[32];
+    uint8_t table[20], area[40];
     uint64_t work[24];
     fill(table, sizeof table), fill(area, sizeof area);
     for (size_t k = 0; k < 24; k++) work[k] = JUNK;
     uint32_t returned = ullimaqsu_dictionary_lanes(example_a, dictionaries[i].circuit, faults, dictionaries[i].faults, patterns,
                                                    dictionaries[i].patterns, table, dictionaries[i].table, work, words, area, len);
     size_t made = returned ? 0 : sizeof table_of_a, worked = returned ? 0 : 20;
-    expect(returned == expected && (len == 32 ? answers(area, none) : stays(area, sizeof area)), dictionaries[i].name);
+    expect(returned == expected && (len == 32 ? answers(area, none) && stays(area + 32, 8) : stays(area, sizeof area)), dictionaries[i].name);
     expect(same(table, table_of_a, made) && stays(table + made, sizeof table - made), "in lanes the table is filled, and nothing else");
     for (size_t k = 0; k < 24; k++) expect(work[k] == (k < worked ? words_of_a[k] : JUNK), "the words are filled, and nothing else");
 }
@@ -161,7 +161,7 @@ static void test_lanes(void) {
     for (size_t i = 0; i < sizeof dictionaries / sizeof *dictionaries; i++)
         expect_lanes(i, 2 * dictionaries[i].work, 32, dictionaries[i].returned);
     for (size_t words = 0; words <= 24; words++) expect_lanes(0, words, 32, words == 20 ? ULLIMAQSU_FINE : ULLIMAQSU_BUFFER_SIZE);
-    for (size_t len = 0; len < 32; len++) expect_lanes(0, 20, len, ULLIMAQSU_BUFFER_SIZE);
+    for (size_t len = 0; len <= 40; len++) expect_lanes(0, 20, len, len == 32 ? ULLIMAQSU_FINE : ULLIMAQSU_BUFFER_SIZE);
 }
 
 /* An AND of two inputs, the output, line 0 stuck at 1, and each entry that there is: with 0X the good value is 0 and the faulty one X, with X1

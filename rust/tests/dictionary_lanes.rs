@@ -25,7 +25,7 @@ const PASS: u32 = OF[0];
 const FAIL: u32 = OF[1];
 const UNKNOWN: u32 = OF[2];
 
-/// Numbers of patterns at which a group begins, is full or has one spare lane, from one group to four.
+/// Numbers of patterns with which the last group has one or two, is full or has one spare lane, from one group to four.
 const COUNTS: [usize; 12] = [1, 2, 63, 64, 65, 127, 128, 129, 191, 192, 255, 256];
 
 impl Case for DictionaryLanes {

@@ -5,7 +5,7 @@ use Prim.Native.Nat.{ℕ, zero, suc, _+_, _*_, _≤_, _<_}
 use native.Mathlib.Omega.{arith}
 use lib.Dec.{eqb}
 use Rattle.ground.specs.Choose.{one}
-use Rattle.lanes.specs.Words.{bitAt}
+use Rattle.lanes.specs.Lanes.{bitAt}
 use Rattle.lanes.proofs.Bits.{bits-of}
 use Rattle.tables.specs.Entries.{fail, unknown}
 use Rattle.columns.specs.Entries.{entryLanes}

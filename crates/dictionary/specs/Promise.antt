@@ -15,7 +15,7 @@ use Rattle.lists.specs.Patterns.{patternCount}
 use Rattle.lists.specs.Both.{listRules}
 use Rattle.rows.specs.Table.{tableOf, tableWork}
 
--- what is checked after the circuit: the faults, the patterns, and the exact sizes: table faults × patterns, work memory as said
+-- what is checked after the circuit: the faults, the patterns, and the exact sizes: table faults × patterns, work memory `size`
 abbrev pub dictionaryRestRules : ℕ → List ℕ → ℕ → List ℕ → List ℕ → ℕ → ℕ → List Rule
 dictionaryRestRules size c m fs ps table work = listRules c m fs ps ++ lentRules (faultCount fs * patternCount m ps) table size work
 
@@ -23,13 +23,17 @@ dictionaryRestRules size c m fs ps table work = listRules c m fs ps ++ lentRules
 abbrev pub dictionaryRules : ℕ → List ℕ → List ℕ → List ℕ → ℕ → ℕ → List Rule
 dictionaryRules places c fs ps table work = circuitRules c ++ dictionaryRestRules (places * linesOf c) c (inputsOf c) fs ps table work
 
+-- what they say of a table t and a work memory w that are lent
+abbrev pub dictionaryRuling : ℕ → List ℕ → List ℕ → List ℕ → List ℕ → List ℕ → Ruling
+dictionaryRuling places c fs ps t w = refusal (dictionaryRules places c fs ps (length t) (length w))
+
 -- where t and w were lent, and r, t′ and w′ come back: the answer, its number and values, every byte of the table, and every place of the work
 -- memory, which is to hold `left`
 pub record Answered (places : ℕ) (left c fs ps t w : List ℕ) (r : Ruling) (t′ w′ : List ℕ) : Type 0 where
-  pub answer : r ≡ refusal (dictionaryRules places c fs ps (length t) (length w))
-  pub numbers : told r done ≡ told (refusal (dictionaryRules places c fs ps (length t) (length w))) done
-  pub table : t′ ≡ unless (refusal (dictionaryRules places c fs ps (length t) (length w))) t (tableOf c (linesOf c) (inputsOf c) fs ps)
-  pub work : w′ ≡ unless (refusal (dictionaryRules places c fs ps (length t) (length w))) w left
+  pub answer : r ≡ dictionaryRuling places c fs ps t w
+  pub numbers : told r done ≡ told (dictionaryRuling places c fs ps t w) done
+  pub table : t′ ≡ unless (dictionaryRuling places c fs ps t w) t (tableOf c (linesOf c) (inputsOf c) fs ps)
+  pub work : w′ ≡ unless (dictionaryRuling places c fs ps t w) w left
 
 -- the promise, whatever the bytes, of the engine that has a byte for each line's good value and one for its faulty value
 abbrev pub Dictionary : List ℕ → List ℕ → List ℕ → List ℕ → List ℕ → Ruling → List ℕ → List ℕ → Type 0

@@ -11,7 +11,7 @@ use Rattle.answers.specs.Area.{Numbers, success, told, done, Entered, entered}
 use Rattle.circuit.specs.Record.{linesOf, inputsOf, outputsOf}
 use Rattle.circuit.specs.Promise.{circuitRules}
 use Rattle.rows.specs.Table.{tableOf, tableWork}
-use Rattle.dictionary.specs.Promise.{dictionaryRules}
+use Rattle.dictionary.specs.Promise.{dictionaryRuling}
 use Rattle.groups.specs.Work.{laneWork}
 use Rattle.tables.specs.Entries.{entriesOf}
 use Rattle.lists.specs.Faults.{faultAt}
@@ -32,9 +32,9 @@ checkNumbers c = told (refusal (circuitRules c)) (success (linesOf c) (inputsOf 
 -- the dictionary maker, of an engine with so many places for each line in the work memory: done; the table t and the work memory w, lent with the
 -- answer area a, become t′ and w′, which is to hold `left`
 pub record EngineEntered (places : ℕ) (left c fs ps t w a : List ℕ) (r : ℕ) (t′ w′ a′ : List ℕ) : Type 0 where
-  pub answer : Entered a (told (refusal (dictionaryRules places c fs ps (length t) (length w))) done) r a′
-  pub table : t′ ≡ entered a t (unless (refusal (dictionaryRules places c fs ps (length t) (length w))) t (tableOf c (linesOf c) (inputsOf c) fs ps))
-  pub work : w′ ≡ entered a w (unless (refusal (dictionaryRules places c fs ps (length t) (length w))) w left)
+  pub answer : Entered a (told (dictionaryRuling places c fs ps t w) done) r a′
+  pub table : t′ ≡ entered a t (unless (dictionaryRuling places c fs ps t w) t (tableOf c (linesOf c) (inputsOf c) fs ps))
+  pub work : w′ ≡ entered a w (unless (dictionaryRuling places c fs ps t w) w left)
 
 -- a byte for each line's good value, and one for its faulty value
 abbrev pub DictionaryEntered : List ℕ → List ℕ → List ℕ → List ℕ → List ℕ → List ℕ → ℕ → List ℕ → List ℕ → List ℕ → Type 0

@@ -1,7 +1,6 @@
 -- The loop of `fill_group`: fault by fault a column of the table.
 -- Assumes nothing.
-use mathlib.Core.Path.{_≡_, refl, sym, ap, _∙_}
-use mathlib.Core.Logic.{_⊎_, inl, inr}
+use mathlib.Core.Path.{_≡_, sym, ap, _∙_}
 use mathlib.Core.List.{List, _++_}
 use Prim.Native.Nat.{ℕ, _+_, _*_, _-_, _≤_, _<_}
 use native.Mathlib.Decide.{ℕ-discrete}
@@ -20,9 +19,9 @@ use Rattle.columns.specs.Owed.{ColumnReady, PutColumnDone}
 use Rattle.lane_lines.specs.Lines.{lanePattern, goodWords, faultyWords, bothWords}
 use Rattle.lane_lines.specs.Owed.{GoodWordsReady, FaultyWordsReady}
 use Rattle.lane_lines.proofs.Words.{words-long}
+use Rattle.lane_lines.proofs.Inputs.{lines-ready}
 use Rattle.lane_entries.specs.Owed.{FaultEntriesDone}
 use Rattle.rows.proofs.Entries.{one-made}
-use Rattle.simulate.proofs.Settled.{ordered}
 use Rattle.rows.specs.Owed.{TableReady}
 use Rattle.groups.specs.Owed.{GroupDone}
 
@@ -73,8 +72,7 @@ module _ {c : List ℕ} {n m : ℕ} {fs ps t w : List ℕ} {j : ℕ} (so : SoFar
   module _ {table work : ℕ} (r : TableReady 64 4 c n m fs ps table work) (l : j < faultCount fs) where
     pub fault-ready : {fault : Fault} → fault ≡ faultAt fs j → FaultyWordsReady c fault n (length w)
     fault-ready e = record {
-      ordered = ordered (r .well);
-      kinds = r .well .kinds;
+      lines = lines-ready (r .well);
       line = rw e (r .fault-lines j l);
       value = rw e (r .fault-values j l);
       most = r .most-lines;

@@ -1,23 +1,21 @@
 -- The loop that lays the values of an input, a pattern each, into lanes.
 -- Assumes nothing.
 use mathlib.Core.Path.{_≡_, refl, sym, ap, ap₂, _∙_}
-use mathlib.Core.Logic.{_⊎_, inl, inr}
-use mathlib.Core.Bool.{Bool, true, false}
+use mathlib.Core.Bool.{Bool}
 use mathlib.Core.List.{List}
 use Prim.Native.Nat.{ℕ, suc, _+_, _*_, _-_, _^_, _≤_, _<_}
 use native.Mathlib.Nat.{suc-mul, zero-mul}
 use native.Mathlib.Numerals.{add-one}
 use native.Mathlib.Omega.{arith}
-use lib.Dec.{eqb, ltb}
-use lib.ListN.{length, getD, getD-replicate}
-use lib.Seq.{getD-take, getD-drop}
+use lib.Dec.{eqb}
+use lib.ListN.{length, getD}
 use lib.Pow.{pow-mono}
 use borrow.Author.Tests.{ne-eqb, lt-ltb, le-ltb}
-use Rattle.ground.specs.Choose.{choose, one}
+use Rattle.ground.specs.Choose.{one}
 use Rattle.gates.specs.Gate.{X}
 use Rattle.lanes.specs.Lanes.{lanesTo, lanesOf, laid}
 use Rattle.lanes.proofs.Bits.{lanes-spare, lanes-small}
-use Rattle.lists.specs.Patterns.{patternCount, patternAt}
+use Rattle.lists.specs.Patterns.{patternCount}
 use Rattle.lists.proofs.Patterns.{part-fits}
 use Rattle.lane_inputs.specs.Owed.{GroupReady, inputLane}
 

@@ -2,7 +2,7 @@
 -- Assumes nothing.
 use mathlib.Core.Path.{_≡_, refl, sym, ap, subst, _∙_}
 use mathlib.Core.List.{List, _++_}
-use Prim.Native.Nat.{ℕ, _+_, _*_, _-_, _≤_, _<_}
+use Prim.Native.Nat.{ℕ, _+_, _*_, _-_, _<_}
 use native.Mathlib.Omega.{arith}
 use lib.ListN.{length, set, take, length-set}
 use Rattle.ground.proofs.Grow.{grow-length}
@@ -13,7 +13,7 @@ use Rattle.simulate.specs.Work.{goodOf, faultyOf}
 use Rattle.simulate.specs.Owed.{lineIn, SimulateDone}
 use Rattle.simulate.proofs.Below.{makes-faulty}
 use Rattle.simulate.proofs.Halves.{lentHalf, filled, lent-is, filled-is}
-use Rattle.lane_lines.specs.Lines.{lanePattern, lineWords, goodWords, faultyWords}
+use Rattle.lane_lines.specs.Lines.{lanePattern}
 use Rattle.lane_lines.specs.Owed.{Carries, LinesReady, LineDone, lineTurns, SimulateWordsDone, FaultLinesDone, FaultyWordsDone}
 use Rattle.lane_lines.proofs.Words.{putAt, put-carries, words-carry, words-are, carries-same}
 use Rattle.lane_lines.proofs.Turns.{turns-simulate}

@@ -27,7 +27,7 @@ use Rattle.lanes.proofs.Values.{laid-same}
 use Rattle.simulate.specs.Work.{goodOf}
 use Rattle.simulate.specs.Owed.{inputOr, InputsFrom, SimulateDone}
 use Rattle.simulate.proofs.Settled.{ordered, all-good}
-use Rattle.lane_lines.specs.Lines.{lanePattern, lineWords, goodWords}
+use Rattle.lane_lines.specs.Lines.{lanePattern, goodWords}
 use Rattle.lane_lines.specs.Owed.{lanesAt, PairInside, Carries, LinesReady, lineTurns, SimulateWordsDone, InputWordsDone}
 use Rattle.lane_lines.proofs.Words.{putAt, put-long, put-here, put-other, words-are, carries-same}
 use Rattle.lane_lines.proofs.Turns.{turns-simulate}

@@ -1,7 +1,7 @@
 -- What the functions of the lines in lanes owe each other and their callers; no reader of the promises needs it.
 -- Assumes nothing.
 use mathlib.Core.Path.{_≡_}
-use mathlib.Core.List.{List, _++_}
+use mathlib.Core.List.{List}
 use Prim.Native.Nat.{ℕ, zero, suc, _+_, _*_, _-_, _≤_, _<_}
 use lib.ListN.{length, getD, set, take}
 use Rattle.gates.specs.Gate.{lastKind}
@@ -69,8 +69,7 @@ pub record GoodWordsReady (c : List ℕ) (m n : ℕ) (ps : List ℕ) (room : ℕ
   pub four : room ≡ 4 * n
 
 pub record FaultyWordsReady (c : List ℕ) (fault : Fault) (n room : ℕ) : Type 0 where
-  pub ordered : Ordered c n
-  pub kinds : (k : ℕ) → k < n → kindAt c k ≤ lastKind
+  pub lines : LinesReady c n (2 * n)
   pub line : fault .line < n
   pub value : fault .value ≤ 1
   pub most : n ≤ 2048

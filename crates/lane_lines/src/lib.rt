@@ -51,7 +51,7 @@ fn input_or_x(circuit: &[u8], patterns: &[u8], inputs: usize, k: usize, used: us
     Lanes { ones: 0, zeros: 0 }
 }
 
-// Gives every input's line its values in the patterns.
+// Gives every input's line its values in the patterns; every other line is X until its turn.
 fn put_input_words(circuit: &[u8], patterns: &[u8], inputs: usize, words: &mut [u64], n: usize)
     requires { ⌜ WellFormed (now circuit) inputs n × GroupReady inputs (now patterns) × (length (now words) ≡ 2 * n) ⌝ }
     ensures { λ _. ⌜ InputWordsDone (now (circuit .entry)) inputs n (now (patterns .entry)) (now (words .exit)) ⌝ }

@@ -2,15 +2,15 @@
 -- Assumes nothing.
 use mathlib.Core.Path.{_≡_, refl, sym, ap, ap₂, _∙_}
 use mathlib.Core.Bool.{Bool, true, false, _&&_, _||_, xor}
-use Prim.Native.Nat.{ℕ, zero, suc, _+_, _*_, _/_, _%_, _^_, _≤_, _<_}
+use Prim.Native.Nat.{ℕ, zero, suc, _+_, _*_, _/_, _%_, _^_, _≤_, _<_, min, max}
 use native.Mathlib.Nat.{add-zero, add-suc, pow-suc, div-one}
 use native.Mathlib.Omega.{arith}
-use lib.Bits.{bitAnd, bitOr, bitXor, and-block, or-block, xor-block}
+use lib.Bits.{bitAnd, bitOr, bitXor, and-block, or-block, xor-block, and-shr, or-shr, and-step, or-step}
 use lib.Pow.{shr-shr}
 use Rattle.ground.specs.Choose.{one}
 use Rattle.ground.proofs.Tests.{one-most, one-and, one-or}
-use Rattle.lanes.specs.Lanes.{lanesTo, lanesOf}
-use Rattle.lanes.specs.Words.{bitAt, Bits}
+use Rattle.lanes.specs.Lanes.{lanesTo, lanesOf, bitAt}
+use Rattle.lanes.specs.Words.{Bits}
 
 pub lanes-same : (t u : ℕ → Bool) (n : ℕ) → ((i : ℕ) → i < n → t i ≡ u i) → lanesTo t n ≡ lanesTo u n
 lanes-same t u zero h = refl
@@ -32,7 +32,11 @@ lanes-spare t n (suc d) h =
 
 -- ---- an operation on words that is one on bits
 
-module _ (op : ℕ → ℕ → ℕ) (on : Bool → Bool → Bool) (none : op 0 0 ≡ 0) (bits : (a b : Bool) → op (one a) (one b) ≡ one (on a b)) (blocks : (k a b r s : ℕ) → r < 2 ^ k → s < 2 ^ k → op (a * 2 ^ k + r) (b * 2 ^ k + s) ≡ op a b * 2 ^ k + op r s) where
+-- what is done to two numbers is done to their high and to their low bits
+abbrev Blockwise : (ℕ → ℕ → ℕ) → Type 0
+Blockwise op = (k a b r s : ℕ) → r < 2 ^ k → s < 2 ^ k → op (a * 2 ^ k + r) (b * 2 ^ k + s) ≡ op a b * 2 ^ k + op r s
+
+module _ (op : ℕ → ℕ → ℕ) (on : Bool → Bool → Bool) (none : op 0 0 ≡ 0) (bits : (a b : Bool) → op (one a) (one b) ≡ one (on a b)) (blocks : Blockwise op) where
   lanes-op : (t u : ℕ → Bool) (n : ℕ) → op (lanesTo t n) (lanesTo u n) ≡ lanesTo (λ i. on (t i) (u i)) n
   lanes-op t u zero = none
   lanes-op t u (suc n) =
@@ -60,6 +64,34 @@ module _ (t u : ℕ → Bool) where
   lanes-xor = lanes-op bitXor xor refl one-xor xor-block t u 64
 
 -- ---- bit by bit
+
+-- the lowest bit of a number, as a step of an operation has it
+last-bit : {x : ℕ} (q r : ℕ) → x ≡ q * 2 + r → r < 2 → x % 2 ≡ r
+last-bit q r e l = omega arith
+
+pub and-bit : (x y i : ℕ) (a b : Bool) → bitAt x i ≡ one a → bitAt y i ≡ one b → bitAt (bitAnd x y) i ≡ one (a && b)
+and-bit x y i a b p q =
+    ap (λ (z : ℕ). z % 2) (and-shr x y i)
+    ∙ last-bit _ (min (bitAt x i) (bitAt y i)) (and-step (x / 2 ^ i) (y / 2 ^ i)) (omega (arith, p, one-most a))
+    ∙ ap₂ min p q
+    ∙ least a b
+  where
+    least : (a b : Bool) → min (one a) (one b) ≡ one (a && b)
+    least true true = refl
+    least true false = refl
+    least false b = omega arith
+
+pub or-bit : (x y i : ℕ) (a b : Bool) → bitAt x i ≡ one a → bitAt y i ≡ one b → bitAt (bitOr x y) i ≡ one (a || b)
+or-bit x y i a b p q =
+    ap (λ (z : ℕ). z % 2) (or-shr x y i)
+    ∙ last-bit _ (max (bitAt x i) (bitAt y i)) (or-step (x / 2 ^ i) (y / 2 ^ i)) (omega (arith, p, q, one-most a, one-most b))
+    ∙ ap₂ max p q
+    ∙ most a b
+  where
+    most : (a b : Bool) → max (one a) (one b) ≡ one (a || b)
+    most true b = omega (arith, one-most b)
+    most false true = refl
+    most false false = refl
 
 -- lane 0 is the lowest bit, and the others stand one higher
 pub lanes-low : (t : ℕ → Bool) (n : ℕ) → lanesTo t (suc n) ≡ 2 * lanesTo (λ i. t (suc i)) n + one (t 0)

@@ -1,6 +1,6 @@
 -- A gate is AND or XOR, with its pins or its result negated: for every kind and whatever the pins see, this is what the table says.
 -- Assumes nothing.
-use mathlib.Core.Path.{_≡_, _∙_}
+use mathlib.Core.Path.{_≡_, subst, _∙_}
 use mathlib.Core.Bool.{Bool, true, false, _||_}
 use Prim.Native.Nat.{ℕ, suc, _≤_}
 use native.Mathlib.Omega.{arith}
@@ -14,9 +14,8 @@ use Rattle.gates.proofs.Words.{not0, not1, clip}
 use Rattle.gates.proofs.Table.{tableAt}
 use Rattle.gates.proofs.Computed.{allGates, at-gates}
 use Rattle.lanes.specs.declared.Lanes.{Lanes}
-use Rattle.lanes.specs.Lanes.{GateLanes}
+use Rattle.lanes.specs.Lanes.{InLane, GateLanes}
 use Rattle.lanes.specs.Owed.{Lanewise, Lanewise2, turnsPins, turnsResult, turnedOf, secondOf, coreOf, shapeOf}
-use Rattle.lanes.proofs.Values.{laid-same}
 
 shapeTest : ℕ → ℕ → ℕ → Bool
 shapeTest k a b = eqb k 0 || eqb (shapeOf k a b) (tableAt k a b)
@@ -63,8 +62,8 @@ pub all-steps : {k : ℕ} {pins result : Bool} {a b s x y r z : Lanes}
     → Lanewise (turnedOf result) r z
     → GateLanes k a b z
 unfolding shapeOf
-all-steps {k} {pins} {result} some last p q first second other cored turned v w e d =
-    turned _ (cored _ _ (first v e) (other _ (second v w e d))) ∙ laid-same _ _ (λ i _. at (v i) (w i))
+all-steps {k} {pins} {result} some last p q first second other cored turned i v w l h m =
+    subst (InLane _ i) at (turned i _ l (cored i _ _ l (first i v l h) (other i _ l (second i v w l h m))))
   where
-    at : (m n : ℕ) → turnedOf result (coreOf k (turnedOf pins m) (turnedOf pins (secondOf k m n))) ≡ gateOf k (atPins m n)
-    at m n = rw (p, q) (shape-is k m n some last)
+    at : turnedOf result (coreOf k (turnedOf pins v) (turnedOf pins (secondOf k v w))) ≡ gateOf k (atPins v w)
+    at = rw (p, q) (shape-is k v w some last)

@@ -1,18 +1,19 @@
 -- What is done to words of lanes is done to the values that they carry.
 -- Assumes nothing.
-use mathlib.Core.Path.{_≡_, refl, sym, ap₂, _∙_}
+use mathlib.Core.Path.{_≡_, refl, ap, ap₂, _∙_}
 use mathlib.Core.Bool.{Bool, true, false, _&&_, _||_}
-use Prim.Native.Nat.{ℕ, zero, suc, _<_}
+use Prim.Native.Nat.{ℕ, zero, suc, _^_, _<_}
 use lib.Bits.{bitAnd, bitOr}
 use lib.Dec.{eqb}
+use Rattle.ground.specs.Choose.{one}
 use Rattle.gates.specs.Gate.{threeOf}
 use Rattle.gates.specs.Words.{notOf, andOf, xorOf}
 use Rattle.gates.proofs.Values.{unknown}
 use Rattle.gates.proofs.Words.{not0, not1}
 use Rattle.lanes.specs.declared.Lanes.{Lanes}
-use Rattle.lanes.specs.Lanes.{lanesOf, onesOf, zerosOf, laid}
+use Rattle.lanes.specs.Lanes.{lanesOf, laid, bitAt, InLane}
 use Rattle.lanes.specs.Owed.{turnedOf, Lanewise, Lanewise2}
-use Rattle.lanes.proofs.Bits.{lanes-same, lanes-and, lanes-or}
+use Rattle.lanes.proofs.Bits.{lanes-same, and-bit, or-bit, bits-of, of-bits}
 
 pub word-same : (t u : ℕ → Bool) → ((i : ℕ) → i < 64 → t i ≡ u i) → lanesOf t ≡ lanesOf u
 unfolding lanesOf
@@ -61,35 +62,48 @@ xor-says (suc (suc a)) b = simp (not0 a, not1 a, unknown a) (refl, refl)
 
 -- ---- and in every lane
 
--- two words whose lanes say where the values v are 1 and where they are 0
-laid-by : (v : ℕ → ℕ) (t u : ℕ → Bool) {x y : ℕ} → x ≡ lanesOf t → y ≡ lanesOf u → ((i : ℕ) → Says (t i) (u i) (v i)) → record { ones = x; zeros = y } ≡ laid v
-laid-by v t u p q says =
-    ap₂ (λ (x y : ℕ). record { ones = x; zeros = y }) (p ∙ word-same t _ (λ i _. says i .0)) (q ∙ word-same u _ (λ i _. says i .1))
+-- bits that say where v is 1 and where it is 0
+in-lane : (v i : ℕ) {t u : Bool} {x y : ℕ} → bitAt x i ≡ one t → bitAt y i ≡ one u → Says t u v → InLane (record { ones = x; zeros = y }) i v
+in-lane v i p q says = record { one-bit = p ∙ ap one (says .0); zero-bit = q ∙ ap one (says .1) }
 
 pub turned-lanes : {a : Lanes} → Lanewise (turnedOf true) a (record { ones = a .zeros; zeros = a .ones })
 unfolding turnedOf
-turned-lanes v e = laid-by (λ i. notOf (v i)) _ _ (rw e) (rw e) (λ i. not-says (v i))
+turned-lanes i v l h = in-lane (notOf v) i (h .zero-bit) (h .one-bit) (not-says v)
 
 pub as-they-are : {a : Lanes} → Lanewise (turnedOf false) a a
 unfolding turnedOf
-as-they-are v e = e ∙ laid-by (λ i. threeOf (v i)) _ _ refl refl (λ i. three-says (v i))
-
--- lanes in which one of two pairs of tests holds
-either-both : {x y z u : ℕ} (t s p q : ℕ → Bool) → x ≡ lanesOf t → y ≡ lanesOf s → z ≡ lanesOf p → u ≡ lanesOf q
-    → bitOr (bitAnd x y) (bitAnd z u) ≡ lanesOf (λ i. (t i && s i) || (p i && q i))
-either-both t s p q e f g h = rw (e, f, g, h, lanes-and t s, lanes-and p q) (lanes-or _ _)
+as-they-are i v l h = in-lane (threeOf v) i (h .one-bit) (h .zero-bit) (three-says v)
 
 module _ {a b : Lanes} where
   pub and-lanes : Lanewise2 andOf a b (record { ones = bitAnd (a .ones) (b .ones); zeros = bitOr (a .zeros) (b .zeros) })
-  and-lanes v w e q = laid-by (λ i. andOf (v i) (w i)) _ _ (rw (e, q) (lanes-and _ _)) (rw (e, q) (lanes-or _ _)) (λ i. and-says (v i) (w i))
+  and-lanes i v w l h k =
+      in-lane (andOf v w) i
+      (and-bit _ _ i (eqb v 1) (eqb w 1) (h .one-bit) (k .one-bit))
+      (or-bit _ _ i (eqb v 0) (eqb w 0) (h .zero-bit) (k .zero-bit))
+      (and-says v w)
 
   pub xor-lanes : Lanewise2 xorOf a b (record {
     ones = bitOr (bitAnd (a .ones) (b .zeros)) (bitAnd (a .zeros) (b .ones));
     zeros = bitOr (bitAnd (a .ones) (b .ones)) (bitAnd (a .zeros) (b .zeros));
   })
-  xor-lanes v w e q =
-      let a1 : a .ones ≡ onesOf v = rw e in
-      let a0 : a .zeros ≡ zerosOf v = rw e in
-      let b1 : b .ones ≡ onesOf w = rw q in
-      let b0 : b .zeros ≡ zerosOf w = rw q in
-      laid-by (λ i. xorOf (v i) (w i)) _ _ (either-both _ _ _ _ a1 b0 a0 b1) (either-both _ _ _ _ a1 b1 a0 b0) (λ i. xor-says (v i) (w i))
+  xor-lanes i v w l h k =
+      in-lane (xorOf v w) i
+      (or-bit _ _ i (eqb v 1 && eqb w 0) (eqb v 0 && eqb w 1)
+      (and-bit _ _ i (eqb v 1) (eqb w 0) (h .one-bit) (k .zero-bit))
+      (and-bit _ _ i (eqb v 0) (eqb w 1) (h .zero-bit) (k .one-bit)))
+      (or-bit _ _ i (eqb v 1 && eqb w 1) (eqb v 0 && eqb w 0)
+      (and-bit _ _ i (eqb v 1) (eqb w 1) (h .one-bit) (k .one-bit))
+      (and-bit _ _ i (eqb v 0) (eqb w 0) (h .zero-bit) (k .zero-bit)))
+      (xor-says v w)
+
+-- ---- all lanes together
+
+-- where lane i has the value v i, it carries it
+pub laid-carries : (v : ℕ → ℕ) (i : ℕ) → i < 64 → InLane (laid v) i (v i)
+laid-carries v i l = record { one-bit = bits-of (λ j. eqb (v j) 1) .bits i l; zero-bit = bits-of (λ j. eqb (v j) 0) .bits i l }
+
+-- and two words that carry these values are the words of them
+pub carries-laid : (v : ℕ → ℕ) (a : Lanes) → a .ones < 2 ^ 64 → a .zeros < 2 ^ 64 → ((i : ℕ) → i < 64 → InLane a i (v i)) → a ≡ laid v
+carries-laid v a f g h =
+    ap₂ (λ (x y : ℕ). record { ones = x; zeros = y }) (of-bits (record { fits = f; bits = λ i l. h i l .one-bit }))
+    (of-bits (record { fits = g; bits = λ i l. h i l .zero-bit }))

@@ -2,7 +2,7 @@
 -- Assumes nothing.
 use mathlib.Core.Path.{_≡_}
 use mathlib.Core.Bool.{Bool}
-use Prim.Native.Nat.{ℕ, zero, suc, _+_, _*_, _^_}
+use Prim.Native.Nat.{ℕ, zero, suc, _+_, _*_, _/_, _%_, _^_, _<_}
 use lib.Dec.{eqb}
 use Rattle.ground.specs.Choose.{one}
 use Rattle.gates.specs.Gate.{gateOf, atPins}
@@ -27,6 +27,17 @@ zerosOf v = lanesOf (λ i. eqb (v i) 0)
 abbrev pub laid : (ℕ → ℕ) → Lanes
 laid v = record { ones = onesOf v; zeros = zerosOf v }
 
--- the word rule: where lane i of the sources carries v i and w i, lane i of the result carries what the gate rule says
+-- ---- the word rule
+
+-- bit i of a number
+abbrev pub bitAt : ℕ → ℕ → ℕ
+bitAt w i = w / 2 ^ i % 2
+
+-- lane i carries the value v
+pub record InLane (a : Lanes) (i v : ℕ) : Type 0 where
+  pub one-bit : bitAt (a .ones) i ≡ one (eqb v 1)
+  pub zero-bit : bitAt (a .zeros) i ≡ one (eqb v 0)
+
+-- where lane i of the sources carries v and w, lane i of the result carries what the gate rule says, whatever is in the other lanes
 abbrev pub GateLanes : ℕ → Lanes → Lanes → Lanes → Type 0
-GateLanes kind a b r = (v w : ℕ → ℕ) → a ≡ laid v → b ≡ laid w → r ≡ laid (λ i. gateOf kind (atPins (v i) (w i)))
+GateLanes kind a b r = (i v w : ℕ) → i < 64 → InLane a i v → InLane b i w → InLane r i (gateOf kind (atPins v w))

@@ -1,21 +1,20 @@
 -- What the functions of the lanes owe each other; no reader of the promises needs it.
 -- Assumes nothing.
-use mathlib.Core.Path.{_≡_}
 use mathlib.Core.Bool.{Bool, _||_}
-use Prim.Native.Nat.{ℕ}
+use Prim.Native.Nat.{ℕ, _<_}
 use lib.Dec.{eqb, leb}
 use Rattle.ground.specs.Choose.{choose}
 use Rattle.gates.specs.Gate.{threeOf}
 use Rattle.gates.specs.Words.{notOf, andOf, xorOf}
 use Rattle.lanes.specs.declared.Lanes.{Lanes}
-use Rattle.lanes.specs.Lanes.{laid}
+use Rattle.lanes.specs.Lanes.{InLane}
 
 -- what is done to one value, or two, is done in every lane
 abbrev pub Lanewise : (ℕ → ℕ) → Lanes → Lanes → Type 0
-Lanewise f a r = (v : ℕ → ℕ) → a ≡ laid v → r ≡ laid (λ i. f (v i))
+Lanewise f a r = (i v : ℕ) → i < 64 → InLane a i v → InLane r i (f v)
 
 abbrev pub Lanewise2 : (ℕ → ℕ → ℕ) → Lanes → Lanes → Lanes → Type 0
-Lanewise2 f a b r = (v w : ℕ → ℕ) → a ≡ laid v → b ≡ laid w → r ≡ laid (λ i. f (v i) (w i))
+Lanewise2 f a b r = (i v w : ℕ) → i < 64 → InLane a i v → InLane b i w → InLane r i (f v w)
 
 -- ---- a gate as AND or XOR, with its pins or its result negated
 

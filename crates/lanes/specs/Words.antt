@@ -1,13 +1,10 @@
--- Words of 64 lanes by their bits; the definitions are proved to say the same.
+-- Words of 64 lanes by their bits; `lanesOf` is proved to say the same.
 -- Assumes nothing.
 use mathlib.Core.Path.{_≡_}
 use mathlib.Core.Bool.{Bool}
-use Prim.Native.Nat.{ℕ, _/_, _%_, _^_, _<_}
+use Prim.Native.Nat.{ℕ, _^_, _<_}
 use Rattle.ground.specs.Choose.{one}
-
--- bit i of a number
-abbrev pub bitAt : ℕ → ℕ → ℕ
-bitAt w i = w / 2 ^ i % 2
+use Rattle.lanes.specs.Lanes.{bitAt}
 
 -- of the 64 bits of w, bit i is set exactly if the test holds at i
 pub record Bits (t : ℕ → Bool) (w : ℕ) : Type 0 where

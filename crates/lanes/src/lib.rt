@@ -1,6 +1,6 @@
 // Sixty-four lanes of three values in two words, and the gate rule on them: every lane at once.
 ghost use mathlib.Core.Path.{_≡_};
-ghost use Prim.Native.Nat.{ℕ, _≤_};
+ghost use Prim.Native.Nat.{_≤_};
 ghost use Rattle.gates.specs.Gate.{lastKind};
 ghost use Rattle.lanes.specs.Lanes.{laid, GateLanes};
 ghost use Rattle.lanes.specs.Owed.{turnsPins, turnsResult, turnedOf, secondOf, coreOf, Lanewise, Lanewise2};
@@ -90,7 +90,7 @@ fn core(kind: u8, a: Lanes, b: Lanes) -> Lanes
 }
 
 // The value of a gate whose pins see a and b, in every lane; a kind with one pin takes no notice of b. A gate is AND or XOR, with its pins or its
-// result negated: no kind has a branch of its own.
+// result negated: a few choices, and no jump by the kind.
 pub fn gate_lanes(kind: u8, a: Lanes, b: Lanes) -> Lanes
     requires { ⌜ (1 ≤ kind) × (kind ≤ lastKind) ⌝ }
     ensures { λ r. ⌜ GateLanes kind a b r ⌝ }

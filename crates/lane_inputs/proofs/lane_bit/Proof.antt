@@ -1,8 +1,7 @@
 -- `lane_inputs::lane_bit` meets its contract: a bit shifted to its lane, or none.
 -- Assumes nothing.
-use mathlib.Core.Path.{_≡_, refl, sym, _∙_}
-use Prim.Native.Nat.{_*_, _^_}
-use native.Mathlib.Nat.{one-mul, zero-mul}
+use mathlib.Core.Path.{sym}
+use native.Mathlib.Nat.{zero-mul}
 use native.Mathlib.Omega.{arith}
 use borrow.Author.Needs.{needs}
 use lib.Pow.{shl-exact}

@@ -1,10 +1,7 @@
 -- `lane_lines::fault_lines` meets its contract: the fault's line is set, and the lines after it are simulated as any.
 -- Assumes nothing.
-use lib.ListN.{length-set}
-use mathlib.Core.Path.{_∙_}
 use native.Mathlib.Omega.{arith}
 use borrow.Author.Needs.{needs}
-use Rattle.lane_lines.proofs.Words.{put-long}
 use Rattle.lane_lines.proofs.Faults.{fault-lines-made}
 use Rattle.lane_lines.proofs.fault_lines.Statement.{statement}
 use Rattle.lane_lines.proofs.fault_lines.Tie as tie

@@ -15,7 +15,7 @@ fault-lines-requires c κs =
     let s = c .before .before .before .before .before .before .before in
     let copied = c .before .before .before .copy-words in
     let long : length (copied .last .0) ≡ 2 * s .args .n + 2 * s .args .n = copied .kept .0 ∙ omega (arith, s .pre .four) in
-    (rw (lent-long (2 * s .args .n) (copied .last .0) long) (record { ordered = s .pre .ordered; kinds = s .pre .kinds; two = refl }), s .pre .line, s .pre .value)
+    (rw (lent-long (2 * s .args .n) (copied .last .0) long) (s .pre .lines), s .pre .line, s .pre .value)
 
 returns : tie.Need-returns
 returns c =

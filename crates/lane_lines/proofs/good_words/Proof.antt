@@ -4,7 +4,7 @@ use lib.Seq.{length-take-le}
 use lib.ListN.{drop}
 use Prim.Native.Nat.{ℕ, _*_}
 use mathlib.Core.List.{List, _++_}
-use mathlib.Core.Path.{sym, ap, _∙_}
+use mathlib.Core.Path.{sym, ap}
 use native.Mathlib.Omega.{arith}
 use borrow.Author.Needs.{needs}
 use Rattle.lane_lines.proofs.good_words.Statement.{statement}

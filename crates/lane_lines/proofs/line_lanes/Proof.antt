@@ -12,7 +12,7 @@ use Rattle.lane_lines.proofs.line_lanes.Tie as tie
 returns : tie.Need-returns
 returns c =
     let s = c .before .before .before .before .before in
-    input-done unforced (s .pre .0) (s .pre .1) (c .before .if1 .taken) (as-read (c .lanes-at .ensures))
+    input-done unforced (s .pre .0) (s .pre .1) (record { ones-fit = omega (arith, c .lanes-at .ok); zeros-fit = omega (arith, c .lanes-at .ok) }) (c .before .if1 .taken) (as-read (c .lanes-at .ensures))
 
 lanes-at-requires-2 : tie.Need-lanes-at-requires-2
 lanes-at-requires-2 c κs =
@@ -35,7 +35,7 @@ returns-2 c =
     let second = c .before in
     let first = second .before .before in
     let w = s .args .words .now in
-    gate-done unforced (s .pre .0) (s .pre .1) (first .before .before .if1 .left)
+    gate-done unforced (s .pre .0) (s .pre .1) (record { ones-fit = omega (arith, c .gate-lanes .ok); zeros-fit = omega (arith, c .gate-lanes .ok) }) (first .before .before .if1 .left)
     (as-read (first .lanes-at2 .ensures ∙ ap (lanesAt w) (first .before .source .ensures)))
     (as-read (second .lanes-at3 .ensures ∙ ap (lanesAt w) (second .before .source2 .ensures))) (c .gate-lanes .ensures) (as-read refl)
 

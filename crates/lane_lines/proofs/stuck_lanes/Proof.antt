@@ -10,7 +10,8 @@ use Rattle.lane_lines.proofs.stuck_lanes.Tie as tie
 returns : tie.Need-returns
 returns c =
     let s = c .before .before .before .before .before .before in
-    input-done (stuckAt (s .args .fault)) (s .pre .0) (s .pre .1) (c .before .before .if1 .taken) (rw (c .before .lanes-at .ensures) at (c .seen-lanes .ensures))
+    input-done (stuckAt (s .args .fault)) (s .pre .0) (s .pre .1)
+    (record { ones-fit = omega (arith, c .seen-lanes .ok); zeros-fit = omega (arith, c .seen-lanes .ok) }) (c .before .before .if1 .taken) (rw (c .before .lanes-at .ensures) at (c .seen-lanes .ensures))
 
 lanes-at-requires-2 : tie.Need-lanes-at-requires-2
 lanes-at-requires-2 c κs =
@@ -33,7 +34,8 @@ returns-2 c =
     let first = second .before .before in
     let sources = first .before .before in
     let s = sources .before .before .before .before .before .before in
-    gate-done (stuckAt (s .args .fault)) (s .pre .0) (s .pre .1) (sources .before .before .if1 .left)
+    gate-done (stuckAt (s .args .fault)) (s .pre .0) (s .pre .1)
+    (record { ones-fit = omega (arith, c .seen-lanes4 .ok); zeros-fit = omega (arith, c .seen-lanes4 .ok) }) (sources .before .before .if1 .left)
     (rw (first .before .lanes-at2 .ensures, sources .before .source .ensures) at (first .seen-lanes2 .ensures))
     (rw (second .before .lanes-at3 .ensures, sources .source2 .ensures) at (second .seen-lanes3 .ensures)) (c .before .gate-lanes .ensures)
     (c .seen-lanes4 .ensures)

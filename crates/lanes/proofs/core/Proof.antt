@@ -8,11 +8,11 @@ use Rattle.lanes.proofs.core.Tie as tie
 
 returns : tie.Need-returns
 unfolding coreOf
-returns c v w e q = simp (le-leb _ _ (c .before .if1 .taken)) (c .odd .ensures v w e q)
+returns c i v w l h k = simp (le-leb _ _ (c .before .if1 .taken)) (c .odd .ensures i v w l h k)
 
 returns-2 : tie.Need-returns-2
 unfolding coreOf
-returns-2 c v w e q = simp (lt-leb _ _ (c .before .if1 .left)) (c .both .ensures v w e q)
+returns-2 c i v w l h k = simp (lt-leb _ _ (c .before .if1 .left)) (c .both .ensures i v w l h k)
 
 pub core-spec : {M : Type 1} → statement M
 core-spec = tie.close (tie.spec (λ c κs. search needs) returns (λ c κs. search needs) returns-2)

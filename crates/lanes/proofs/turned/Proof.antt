@@ -1,6 +1,5 @@
 -- `lanes::turned` meets its contract: the words change places, or stay.
 -- Assumes nothing.
-use Rattle.lanes.specs.Owed.{Lanewise, turnedOf}
 use Rattle.lanes.proofs.Values.{turned-lanes, as-they-are}
 use Rattle.lanes.proofs.turned.Statement.{statement}
 use Rattle.lanes.proofs.turned.Tie as tie
