@@ -30,7 +30,7 @@ pub record GroupCount (count groups : ℕ) : Type 0 where
   pub begun : (g : ℕ) → g < groups → 64 * g < count
   pub enough : count ≤ 64 * groups
 
--- their rows are put into the table
+-- the rows of so many patterns from one on are put into the table
 pub record PutGroupDone (c : List ℕ) (n m : ℕ) (fs ps : List ℕ) (from rows : ℕ) (t t′ w′ : List ℕ) : Type 0 where
   pub table-is :
       t′ ≡ take (from * faultCount fs) t ++ (tableOf c n m fs (patternsFrom m ps from rows) ++ drop (from * faultCount fs + rows * faultCount fs) t)
