@@ -213,6 +213,65 @@ static void test_compact(void) {
     }
 }
 
+/* Example A's table with marks of another tool, with other counts and lengths; where a byte of the table is bad, it is this one. */
+static const struct {
+    const char *name;
+    uint64_t faults, patterns;
+    size_t table;
+    int bad;
+    uint8_t marks[5];
+    size_t len;
+    uint32_t returned;
+    uint64_t numbers[4];
+} audits[] = {
+    {"audit of the compactor's list", 4, 4, 16, -1, {1, 1, 0, 0}, 4, ULLIMAQSU_FINE, {ULLIMAQSU_SOUND, 0, 0, 0}},
+    {"audit of another sound list", 4, 4, 16, -1, {1, 0, 1, 0}, 4, ULLIMAQSU_FINE, {ULLIMAQSU_SOUND, 0, 0, 0}},
+    {"two marks above 1", 4, 4, 16, -1, {0, 1, 2, 255}, 4, ULLIMAQSU_FINE, {ULLIMAQSU_BAD_MARK, 2, 0, 0}},
+    {"two faults are lost", 4, 4, 16, -1, {1, 0, 0, 1}, 4, ULLIMAQSU_FINE, {ULLIMAQSU_LOST_FAULT, 1, 0, 0}},
+    {"nothing is kept", 4, 4, 16, -1, {0, 0, 0, 0}, 4, ULLIMAQSU_FINE, {ULLIMAQSU_LOST_FAULT, 0, 0, 0}},
+    {"three patterns can be spared", 4, 4, 16, -1, {1, 1, 1, 1}, 4, ULLIMAQSU_FINE, {ULLIMAQSU_SPARE_PATTERN, 1, 0, 0}},
+    {"one pattern can be spared", 4, 4, 16, -1, {1, 0, 1, 1}, 4, ULLIMAQSU_FINE, {ULLIMAQSU_SPARE_PATTERN, 3, 0, 0}},
+    {"no faults", 0, 4, 0, -1, {1, 1, 0, 0}, 4, ULLIMAQSU_TABLE_SIZE, {0, 0, 0, 0}},
+    {"257 patterns", 1, 257, 257, -1, {1, 1, 0, 0}, 4, ULLIMAQSU_TABLE_SIZE, {0, 0, 0, 0}},
+    {"counts whose product is 0 in 64 bits", (uint64_t)1 << 32, (uint64_t)1 << 32, 0, -1, {0}, 0, ULLIMAQSU_TABLE_SIZE, {0, 0, 0, 0}},
+    {"a table too small, and nothing after it right", 4, 4, 15, 7, {2}, 3, ULLIMAQSU_TABLE_SIZE, {0, 0, 0, 0}},
+    {"an entry above 2, too few marks, and a bad one", 4, 4, 16, 7, {2}, 3, ULLIMAQSU_TABLE_BYTE, {7, 0, 0, 0}},
+    {"too few marks, and a bad one", 4, 4, 16, -1, {2}, 3, ULLIMAQSU_BUFFER_SIZE, {0, 0, 0, 0}},
+    {"too many marks", 4, 4, 16, -1, {1, 1, 0, 0, 0}, 5, ULLIMAQSU_BUFFER_SIZE, {0, 0, 0, 0}},
+};
+
+static void test_audit(void) {
+    for (size_t i = 0; i < sizeof audits / sizeof *audits; i++)
+        for (size_t len = 0; len <= 40; len++) {
+            uint8_t table[257] = {0}, before[257], marks[5], area[42];
+            for (size_t k = 0; k < sizeof table_of_a; k++) table[k] = table_of_a[k];
+            if (audits[i].bad >= 0) table[audits[i].bad] = 3;
+            for (size_t k = 0; k < sizeof table; k++) before[k] = table[k];
+            for (size_t k = 0; k < sizeof marks; k++) marks[k] = audits[i].marks[k];
+            fill(area, sizeof area);
+            uint32_t returned = ullimaqsu_audit(audits[i].faults, audits[i].patterns, table, audits[i].table, marks, audits[i].len, area + 1, len);
+            expect(returned == (len == 32 ? audits[i].returned : ULLIMAQSU_BUFFER_SIZE), audits[i].name);
+            expect(len == 32 ? answers(area + 1, audits[i].numbers) : stays(area + 1, 32), audits[i].name);
+            expect(stays(area, 1) && stays(area + 33, 9), "the bytes around the answer area stay");
+            expect(same(table, before, sizeof table) && same(marks, audits[i].marks, sizeof marks), "table and marks stay");
+        }
+}
+
+/* FUP and FFF: the first tells the first fault from the third, the second alone fails the second fault. PPF and UPF: the first tells the first
+   fault from the third too, but as no pattern fails the first fault, that is no need. */
+static void test_lost_pair(void) {
+    static const uint8_t
+        fup_fff[] = {F, ULLIMAQSU_UNKNOWN, P, F, F, F},
+        undetected[] = {P, P, F, ULLIMAQSU_UNKNOWN, P, F};
+    static const uint8_t first[] = {1, 0}, second[] = {0, 1}, both[] = {1, 1};
+    static const uint64_t fault_1[4] = {ULLIMAQSU_LOST_FAULT, 1}, pair_0_2[4] = {ULLIMAQSU_LOST_PAIR, 0, 2}, sound[4] = {ULLIMAQSU_SOUND};
+    uint8_t area[32];
+    expect(ullimaqsu_audit(3, 2, fup_fff, 6, first, 2, area, 32) == ULLIMAQSU_FINE && answers(area, fault_1), "FUP kept");
+    expect(ullimaqsu_audit(3, 2, fup_fff, 6, second, 2, area, 32) == ULLIMAQSU_FINE && answers(area, pair_0_2), "FFF kept");
+    expect(ullimaqsu_audit(3, 2, fup_fff, 6, both, 2, area, 32) == ULLIMAQSU_FINE && answers(area, sound), "FUP and FFF kept");
+    expect(ullimaqsu_audit(3, 2, undetected, 6, second, 2, area, 32) == ULLIMAQSU_FINE && answers(area, sound), "pairs with an undetected fault");
+}
+
 /* Example A and the circuit whose output is always 0, for one of these faults, with other lengths. */
 static const uint8_t always_0[] = {INPUT, NOT_OF(0, 0), LINE(ULLIMAQSU_AND, 1, 0, 1)};
 static const uint8_t line_3_at_1[] = {3, 0, 0, 1, 0, 0, 0, 0}, line_3_at_0[] = {3, 0, 0, 0, 0, 0, 0, 0}, line_2_at_0[] = {2, 0, 0, 0, 0, 0, 0, 0};
@@ -406,6 +465,8 @@ int main(void) {
     test_lanes();
     test_entries();
     test_compact();
+    test_audit();
+    test_lost_pair();
     test_search();
     test_search_all();
     test_outcomes();

@@ -47,7 +47,7 @@
  *   A name is any 1 to 16 letters, digits or underscores, the words above among them. It is defined once, as an input or a gate, anywhere in
  *   the text. Spaces, tabs and CR may stand anywhere but inside a word.
  *
- * Kinds, entries, outcomes and refusals are numbers; each has a name below.
+ * Kinds, entries, outcomes, findings and refusals are numbers; each has a name below.
  */
 #ifndef ULLIMAQSU_H
 #define ULLIMAQSU_H
@@ -64,8 +64,8 @@ typedef __UINT64_TYPE__ uint64_t;
 #endif
 
 /* Refusals: name, number, what it says, and what its place counts ("" where the place is always 0). They are checked in this order, and the
-   first that applies is given, with the lowest place; but the compactor checks 12 and 13 before the size of the marks, and the bench reader
-   14 to 16 first, then 1, 4 and 5 on the records that it would write, then the size of its buffer.
+   first that applies is given, with the lowest place; but compactor and audit check 12 and 13 before the size of the marks, and the bench
+   reader 14 to 16 first, then 1, 4 and 5 on the records that it would write, then the size of its buffer.
    14: the place is the first byte such that no right text begins with the bytes up to it, or byte 32,768, or the length of a text that ends
    early. 15: the first byte of the name, where it is used or defined a second time. 16: gates alone are counted, from 0, in the text's order.
    What prints these words takes them from here, as examples/front_end.c does. */
@@ -107,6 +107,15 @@ enum ullimaqsu_entry {
     ULLIMAQSU_PASS = 0,   /* at every compared output the faulty value is known and equal: however the X's are filled, no compared output differs */
     ULLIMAQSU_FAIL = 1,   /* at some compared output the faulty value is known and differs: however the X's are filled, that output differs */
     ULLIMAQSU_UNKNOWN = 2 /* neither */
+};
+
+/* What is found of a kept list: that it is sound, or the first of the others that holds. */
+enum ullimaqsu_finding {
+    ULLIMAQSU_SOUND = 0,        /* none of the others: every need is met, and no kept pattern can be spared */
+    ULLIMAQSU_BAD_MARK = 1,     /* a mark is neither 0 nor 1 */
+    ULLIMAQSU_LOST_FAULT = 2,   /* a detected fault is failed by no kept pattern */
+    ULLIMAQSU_LOST_PAIR = 3,    /* two detected faults that are told apart are told apart by no kept pattern */
+    ULLIMAQSU_SPARE_PATTERN = 4 /* without this pattern the others that are kept still meet every need */
 };
 
 /* What a line is. An input has no source, a buffer and a NOT have one, the others two. */
@@ -164,6 +173,16 @@ uint32_t ullimaqsu_compact(uint64_t fault_count, uint64_t pattern_count,
                            const uint8_t *table, size_t table_len,
                            uint8_t *marks, size_t marks_len,
                            uint8_t *answer, size_t answer_len);
+
+/* The audit of a kept list, whichever tool has made it. Refusals 12, 13, then 10.
+   Marks and needs are those of the compactor, whose own lists are always sound; others may be sound too. Where several findings hold, the
+   one with the lowest number above 0 is given, at its lowest place: of lost pairs that with the lowest first fault, and of these the one with
+   the lowest second. Nothing but the answer is written.
+   Answer: the finding, and its place, counted from 0: the mark; the fault; the lower fault of the pair and the higher one; the pattern. */
+uint32_t ullimaqsu_audit(uint64_t fault_count, uint64_t pattern_count,
+                         const uint8_t *table, size_t table_len,
+                         const uint8_t *marks, size_t marks_len,
+                         uint8_t *answer, size_t answer_len);
 
 /* The test search, for one fault. Refusals 1 to 7 and 10. N is the number of lines, n of inputs.
    A node is a pattern; the first is all X. A node that fails is the test. One at which every output is known in both circuits and equal

@@ -17,6 +17,7 @@ macro_rules! entries {
             Compact = ullimaqsu_compact(
                 fault_count: u64, pattern_count: u64, table: &[u8], marks: &mut [u8], answer: &mut [u8]
             );
+            Audit = ullimaqsu_audit(fault_count: u64, pattern_count: u64, table: &[u8], marks: &[u8], answer: &mut [u8]);
             Search = ullimaqsu_search(
                 circuit: &[u8], fault: &[u8], budget: u64, test: &mut [u8], work: &mut [u8], answer: &mut [u8]
             );

@@ -54,6 +54,35 @@ pub struct Search {
     pub nodes: u64,
 }
 
+/// What an audit finds of a kept list: that it is sound, or the first of the others that holds, at its lowest place.
+#[derive(Clone, Copy, Debug, PartialEq, Eq)]
+pub enum Finding {
+    /// Every need is met, and no kept pattern can be spared.
+    Sound,
+    /// This mark is neither 0 nor 1.
+    BadMark(u64),
+    /// This fault is detected, and failed by no kept pattern.
+    LostFault(u64),
+    /// These two faults, the lower one first, are detected and told apart, and told apart by no kept pattern.
+    LostPair(u64, u64),
+    /// Without this pattern the others that are kept still meet every need.
+    SparePattern(u64),
+}
+
+impl Finding {
+    /// The finding that an entry gave as these numbers.
+    fn numbered([number, first, second, _]: [u64; 4]) -> Finding {
+        match number {
+            0 => Finding::Sound,
+            1 => Finding::BadMark(first),
+            2 => Finding::LostFault(first),
+            3 => Finding::LostPair(first, second),
+            4 => Finding::SparePattern(first),
+            other => panic!("an audit has five findings, and {other} is none"),
+        }
+    }
+}
+
 /// The numbers of a clause list.
 #[derive(Clone, Copy, Debug, PartialEq, Eq)]
 pub struct Clauses {
@@ -133,6 +162,23 @@ pub fn compact(fault_count: u64, pattern_count: u64, table: &[u8], marks: &mut [
     let mut area = [0; 32];
     let returned = enter(Call::Compact { fault_count, pattern_count, table, marks, answer: &mut area });
     answered(returned, area).map(|_| ())
+}
+
+/// The audit of a kept list, whichever tool has made it: the first thing that is wrong with the marks of a table, or that they are sound. The
+/// lists of [`compact`] always are, and others may be so too.
+///
+/// ```
+/// use ullimaqsu::{audit, Finding};
+/// let table = [1, 0, 0, 1, 0, 1, 1, 0, 0, 1, 1, 0, 0, 0, 0, 0];
+/// assert_eq!(audit(4, 4, &table, &[1, 0, 1, 0])?, Finding::Sound);
+/// assert_eq!(audit(4, 4, &table, &[1, 0, 0, 0])?, Finding::LostFault(1));
+/// assert_eq!(audit(4, 4, &table, &[1, 1, 1, 0])?, Finding::SparePattern(1));
+/// # Ok::<(), ullimaqsu::Refusal>(())
+/// ```
+pub fn audit(fault_count: u64, pattern_count: u64, table: &[u8], marks: &[u8]) -> Result<Finding, Refusal> {
+    let mut area = [0; 32];
+    let returned = enter(Call::Audit { fault_count, pattern_count, table, marks, answer: &mut area });
+    answered(returned, area).map(Finding::numbered)
 }
 
 /// The test search for one fault, looking at no more nodes than the budget. The test buffer, one byte for each input, is written only for a

@@ -3,13 +3,19 @@
 //! An accepted call with 16 faults or more clears room for 65,536 pairs, which takes half a millisecond over the bridge: so there are only
 //! thousands of them.
 mod harness;
+#[path = "harness/table_defects.rs"]
+mod table_defects;
+#[path = "wrong/needs.rs"]
+mod wrong;
 
-use cases::tables::{of_density, small, table, DENSITIES};
+use cases::tables::{of_density, small, table, table_1_of_paper_000, DENSITIES};
 use cases::{damage, drawn, Random};
 use harness::{compare, first_defect_is_told, wrong_programs_are_seen, Case, Compact, Defect};
-use second::compact::{kept, needs, Need, Row};
+use second::compact::{kept, meet_all, needs, read, without, Need, Row};
 use second::entries::{self, Seen};
 use second::Entry;
+use table_defects::table_defects;
+use wrong::{faults_alone, pairs_alone, read_as, undetected_too};
 
 impl Case for Compact {
     fn second(&self) -> Seen {
@@ -35,24 +41,11 @@ fn sized(random: &mut Random, faults: usize, patterns: usize) -> Compact {
     lend(random, faults, table)
 }
 
-/// Counts that are not what they were, among them such as overflow when they are multiplied.
-fn count(random: &mut Random, right: u64) -> u64 {
-    random.pick(&[0, 256, 257, 1 << 32, 1 << 63, u64::MAX, right.wrapping_add(1), right.wrapping_sub(1), right.wrapping_add(1 << 32)])
-}
-
 /// One thing or several are wrong.
 fn damaged(random: &mut Random) -> Compact {
     let mut case = sound(random);
-    damage::several(random, &mut case, |random, case| match random.below(8) {
-        0 => case.fault_count = count(random, case.fault_count),
-        1 => case.pattern_count = count(random, case.pattern_count),
-        2 => case.table.resize(damage::size(random, case.table.len()), 1),
-        3..=4 if !case.table.is_empty() => {
-            let place = random.below(case.table.len());
-            case.table[place] = random.pick(&[3, 4, 255]);
-        }
-        5 => case.answer.resize(random.pick(&[0, 31, 33, 64]), 7),
-        _ => case.marks.resize(damage::size(random, case.marks.len()), 7),
+    damage::several(random, &mut case, |random, Compact { fault_count, pattern_count, table, marks, answer }| {
+        damage::table(random, [fault_count, pattern_count], [table, marks, answer]);
     });
     case
 }
@@ -79,31 +72,18 @@ fn boundaries_and_largest() {
     assert_eq!(compare("compact, 256 by 256", largest.into_iter()).seen(), [0]);
 }
 
-/// Table 1 of paper 000. Our copy of it has lost its columns; the example around it leaves two tables, which differ by exchanging v2 and v3, and
-/// both are compacted to the list that the paper finds: v1, v2, v3 and v5.
+/// The list that the paper finds: v1, v2, v3 and v5.
 #[test]
-fn table_1_of_paper_000() {
-    let v1 = [1, 0, 0, 0, 0, 0, 0];
-    let v2 = [0, 1, 0, 0, 0, 0, 0];
-    let v3 = [0, 1, 1, 1, 0, 0, 1];
-    let v4 = [0, 1, 1, 1, 1, 1, 1];
-    let v5 = [0, 0, 0, 0, 1, 1, 1];
-    for table in [[v1, v2, v3, v4, v5], [v1, v3, v2, v4, v5]] {
+fn paper_000() {
+    for table in table_1_of_paper_000() {
         let mut marks = [9; 5];
-        assert_eq!(ullimaqsu::compact(7, 5, &table.concat(), &mut marks), Ok(()));
+        assert_eq!(ullimaqsu::compact(7, 5, &table, &mut marks), Ok(()));
         assert_eq!(marks, [1, 1, 1, 0, 1]);
     }
 }
 
 /// What can be wrong, in the order in which it is looked for.
-const DEFECTS: [Defect<Compact>; 6] = [
-    (10, |case| case.answer.push(0)),
-    (12, |case| case.fault_count += 1),
-    (12, |case| case.pattern_count = 0),
-    (12, |case| case.table.push(0)),
-    (13, |case| case.table[2] = 3),
-    (10, |case| case.marks.push(0)),
-];
+const DEFECTS: [Defect<Compact>; 6] = table_defects!();
 
 #[test]
 fn two_defects_at_once() {
@@ -115,8 +95,7 @@ fn two_defects_at_once() {
 fn by(case: &Compact, choose: fn(&[Row]) -> Vec<usize>) -> Seen {
     let mut seen = case.second();
     if seen.returned == 0 {
-        let entry = |&byte: &u8| [Entry::Pass, Entry::Fail, Entry::Unknown][usize::from(byte)];
-        let rows: Vec<Row> = case.table.chunks_exact(case.fault_count as usize).map(|row| row.iter().map(entry).collect()).collect();
+        let rows = read(case.fault_count, case.pattern_count, &case.table, case.marks.len()).expect("accepted");
         let kept = choose(&rows);
         *seen.lent[0].u8() = (0..rows.len()).map(|pattern| u8::from(kept.contains(&pattern))).collect();
     }
@@ -126,19 +105,13 @@ fn by(case: &Compact, choose: fn(&[Row]) -> Vec<usize>) -> Seen {
 /// The process over other needs, in this order of patterns.
 fn process(table: &[Row], needs: &[Need], order: impl Iterator<Item = usize>) -> Vec<usize> {
     order.fold((0..table.len()).collect(), |kept: Vec<usize>, pattern| {
-        let without: Vec<usize> = kept.iter().copied().filter(|&other| other != pattern).collect();
-        let met = needs.iter().all(|need| need.is_met(without.iter().map(|&pattern| &table[pattern])));
-        if met {
-            without
+        let others = without(&kept, pattern);
+        if meet_all(table, &others, needs) {
+            others
         } else {
             kept
         }
     })
-}
-
-fn read_as(table: &[Row], unknown: Entry) -> Vec<Row> {
-    let entry = |&entry: &Entry| if entry == Entry::Unknown { unknown } else { entry };
-    table.iter().map(|row| row.iter().map(entry).collect()).collect()
 }
 
 type Wrong = (&'static str, fn(&Compact) -> Seen);
@@ -147,25 +120,10 @@ type Wrong = (&'static str, fn(&Compact) -> Seen);
 const WRONG: [Wrong; 8] = [
     ("keeps everything", |case| by(case, |table| (0..table.len()).collect())),
     ("goes from the first pattern to the last", |case| by(case, |table| process(table, &needs(table), 0..table.len()))),
-    ("forgets the first need", |case| {
-        by(case, |table| {
-            let pairs: Vec<_> = needs(table).into_iter().filter(|need| matches!(need, Need::Apart(..))).collect();
-            process(table, &pairs, (0..table.len()).rev())
-        })
-    }),
-    ("forgets the pairs", |case| {
-        by(case, |table| {
-            let detected: Vec<_> = needs(table).into_iter().filter(|need| matches!(need, Need::Detected(_))).collect();
-            process(table, &detected, (0..table.len()).rev())
-        })
-    }),
+    ("forgets the first need", |case| by(case, |table| process(table, &pairs_alone(table), (0..table.len()).rev()))),
+    ("forgets the pairs", |case| by(case, |table| process(table, &faults_alone(table), (0..table.len()).rev()))),
     ("needs pairs with a fault that is not detected", |case| {
-        by(case, |table| {
-            let faults = table[0].len();
-            let pairs = (0..faults).flat_map(|other| (0..other).map(move |one| Need::Apart(one, other)));
-            let more: Vec<_> = needs(table).into_iter().chain(pairs.filter(|need| need.is_met(table.iter()))).collect();
-            process(table, &more, (0..table.len()).rev())
-        })
+        by(case, |table| process(table, &undetected_too(table), (0..table.len()).rev()))
     }),
     ("reads unknown as pass", |case| by(case, |table| kept(&read_as(table, Entry::Pass)))),
     ("reads unknown as fail", |case| by(case, |table| kept(&read_as(table, Entry::Fail)))),

@@ -10,7 +10,7 @@ mod x86;
 use cases::circuits::{self, example_a, record, INPUT};
 use command::{run, ullimaqsu};
 use directory::{root, Directory};
-use second::{program, Entry, Files};
+use second::{program, Entry, Files, Finding};
 use std::collections::BTreeMap;
 use std::fs;
 use std::path::Path;
@@ -55,6 +55,14 @@ fn numbers_elsewhere() {
     assert!(outcomes.iter().all(|&(name, outcome)| number(name) == outcome as u64));
     let entries = [("PASS", Entry::Pass), ("FAIL", Entry::Fail), ("UNKNOWN", Entry::Unknown)];
     assert!(entries.iter().all(|&(name, entry)| number(name) == entry as u64));
+    let findings = [
+        ("SOUND", Finding::Sound),
+        ("BAD_MARK", Finding::BadMark(0)),
+        ("LOST_FAULT", Finding::LostFault(0)),
+        ("LOST_PAIR", Finding::LostPair(0, 1)),
+        ("SPARE_PATTERN", Finding::SparePattern(0)),
+    ];
+    assert!(findings.iter().all(|&(name, finding)| number(name) == finding.numbers()[0]));
     let kinds = [
         ("INPUT", INPUT),
         ("BUFFER", circuits::BUFFER),
@@ -67,7 +75,7 @@ fn numbers_elsewhere() {
         ("XNOR", circuits::XNOR),
     ];
     assert!(kinds.iter().all(|&(name, kind)| number(name) == kind.into()));
-    let named = 1 + refusals().count() + outcomes.len() + entries.len() + kinds.len();
+    let named = 1 + refusals().count() + outcomes.len() + entries.len() + findings.len() + kinds.len();
     assert_eq!((number("FINE"), names.len()), (0, named), "each name stands once, and no other number has one");
 }
 

@@ -1,3 +1,3 @@
 pub mod Says
-pub mod Loops
+pub mod Turns
 pub mod Promise

@@ -3,19 +3,16 @@
 use mathlib.Core.Path.{_≡_, sym, _∙_}
 use mathlib.Core.List.{List}
 use Prim.Native.Nat.{ℕ, _<_}
-use lib.ListN.{length, replicate}
-use borrow.Author.Tests.{eq-eqb, ne-eqb}
-use Rattle.answers.specs.Rules.{said, refusal}
+use lib.ListN.{replicate}
+use Rattle.answers.specs.Rules.{refusal}
 use Rattle.answers.specs.declared.Ruling.{Ruling}
 use Rattle.answers.specs.declared.Ruling.the-variants.{Fine, Refused}
-use Rattle.answers.proofs.Rules.{after-refused, after-fine}
 use Rattle.tables.specs.Entries.{entriesOf}
+use Rattle.tables.specs.Marks.{keptRules}
 use Rattle.needs.specs.Needs.{whole, compacted}
 use Rattle.needs.specs.Words.{Detected, LastToFirst, Sound}
 use Rattle.needs.proofs.Sound.{compacted-so, compacted-sound, none-detected}
-use Rattle.tables.specs.Table.{tableRules}
-use Rattle.compact.specs.Promise.{marksRules, Compacts}
-use Rattle.compact.specs.Owed.{CompactDone}
+use Rattle.compact.specs.Promise.{Compacts}
 
 module _ {F P : ℕ} {t m : List ℕ} where
   -- two results that the promise allows are equal
@@ -44,16 +41,8 @@ module _ {F P : ℕ} {t m : List ℕ} where
 
   -- ---- as the code comes to it
 
-  pub finish-10 : (length m ≡ P → ⊥) → CompactDone F P t m (Refused 10 0) m
-  unfolding marksRules refusal said
-  finish-10 n = record { answer = rw (ne-eqb (length m) P n); marks = rw (ne-eqb (length m) P n) }
+  pub refused : {n k : ℕ} → refusal (keptRules F P t m) ≡ Refused n k → Compacts F P t m (Refused n k) m
+  refused e = record { answer = sym e; numbers = rw e; marks = rw e }
 
-  pub finish-fine : {m′ : List ℕ} → length m ≡ P → m′ ≡ compacted (entriesOf F t) F P → CompactDone F P t m Fine m′
-  unfolding marksRules refusal said
-  finish-fine e s = record { answer = rw (eq-eqb (length m) P e); marks = rw (eq-eqb (length m) P e) s }
-
-  pub table-refused : {n k : ℕ} → refusal (tableRules F P t) ≡ Refused n k → Compacts F P t m (Refused n k) m
-  table-refused e = let q = after-refused (tableRules F P t) (marksRules P m) e in record { answer = sym q; numbers = rw q; marks = rw q }
-
-  pub table-kept : {r : Ruling} {m′ : List ℕ} → refusal (tableRules F P t) ≡ Fine → CompactDone F P t m r m′ → Compacts F P t m r m′
-  table-kept e w = let q = after-fine (tableRules F P t) (marksRules P m) e in record { answer = w .answer ∙ sym q; numbers = rw (w .answer ∙ sym q); marks = rw q (w .marks) }
+  pub marked : {m′ : List ℕ} → refusal (keptRules F P t m) ≡ Fine → m′ ≡ compacted (entriesOf F t) F P → Compacts F P t m Fine m′
+  marked e w = record { answer = sym e; numbers = rw e; marks = rw e w }

@@ -1,14 +1,17 @@
 // Part 3, the compactor: which patterns of a table are kept.
 use answers::Ruling;
-use tables::check_table;
+use tables::check_marks;
+use tallies::tally;
 ghost use mathlib.Core.Path.{_≡_};
 ghost use Prim.Native.Nat.{_+_, _<_};
 ghost use lib.ListN.{length, replicate};
 ghost use Rattle.tables.specs.Entries.{entriesOf};
 ghost use Rattle.tables.specs.Table.{Sized};
-ghost use Rattle.needs.specs.Needs.{compacted};
+ghost use Rattle.needs.specs.Needs.{kept, compacted};
+ghost use Rattle.tallies.specs.Tally.{Tallied};
+ghost use Rattle.tallies.specs.Owed.{TallyRoom, Cleared};
 ghost use Rattle.compact.specs.Promise.{Compacts};
-ghost use Rattle.compact.specs.Owed.{CountsRoom, Zeros, CountAllDone, TurnRoom, TurnReady, TurnDone, CompactDone};
+ghost use Rattle.compact.specs.Owed.{TurnRoom, TurnReady, TurnDone};
 
 // Marks every pattern as kept.
 fn keep_all(marks: &mut [u8])
@@ -18,21 +21,6 @@ fn keep_all(marks: &mut [u8])
     while i < marks.len() {
         marks[i] = 1;
         i += 1;
-    }
-}
-
-// Counts all patterns in, and notes the detected faults.
-fn count_all(counts: &mut [u8], seen: &mut [u8], table: &[u8], faults: usize, patterns: usize)
-    requires { ⌜ CountsRoom (now counts) (now seen) (now table) faults patterns ⌝ }
-    requires { ⌜ Zeros (now counts) × Zeros (now seen) ⌝ }
-    ensures { λ _. ⌜ CountAllDone (now (table .entry)) faults patterns (now (counts .exit)) (now (seen .exit)) ⌝ }
-{
-    let mut p = 0;
-    while p < patterns {
-        let from = p * faults;
-        counts::count_pattern(counts, table, from, faults, true);
-        counts::see_pattern(seen, table, from, faults);
-        p += 1;
     }
 }
 
@@ -46,7 +34,7 @@ fn turn(
     patterns: usize,
     p: usize,
 )
-    requires { ⌜ CountsRoom (now counts) (now seen) (now table) faults patterns ⌝ }
+    requires { ⌜ TallyRoom (now counts) (now seen) (now table) faults patterns ⌝ }
     requires { ⌜ TurnRoom (now marks) patterns p ⌝ }
     requires { ⌜ TurnReady (now table) faults patterns (p + 1) (now marks) (now counts) (now seen) ⌝ }
     ensures { λ _. ⌜ TurnDone (now (table .entry)) faults patterns p (now (marks .entry)) (now (marks .exit)) (now (counts .exit)) (now (seen .entry)) ⌝ }
@@ -68,9 +56,9 @@ fn drop_spare(
     faults: usize,
     patterns: usize,
 )
-    requires { ⌜ CountsRoom (now counts) (now seen) (now table) faults patterns ⌝ }
+    requires { ⌜ TallyRoom (now counts) (now seen) (now table) faults patterns ⌝ }
     requires { ⌜ now marks ≡ replicate patterns 1 ⌝ }
-    requires { ⌜ CountAllDone (now table) faults patterns (now counts) (now seen) ⌝ }
+    requires { ⌜ Tallied (now table) faults patterns (kept (now marks)) (now counts) (now seen) ⌝ }
     ensures { λ _. ⌜ now (marks .exit) ≡ compacted (entriesOf faults (now (table .entry))) faults patterns ⌝ }
 {
     let mut left = patterns;
@@ -81,23 +69,17 @@ fn drop_spare(
     }
 }
 
-// All three, over memory that is all 0.
-fn mark_all(
-    counts: &mut [u8],
-    seen: &mut [u8],
-    marks: &mut [u8],
-    table: &[u8],
-    faults: usize,
-    patterns: usize,
-)
-    requires { ⌜ CountsRoom (now counts) (now seen) (now table) faults patterns ⌝ }
-    requires { ⌜ Zeros (now counts) × Zeros (now seen) ⌝ }
+// Keeps all patterns, tallies them over counts that are all 0, and drops what can be spared.
+fn mark_all(counts: &mut [u8], marks: &mut [u8], table: &[u8], faults: usize, patterns: usize)
+    requires { ⌜ Cleared (now counts) faults ⌝ }
+    requires { ⌜ Sized faults patterns (length (now table)) ⌝ }
     requires { ⌜ length (now marks) ≡ patterns ⌝ }
     ensures { λ _. ⌜ now (marks .exit) ≡ compacted (entriesOf faults (now (table .entry))) faults patterns ⌝ }
 {
     keep_all(marks);
-    count_all(counts, seen, table, faults, patterns);
-    drop_spare(counts, seen, marks, table, faults, patterns);
+    let mut seen = [0u8; 256];
+    tally(counts, &mut seen, table, faults, patterns, marks, 1);
+    drop_spare(counts, &seen, marks, table, faults, patterns);
 }
 
 // The marks of a table with few faults: a row of 256 for the pairs of each, and one for the faults.
@@ -107,8 +89,7 @@ fn mark_few(faults: usize, patterns: usize, table: &[u8], marks: &mut [u8])
     ensures { λ _. ⌜ now (marks .exit) ≡ compacted (entriesOf faults (now (table .entry))) faults patterns ⌝ }
 {
     let mut counts = [0u8; 4096];
-    let mut seen = [0u8; 256];
-    mark_all(&mut counts, &mut seen, marks, table, faults, patterns);
+    mark_all(&mut counts, marks, table, faults, patterns);
 }
 
 // The same for any number of faults. Memory for all rows takes longer to clear than a small table to compact.
@@ -118,32 +99,31 @@ fn mark_many(faults: usize, patterns: usize, table: &[u8], marks: &mut [u8])
     ensures { λ _. ⌜ now (marks .exit) ≡ compacted (entriesOf faults (now (table .entry))) faults patterns ⌝ }
 {
     let mut counts = [0u8; 65792];
-    let mut seen = [0u8; 256];
-    mark_all(&mut counts, &mut seen, marks, table, faults, patterns);
+    mark_all(&mut counts, marks, table, faults, patterns);
 }
 
-// Over a table that keeps its rules.
-fn compact_table(faults: usize, patterns: usize, table: &[u8], marks: &mut [u8]) -> Ruling
+// The marks of a table that keeps its rules.
+fn mark_table(faults: usize, patterns: usize, table: &[u8], marks: &mut [u8])
     requires { ⌜ Sized faults patterns (length (now table)) ⌝ }
-    ensures { λ r. ⌜ CompactDone faults patterns (now (table .entry)) (now (marks .entry)) r (now (marks .exit)) ⌝ }
+    requires { ⌜ length (now marks) ≡ patterns ⌝ }
+    ensures { λ _. ⌜ now (marks .exit) ≡ compacted (entriesOf faults (now (table .entry))) faults patterns ⌝ }
 {
-    if marks.len() != patterns {
-        return Ruling::Refused(10, 0);
-    }
     if faults < 16 {
         mark_few(faults, patterns, table, marks);
-        return Ruling::Fine;
+        return;
     }
     mark_many(faults, patterns, table, marks);
-    Ruling::Fine
 }
 
 // The compactor.
 pub fn compact(fault_count: u64, pattern_count: u64, table: &[u8], marks: &mut [u8]) -> Ruling
     ensures { λ r. ⌜ Compacts «fault_count» «pattern_count» (now (table .entry)) (now (marks .entry)) r (now (marks .exit)) ⌝ }
 {
-    match check_table(fault_count, pattern_count, table) {
+    match check_marks(fault_count, pattern_count, table, marks) {
         Ruling::Refused(number, place) => Ruling::Refused(number, place),
-        Ruling::Fine => compact_table(fault_count as usize, pattern_count as usize, table, marks),
+        Ruling::Fine => {
+            mark_table(fault_count as usize, pattern_count as usize, table, marks);
+            Ruling::Fine
+        }
     }
 }

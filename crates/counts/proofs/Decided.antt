@@ -11,7 +11,7 @@ use lib.ListN.{getD, set}
 use borrow.Author.Tests.{eq-eqb, ne-eqb, eqb-true}
 use Rattle.ground.specs.Choose.{one}
 use Rattle.ground.specs.Below.{anyBelow, countBelow}
-use Rattle.ground.proofs.Tests.{one-is, agree-where, same-test}
+use Rattle.ground.proofs.Tests.{agree-where, same-test}
 use Rattle.ground.proofs.Below.{any-same, none-any}
 use Rattle.ground.proofs.Counting.{any-count, count-most}
 use Rattle.tables.specs.Entries.{Entries, entriesOf}
@@ -22,6 +22,7 @@ use Rattle.needs.proofs.Sets.{same-detected, same-apart}
 use Rattle.needs.proofs.Turns.{not-kept, kept-other}
 use Rattle.counts.specs.Counted.{Counted, Seen}
 use Rattle.counts.specs.Owed.{soleOf, soleIn, soleAt, neededOf}
+use Rattle.counts.proofs.Detected.{seen-is}
 use Rattle.counts.proofs.Sets.{fault-cell, pair-cell, count-step}
 
 -- of at most 256 a count of 1 is told from every other
@@ -79,7 +80,7 @@ module _
     (few : F ≤ 256)
     (many : P ≤ 256)
     (counted : Counted t F P (kept m) c)
-    (seen : Seen t F P s)
+    (seen : Seen t F P whole s)
     (enough : Meets (entriesOf F t) F P (kept m))
     (p : ℕ)
     (l : p < P)
@@ -97,13 +98,10 @@ module _
         )
         (only (held P (without m p) h) (h p))
 
-    seen-is : (f : ℕ) → f < F → eqb (getD s f 0) 1 ≡ detects (entriesOf F t) P whole f
-    seen-is f k = ap (λ (n : ℕ). eqb n 1) (seen .fault f k) ∙ one-is (detects (entriesOf F t) P whole f)
-
     fault-lost : (f : ℕ) → f < F → soleIn c s (256 * F) t (p * F) 1 f ≡ lost (entriesOf F t) P (without m p) f
     unfolding soleOf lost
     fault-lost f k =
-        rw (seen-is f k) (and-swap (eqb (getD c (256 * F + f) 0) 1) (detects (entriesOf F t) P whole f) (fails (entriesOf F t p f)))
+        rw (seen-is seen f k) (and-swap (eqb (getD c (256 * F + f) 0) 1) (detects (entriesOf F t) P whole f) (fails (entriesOf F t p f)))
         ∙ agree-where (detects (entriesOf F t) P whole f) (λ d.
         sole-held (failing (entriesOf F t) f) (fault-cell counted few f k)
         ∙ ap (λ (b : Bool). b && not (detects (entriesOf F t) P (without m p) f)) (sym (same-detected (entriesOf F t) F P (kept m) enough f k) ∙ d))
@@ -114,14 +112,14 @@ module _
     unfolding soleOf lostPair
     pair-lost f g k h e =
         known-last (leb (entriesOf F t p g) 1) (eqb (getD c (256 * g + f) 0) 1) (eqb (getD s f 0) 1) (eqb (entriesOf F t p f) (1 - entriesOf F t p g))
-        ∙ rw (seen-is f (omega arith), ← tells-other (entriesOf F t p f) (entriesOf F t p g), e)
+        ∙ rw (seen-is seen f (omega arith), ← tells-other (entriesOf F t p f) (entriesOf F t p g), e)
         (agree-where (detects (entriesOf F t) P whole f) (λ d.
         sole-held (telling (entriesOf F t) f g) (pair-cell counted few f g k h)
         ∙ ap (λ (b : Bool). b && not (apart (entriesOf F t) P (without m p) f g)) (sym (same-apart (entriesOf F t) F P (kept m) enough f g (omega arith) h d e))))
 
     pairs-lost : (g : ℕ) → g < F → soleAt c s t (p * F) g ≡ anyBelow g (λ f. lostPair (entriesOf F t) P (without m p) f g)
     unfolding soleAt
-    pairs-lost g h = rw (seen-is g h) (go (detects (entriesOf F t) P whole g) refl)
+    pairs-lost g h = rw (seen-is seen g h) (go (detects (entriesOf F t) P whole g) refl)
       where
         each : (b : Bool) (r : ℕ → Bool) → (b && anyBelow g r) ≡ anyBelow g (λ f. b && r f)
         each true r = refl

@@ -1,25 +1,31 @@
 -- Where a pattern is the only one of its kind: three tests as numbers, and a row of them.
 -- Assumes nothing.
-use mathlib.Core.Path.{_≡_}
+use mathlib.Core.Path.{_≡_, ap, _∙_}
 use mathlib.Core.Bool.{Bool, true, false, not, and-assoc}
 use mathlib.Core.List.{List}
 use Prim.Native.Nat.{ℕ, _+_, _-_, _*_, _≤_, _<_}
+use native.Mathlib.Omega.{arith}
 use lib.Bits.{bitAnd}
 use lib.Dec.{eqb}
 use lib.ListN.{getD}
 use borrow.Author.Tests.{eq-eqb, ne-eqb, le-leb, lt-leb}
 use Rattle.ground.specs.Choose.{one}
 use Rattle.ground.specs.Below.{anyBelow}
-use Rattle.ground.proofs.Tests.{one-and}
-use Rattle.counts.specs.Owed.{soleOf, soleIn, soleAt, neededOf}
+use Rattle.ground.proofs.Tests.{one-and, bit-one}
+use Rattle.counts.specs.Owed.{Notes, soleOf, soleIn, soleAt, neededOf}
 
-pub sole-and : (count seen entry want : ℕ) {x y z : ℕ}
+pub sole-and : (count seen entry want : ℕ) {x z : ℕ}
     → x ≡ one (eqb count 1)
-    → y ≡ one (eqb seen 1)
+    → seen ≤ 1
     → z ≡ one (eqb entry want)
-    → bitAnd (bitAnd x y) z ≡ one (soleOf count seen entry want)
+    → bitAnd (bitAnd x seen) z ≡ one (soleOf count seen entry want)
 unfolding soleOf
-sole-and count seen entry want p q r = rw (p, q, r, one-and (eqb count 1) (eqb seen 1), one-and, and-assoc)
+sole-and count seen entry want {x} {z} p bit r =
+    ap (λ (y : ℕ). bitAnd (bitAnd x y) z) (bit-one seen bit) ∙ rw (p, r, one-and (eqb count 1) (eqb seen 1), one-and, and-assoc)
+
+-- the notes of fewer faults
+pub fewer-notes : {s : List ℕ} {n : ℕ} → Notes s n → (k : ℕ) → k ≤ n → Notes s k
+fewer-notes so k l = record { room = omega (arith, so .room); bit = λ f b. so .bit f (omega arith) }
 
 -- 1 is not 0
 one-not : (b : Bool) {r : ℕ} → r ≡ one b → not (eqb r 0) ≡ b

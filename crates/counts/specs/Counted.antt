@@ -10,7 +10,7 @@ use lib.ListN.{getD}
 use Rattle.ground.specs.Choose.{one}
 use Rattle.ground.specs.Below.{anyBelow, countBelow}
 use Rattle.tables.specs.Entries.{entriesOf}
-use Rattle.needs.specs.Needs.{Patterns, whole, detects}
+use Rattle.needs.specs.Needs.{Patterns, detects}
 
 -- a pattern's entries stand in the table t from `from` on. A row has n cells from `at` on; the pattern counts at its cell k where that fault's entry is `want`
 unfoldable pub hitRow : List ℕ → ℕ → ℕ → ℕ → ℕ → ℕ → Bool
@@ -28,6 +28,6 @@ hit t from n k = anyBelow n (hitPair t from k) || hitRow t from 1 (256 * n) n k
 pub record Counted (t : List ℕ) (F P : ℕ) (K : Patterns) (c : List ℕ) : Type 0 where
   pub cell : (k : ℕ) → getD c k 0 ≡ countBelow P (λ q. K q && hit t (q * F) F k) % 256
 
--- whether a fault is detected is kept apart, 1 or 0
-pub record Seen (t : List ℕ) (F P : ℕ) (s : List ℕ) : Type 0 where
-  pub fault : (f : ℕ) → f < F → getD s f 0 ≡ one (detects (entriesOf F t) P whole f)
+-- whether the set detects a fault is kept apart, 1 or 0
+pub record Seen (t : List ℕ) (F P : ℕ) (K : Patterns) (s : List ℕ) : Type 0 where
+  pub fault : (f : ℕ) → f < F → getD s f 0 ≡ one (detects (entriesOf F t) P K f)

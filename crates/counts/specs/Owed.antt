@@ -35,6 +35,11 @@ pub record SeeDone (t : List ℕ) (from n : ℕ) (old new : List ℕ) : Type 0 w
 
 -- ---- the only one of its kind
 
+-- notes of n faults: each is 1 or 0
+pub record Notes (s : List ℕ) (n : ℕ) : Type 0 where
+  pub room : n ≤ length s
+  pub bit : (f : ℕ) → f < n → getD s f 0 ≤ 1
+
 -- one pattern is counted, the fault is detected, and the pattern itself counts there
 unfoldable pub soleOf : ℕ → ℕ → ℕ → ℕ → Bool
 soleOf count seen entry want = eqb count 1 && (eqb seen 1 && eqb entry want)

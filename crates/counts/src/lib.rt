@@ -1,5 +1,5 @@
 // Counts of patterns: for each pair of faults how many tell the two apart, for each fault how many fail it. They are bytes and go round
-// at 256, so that many are done at once; a count of 1, which is what decides, is still told from every other.
+// at 256, so that many are done at once; a count of 1, by which a pattern is needed, is still told from every other.
 ghost use mathlib.Core.Path.{_≡_};
 ghost use Prim.Native.Nat.{_+_, _*_, _≤_, _<_};
 ghost use lib.Dec.{eqb};
@@ -7,7 +7,7 @@ ghost use lib.ListN.{length};
 ghost use Rattle.ground.specs.Choose.{one};
 ghost use Rattle.ground.specs.Below.{anyBelow};
 ghost use Rattle.counts.specs.Counted.{hitRow, hitPair, hit};
-ghost use Rattle.counts.specs.Owed.{Counts, CellsDone, RowRoom, CellsRoom, SeeDone, soleOf, soleIn, soleAt, neededOf};
+ghost use Rattle.counts.specs.Owed.{Counts, CellsDone, RowRoom, CellsRoom, SeeDone, Notes, soleOf, soleIn, soleAt, neededOf};
 
 // 1 where the two are the same, else 0.
 fn same(x: u8, y: u8) -> u8
@@ -92,11 +92,12 @@ pub fn see_pattern(seen: &mut [u8], table: &[u8], from: usize, faults: usize)
 
 // ---- deciding
 
-// 1 where a pattern is the only one of its kind, else 0.
+// 1 where a pattern is the only one of its kind, else 0. What is seen is 1 or 0 itself.
 fn sole(count: u8, seen: u8, entry: u8, want: u8) -> u8
+    requires { ⌜ seen ≤ 1 ⌝ }
     ensures { λ r. ⌜ r ≡ one (soleOf count seen entry want) ⌝ }
 {
-    same(count, 1) & same(seen, 1) & same(entry, want)
+    same(count, 1) & seen & same(entry, want)
 }
 
 // Whether it is at some place of a row, as 1 or 0: the whole row is gone through, so that several places are done at once.
@@ -110,7 +111,7 @@ fn sole_in(
     want: u8,
 ) -> u8
     requires { ⌜ RowRoom (now counts) at (now table) from faults ⌝ }
-    requires { ⌜ faults ≤ length (now seen) ⌝ }
+    requires { ⌜ Notes (now seen) faults ⌝ }
     ensures { λ r. ⌜ r ≡ one (anyBelow faults (soleIn (now (counts .entry)) (now (seen .entry)) at (now (table .entry)) from want)) ⌝ }
 {
     let mut r: u8 = 0;
@@ -126,24 +127,24 @@ fn sole_in(
 // Whether it is at some pair of a detected fault g with one before it.
 fn sole_at(counts: &[u8], seen: &[u8], table: &[u8], from: usize, g: usize) -> bool
     requires { ⌜ 256 * g + g ≤ length (now counts) ⌝ }
-    requires { ⌜ g < length (now seen) ⌝ }
+    requires { ⌜ Notes (now seen) (g + 1) ⌝ }
     requires { ⌜ from + g < length (now table) ⌝ }
     ensures { λ r. ⌜ r ≡ soleAt (now (counts .entry)) (now (seen .entry)) (now (table .entry)) from g ⌝ }
 {
     if seen[g] != 1 {
         return false;
     }
-    let e = table[from + g];
-    if 1 < e {
+    let entry = table[from + g];
+    if 1 < entry {
         return false;
     }
-    sole_in(counts, seen, 256 * g, table, from, g, 1 - e) != 0
+    sole_in(counts, seen, 256 * g, table, from, g, 1 - entry) != 0
 }
 
 // Whether the counted patterns, without this one of them, would lack something.
 pub fn needed(counts: &[u8], seen: &[u8], table: &[u8], from: usize, faults: usize) -> bool
     requires { ⌜ CellsRoom (now counts) (now table) from faults ⌝ }
-    requires { ⌜ faults ≤ length (now seen) ⌝ }
+    requires { ⌜ Notes (now seen) faults ⌝ }
     ensures { λ r. ⌜ r ≡ neededOf (now (counts .entry)) (now (seen .entry)) (now (table .entry)) from faults ⌝ }
 {
     if sole_in(counts, seen, 256 * faults, table, from, faults, 1) != 0 {

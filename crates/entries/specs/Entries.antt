@@ -14,9 +14,10 @@ use Rattle.rows.specs.Table.{tableOf, tableWork}
 use Rattle.dictionary.specs.Promise.{dictionaryRuling}
 use Rattle.groups.specs.Work.{laneWork}
 use Rattle.tables.specs.Entries.{entriesOf}
+use Rattle.tables.specs.Marks.{keptRules}
 use Rattle.lists.specs.Faults.{faultAt}
 use Rattle.needs.specs.Needs as needs
-use Rattle.compact.specs.Promise.{compactRules}
+use Rattle.findings.specs.Findings.{findingOf, findingNumbers}
 use Rattle.search.specs.Promise.{searchRules, verdictFor, testFor, workFor, verdictNumbers}
 use Rattle.list_search.specs.Works.{worksFor}
 use Rattle.search_all.specs.Promise.{outcomesFor, countsFor, testsFor, searchAllRules}
@@ -46,8 +47,12 @@ DictionaryLanesEntered c fs ps t w a r t′ w′ a′ = EngineEntered 4 (laneWor
 
 -- the compactor: done; the marks m, lent with the answer area a, become m′
 pub record CompactEntered (F P : ℕ) (t m a : List ℕ) (r : ℕ) (m′ a′ : List ℕ) : Type 0 where
-  pub answer : Entered a (told (refusal (compactRules F P t m)) done) r a′
-  pub marks : m′ ≡ entered a m (unless (refusal (compactRules F P t m)) m (needs.compacted (entriesOf F t) F P))
+  pub answer : Entered a (told (refusal (keptRules F P t m)) done) r a′
+  pub marks : m′ ≡ entered a m (unless (refusal (keptRules F P t m)) m (needs.compacted (entriesOf F t) F P))
+
+-- the audit of a kept list, of the table t and the marks m: the finding and its place
+abbrev pub auditNumbers : ℕ → ℕ → List ℕ → List ℕ → Numbers
+auditNumbers F P t m = told (refusal (keptRules F P t m)) (findingNumbers (findingOf (entriesOf F t) F P m))
 
 -- the test search: outcome and nodes; the test buffer t and the work memory w become t′ and w′
 pub record SearchEntered (c f : List ℕ) (b : ℕ) (t w a : List ℕ) (r : ℕ) (t′ w′ a′ : List ℕ) : Type 0 where

@@ -1,5 +1,6 @@
 // What C calls: each entry takes a slice as a pointer and a length, calls its part and reports the answer. Those with lent memory look at the
 // answer area first: with one of another size nothing is written at all.
+use audit::audit;
 use bench::bench;
 use circuit::check;
 use clauses::clauses;
@@ -8,6 +9,7 @@ use dictionary::dictionary;
 use dictionary_lanes::dictionary_lanes;
 use replies::AREA;
 use replies::OTHER_SIZE;
+use replies::of_audited;
 use replies::of_checked;
 use replies::of_read;
 use replies::of_ruling;
@@ -17,7 +19,7 @@ use replies::report;
 use search::search;
 use search_all::search_all;
 ghost use Rattle.answers.specs.Area.{Entered};
-ghost use Rattle.entries.specs.Entries.{checkNumbers, DictionaryEntered, DictionaryLanesEntered, CompactEntered, SearchEntered, SearchAllEntered, ClausesEntered, BenchEntered};
+ghost use Rattle.entries.specs.Entries.{checkNumbers, auditNumbers, DictionaryEntered, DictionaryLanesEntered, CompactEntered, SearchEntered, SearchAllEntered, ClausesEntered, BenchEntered};
 
 #[no_mangle]
 pub extern "C" fn ullimaqsu_check(circuit: &[u8], answer: &mut [u8]) -> u32
@@ -81,6 +83,21 @@ pub extern "C" fn ullimaqsu_compact(
     }
     let v = compact(fault_count, pattern_count, table, marks);
     report(of_ruling(v), answer)
+}
+
+#[no_mangle]
+pub extern "C" fn ullimaqsu_audit(
+    fault_count: u64,
+    pattern_count: u64,
+    table: &[u8],
+    marks: &[u8],
+    answer: &mut [u8],
+) -> u32
+    ensures { λ r. ⌜ Entered (now (answer .entry)) (auditNumbers «fault_count» «pattern_count» (now (table .entry)) (now (marks .entry)))
+        r (now (answer .exit)) ⌝ }
+{
+    let v = audit(fault_count, pattern_count, table, marks);
+    report(of_audited(v), answer)
 }
 
 #[no_mangle]

@@ -23,8 +23,9 @@ use Rattle.dictionary.specs.Promise.{dictionaryRestRules, dictionaryRules, Answ
 use Rattle.tables.specs.Entries.{entriesOf}
 use Rattle.needs.specs.Needs as needs
 use Rattle.tables.specs.Table.{tableRules, Sized}
-use Rattle.compact.specs.Promise.{marksRules, compactRules, Compacts}
-use Rattle.compact.proofs.Says.{compact-says}
+use Rattle.tables.specs.Marks.{marksRules, keptRules}
+use Rattle.tables.proofs.Says.{kept-say}
+use Rattle.compact.specs.Promise.{Compacts}
 use Rattle.listing.specs.Promise.{programRules, dictionaryOf}
 use Rattle.listing.specs.Owed.{PutTableReady, PutMadeReady, MakeReady, MakeDone}
 use Rattle.listing.proofs.Small.{table-small}
@@ -97,4 +98,4 @@ module _ {c fs ps t t′ : List ℕ} {r : Ruling} (made-so : MakeDone c fs ps t 
 pub marks-are : {t m m′ : List ℕ} {out f p : ℕ} {r : Ruling} → PutTableReady t out f p → length m ≡ p → Compacts f p t m r m′ → m′ ≡ needs.compacted (entriesOf f t) f p
 unfolding tableRules marksRules AllHold
 marks-are {t} {m} {m′} {out} {f} {p} k size so =
-    so .marks ∙ rw (fine (compactRules f p t m) (compact-says f p t m) (k .sized, (k .small, (size, tt))))
+    so .marks ∙ rw (fine (keptRules f p t m) (kept-say f p t m) (k .sized, (k .small, (size, tt))))

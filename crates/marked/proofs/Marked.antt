@@ -18,7 +18,7 @@ use Rattle.entry.specs.Entry.{differ, agree, asExpected, entryBy, entryAt}
 use Rattle.rows.specs.Table.{tableOf}
 use Rattle.needs.specs.Needs.{tells, lost, lostPair, lacks, turn, turns, compacted}
 use Rattle.tables.specs.Table.{sizesOk, tableRules}
-use Rattle.compact.specs.Promise.{marksRules}
+use Rattle.tables.specs.Marks.{marksRules}
 use Rattle.decimals.specs.Digits.{digits}
 use Rattle.letters.specs.Text.{letterOf, markOf}
 use Rattle.listing.specs.Promise.{outputOf}

@@ -14,8 +14,8 @@ use Rattle.circuit.specs.Record.{linesOf, inputsOf}
 use Rattle.circuit.specs.Promise.{checkOf}
 use Rattle.lists.specs.Faults.{faultAt}
 use Rattle.tables.specs.Entries.{entriesOf}
+use Rattle.tables.specs.Marks.{keptRules}
 use Rattle.needs.specs.Needs as needs
-use Rattle.compact.specs.Promise.{compactRules}
 use Rattle.listing.specs.Promise.{outputOf}
 use Rattle.nodes.specs.declared.Verdict.{Verdict}
 use Rattle.search.specs.declared.Searched.the-variants as searched
@@ -49,7 +49,7 @@ lent n = replicate n 255
 -- ---- the marks that the compactor leaves
 
 abbrev pub marksOf : ℕ → ℕ → List ℕ → List ℕ
-marksOf F P t = unless (refusal (compactRules F P t (lent P))) (lent P) (needs.compacted (entriesOf F t) F P)
+marksOf F P t = unless (refusal (keptRules F P t (lent P))) (lent P) (needs.compacted (entriesOf F t) F P)
 
 -- ---- the pairs told apart by some pattern of the whole table
 

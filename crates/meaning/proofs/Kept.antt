@@ -23,12 +23,12 @@ use Rattle.needs.specs.Words.{TellsApart, Sound}
 use Rattle.needs.proofs.Sound.{compacted-sound}
 use Rattle.needs.proofs.Same.{sound-same}
 use Rattle.compact.specs.Promise.{Compacts}
-use Rattle.compact.proofs.Promise.{marks-are}
+use Rattle.compact.proofs.Promise.{fine-sound}
 use Rattle.meaning.specs.Entries.{Means}
 use Rattle.meaning.specs.Kept.{entriesFor, ExposesAt, ClearsAt, Serves}
 use Rattle.meaning.proofs.Entries.{listed-means}
 
--- sound marks serve, in an accepted circuit with accepted lists
+-- sound marks of the table as it is defined serve, in an accepted circuit with accepted lists
 module _ (c fs ps m : List ℕ) (fine : refusal (circuitRules c) ≡ Fine) (listed : refusal (listRules c (inputsOf c) fs ps) ≡ Fine) where
   at : (i j : ℕ) → i < patternCount (inputsOf c) ps → j < faultCount fs → Means (entriesFor c fs ps i j) c (faultAt fs j) (linesOf c) (patternAt (inputsOf c) ps i)
   at = listed-means c fs ps fine listed
@@ -44,32 +44,33 @@ module _ (c fs ps m : List ℕ) (fine : refusal (circuitRules c) ≡ Fine) (list
       (λ e. inl (at i f l a .exposes (e .0), at i g l b .clears (e .1)))
       (λ e. inr (at i f l a .clears (e .0), at i g l b .exposes (e .1)))
 
-  serves : Sound (entriesFor c fs ps) (faultCount fs) (patternCount (inputsOf c) ps) m → Serves c fs ps m
-  serves s = record {
-    sound = s;
-    exposed = λ f a d. let k = s .enough .faults f a d in (k .0, k .1, k .2, at (k .0) f (k .1) a .exposes (k .3));
-    told = λ f g a b d e t.
-        let k = s .enough .pairs f g a b d e t in
-        (k .0, k .1, k .2, tells (k .0) f g (k .1) a b (k .3));
-  }
+  serves : Sound (entriesOf (faultCount fs) (tableOf c (linesOf c) (inputsOf c) fs ps)) (faultCount fs) (patternCount (inputsOf c) ps) m → Serves c fs ps m
+  serves sound =
+      let s = sound-same {E = entriesOf (faultCount fs) (tableOf c (linesOf c) (inputsOf c) fs ps)} (made c (linesOf c) (inputsOf c) fs ps .entry) sound in
+      record {
+        sound = s;
+        exposed = λ f a d. let k = s .enough .faults f a d in (k .0, k .1, k .2, at (k .0) f (k .1) a .exposes (k .3));
+        told = λ f g a b d e t.
+            let k = s .enough .pairs f g a b d e t in
+            (k .0, k .1, k .2, tells (k .0) f g (k .1) a b (k .3));
+      }
 
--- the marks of the table as it is defined; the text of the dictionary program is defined by the same marks
+-- the compacted marks of that table; the text of the dictionary program is defined by them
 pub table-serves : (c fs ps : List ℕ)
     → refusal (circuitRules c) ≡ Fine
     → refusal (listRules c (inputsOf c) fs ps) ≡ Fine
     → Serves c fs ps (compacted (entriesOf (faultCount fs) (tableOf c (linesOf c) (inputsOf c) fs ps)) (faultCount fs) (patternCount (inputsOf c) ps))
-table-serves c fs ps fine listed =
-    let F = faultCount fs in
-    let P = patternCount (inputsOf c) ps in
-    let E = entriesOf F (tableOf c (linesOf c) (inputsOf c) fs ps) in
-    serves c fs ps (compacted E F P) fine listed
-    (sound-same {E = E} (made c (linesOf c) (inputsOf c) fs ps .entry) (compacted-sound E F P))
+table-serves c fs ps fine listed = serves c fs ps _ fine listed (compacted-sound _ (faultCount fs) (patternCount (inputsOf c) ps))
 
--- of the two parts: the marks that the compactor leaves for the table of an engine of the dictionary maker
-pub kept-serve : {places : ℕ} {left c fs ps t w t′ w′ m m′ : List ℕ}
-    → Answered places left c fs ps t w Fine t′ w′
-    → Compacts (faultCount fs) (patternCount (inputsOf c) ps) t′ m Fine m′
-    → Serves c fs ps m′
-kept-serve {places} {c = c} {fs = fs} {ps = ps} {t = t} {w = w} d k =
-    let so = taken places c fs ps (length t) (length w) (sym (d .answer)) in
-    rw (marks-are k, made-so d .0) (table-serves c fs ps (so .circuit-fine) (so .lists-fine))
+-- ---- of the parts' results
+
+module _ {places : ℕ} {left c fs ps t w t′ w′ : List ℕ} (made-by : Answered places left c fs ps t w Fine t′ w′) where
+  -- any sound marks of the table of an engine of the dictionary maker, another tool's too
+  pub sound-serve : {m : List ℕ} → Sound (entriesOf (faultCount fs) t′) (faultCount fs) (patternCount (inputsOf c) ps) m → Serves c fs ps m
+  sound-serve {m} s =
+      let so = taken places c fs ps (length t) (length w) (sym (made-by .answer)) in
+      serves c fs ps m (so .circuit-fine) (so .lists-fine) (rw (made-so made-by .0) at s)
+
+  -- so those that the compactor leaves for it
+  pub kept-serve : {m m′ : List ℕ} → Compacts (faultCount fs) (patternCount (inputsOf c) ps) t′ m Fine m′ → Serves c fs ps m′
+  kept-serve k = sound-serve (fine-sound k)

@@ -1,8 +1,10 @@
 // Answers as C gets them: each part's answer as a number and three values, and these as the 32 bytes of the answer area.
 use answers::Ruling;
 use answers::put_numbers;
+use audit::Audited;
 use circuit::Checked;
 use clauses::Written;
+use findings::Finding;
 use nets::Read;
 use nodes::Verdict;
 use search::Searched;
@@ -10,6 +12,8 @@ ghost use mathlib.Core.Path.{_≡_};
 ghost use Rattle.answers.specs.Area.{refusedAt, told, done, Entered};
 ghost use Rattle.answers.specs.Area as answering;
 ghost use Rattle.circuit.specs.Promise.{checkedNumbers};
+ghost use Rattle.findings.specs.Findings.{findingNumbers};
+ghost use Rattle.audit.specs.Promise.{auditedNumbers};
 ghost use Rattle.search.specs.Promise.{verdictNumbers, searchedNumbers};
 ghost use Rattle.clauses.specs.Promise.{writtenNumbers};
 ghost use Rattle.bench.specs.Promise.{readNumbers};
@@ -67,6 +71,27 @@ pub fn of_checked(v: Checked) -> Reply
     match v {
         Checked::Accepted(n, inputs, outputs) => success(n as u64, inputs as u64, outputs as u64),
         Checked::Refused(number, place) => refused(number, place),
+    }
+}
+
+fn of_finding(v: Finding) -> Reply
+    ensures { λ r. ⌜ numbersIn r ≡ findingNumbers v ⌝ }
+{
+    match v {
+        Finding::Sound => success(0, 0, 0),
+        Finding::BadMark(mark) => success(1, mark as u64, 0),
+        Finding::LostFault(fault) => success(2, fault as u64, 0),
+        Finding::LostPair(first, second) => success(3, first as u64, second as u64),
+        Finding::SparePattern(pattern) => success(4, pattern as u64, 0),
+    }
+}
+
+pub fn of_audited(v: Audited) -> Reply
+    ensures { λ r. ⌜ numbersIn r ≡ auditedNumbers v ⌝ }
+{
+    match v {
+        Audited::Found(finding) => of_finding(finding),
+        Audited::Refused(number, place) => refused(number, place),
     }
 }
 

@@ -1,6 +1,7 @@
 //! The same algorithms in safe Rust with plain indexing, over the same bytes. They answer as the C entries do, so that results can be
 //! compared byte by byte.
 
+pub mod audit;
 pub mod bench;
 pub mod check;
 pub mod clauses;

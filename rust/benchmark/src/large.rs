@@ -25,6 +25,11 @@ fn table() -> Vec<u8> {
     (0..65536).map(|_| random.pick(&[0, 0, 0, 0, 0, 0, 1, 2])).collect()
 }
 
+/// Each pattern but the last is kept for nothing but a pair of its own with the last fault: so for each of them all pairs are gone through.
+fn last_pairs() -> Vec<u8> {
+    (0..65535).map(|place| (place / 256 != place % 256) as u8).chain([1]).collect()
+}
+
 fn smaller_table() -> Vec<u8> {
     let random = &mut Random::new(4);
     (0..16384).map(|_| random.pick(&[0, 0, 0, 1, 2])).collect()
@@ -50,12 +55,16 @@ fn chain_of_xors() -> Files {
 }
 
 pub fn rows() -> impl Iterator<Item = Row> {
-    let rows: [fn() -> Row; 14] = [
+    let rows: [fn() -> Row; 18] = [
         || parts::check("check: 2,048 lines", &files()),
         || parts::dictionary::<Branches>("dictionary: 2,048 lines, 256 faults, 256 patterns", &files()),
         || parts::dictionary::<Table>("the same beside Rust that looks gates up too", &files()),
         || parts::compact("compactor: 256 faults, 256 patterns", 256, &table()),
         || parts::compact_naively("compactor beside its definition run naively, 128", 128, &smaller_table()),
+        || parts::audit("audit: 256 faults, 256 patterns, a sound list", 256, &table(), &parts::compacted(256, &table())),
+        || parts::audit_beside_compactor("the same beside the proved compactor, not Rust", 256, &table()),
+        || parts::audit("audit: 255 kept, each for its last pair", 256, &last_pairs(), &parts::compacted(256, &last_pairs())),
+        || parts::audit_beside_compactor("the same beside the proved compactor, not Rust", 256, &last_pairs()),
         || parts::search::<Branches>("search: 500 lines, 20 inputs, 100,000 nodes at most", &redundant(), 100_000),
         || parts::search::<Table>("the same beside Rust that looks gates up too", &redundant(), 100_000),
         || parts::search_all::<Branches>("search_all: 2,048 lines, 256 faults, 100 nodes each", &files(), 100),

@@ -2,8 +2,9 @@
 //!
 //! Each time is the best of many rounds, in which all take turns. A ratio is to the first column: above 1 it says that the proved code is
 //! faster. Buffers are not cleared between rounds: every round writes the same bytes over the last. The Rust branches over the kinds of gates;
-//! at the largest sizes dictionary and searches are also timed beside Rust that looks gates up in a table (`baseline/gates.rs`). One row has
-//! single calls of the proved search in place of Rust: its ratio says what a list in one call brings.
+//! at the largest sizes dictionary and searches are also timed beside Rust that looks gates up in a table (`baseline/gates.rs`). Some rows have
+//! proved code in place of Rust: single calls of the search, whose ratio says what a list in one call brings, and the compactor beside the audit
+//! of its list, whose ratio is at least 0.5 where the audit takes at most twice the compactor's time.
 //!
 //! The dictionary that carries 64 patterns at once has tables of its own. It runs beside the same in Rust, whose gates choose or branch
 //! (`baseline/lanes/gates.rs`): branches are faster where the processor learns the circuit's kinds, choices where it does not. And it runs

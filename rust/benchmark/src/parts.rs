@@ -127,6 +127,39 @@ pub fn compact_naively(name: &str, faults: usize, table: &[u8]) -> Row {
     row
 }
 
+/// The list of kept patterns that the compactor makes of a table.
+pub fn compacted(faults: usize, table: &[u8]) -> Vec<u8> {
+    let mut marks = vec![0; table.len() / faults];
+    ullimaqsu::compact(faults as u64, marks.len() as u64, table, &mut marks).expect("sound");
+    marks
+}
+
+pub fn audit(name: &str, faults: usize, table: &[u8], marks: &[u8]) -> Row {
+    let (fault_count, pattern_count) = (faults as u64, marks.len() as u64);
+    let (mut proved, mut plain) = ([0; 32], [0; 32]);
+    let row = race(
+        name,
+        || enter(Call::Audit { fault_count, pattern_count, table: black_box(table), marks, answer: &mut proved }),
+        || baseline::audit::enter(fault_count, pattern_count, black_box(table), marks, &mut plain),
+    );
+    assert_eq!(proved, plain);
+    row
+}
+
+/// The audit of the list that the compactor makes, beside the compactor.
+pub fn audit_beside_compactor(name: &str, faults: usize, table: &[u8]) -> Row {
+    let (fault_count, pattern_count) = (faults as u64, (table.len() / faults) as u64);
+    let list = compacted(faults, table);
+    let (mut marks, mut found, mut done) = (vec![0; list.len()], [0; 32], [0; 32]);
+    let row = race(
+        name,
+        || enter(Call::Audit { fault_count, pattern_count, table: black_box(table), marks: &list, answer: &mut found }),
+        || enter(Call::Compact { fault_count, pattern_count, table: black_box(table), marks: &mut marks, answer: &mut done }),
+    );
+    assert_eq!((marks, found), (list, done), "what the compactor does, the audit finds sound");
+    row
+}
+
 /// The search for the first of the faults, likewise.
 pub fn search<G: Gates>(name: &str, files: &Files, budget: u64) -> Row {
     let (circuit, fault) = (&files.circuit, &files.faults[..8]);

@@ -22,10 +22,14 @@ type Part = fn(&str, &Files, &[u8]) -> Row;
 
 pub fn rows() -> impl Iterator<Item = Row> {
     let examples = [("example A", files("a"), A.to_vec()), ("c17", files("c17"), example("bench/c17.bench"))];
-    let parts: [Part; 7] = [
+    let parts: [Part; 8] = [
         |name, files, _| parts::check(&format!("check: {name}"), files),
         |name, files, _| parts::dictionary::<Branches>(&format!("dictionary: {name}"), files),
         |name, files, _| parts::compact(&format!("compactor: {name}"), files.fault_count(), &parts::table(files)),
+        |name, files, _| {
+            let (faults, table) = (files.fault_count(), parts::table(files));
+            parts::audit(&format!("audit: {name}"), faults, &table, &parts::compacted(faults, &table))
+        },
         |name, files, _| parts::search::<Branches>(&format!("search: {name}"), files, u64::MAX),
         |name, files, _| parts::search_all::<Branches>(&format!("search_all: {name}"), files, u64::MAX),
         |name, files, _| parts::clauses(&format!("clauses: {name}"), files),

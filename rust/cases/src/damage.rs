@@ -100,6 +100,26 @@ pub fn files(random: &mut Random, [circuit, faults, patterns]: [&mut Vec<u8>; 3]
     }
 }
 
+/// Another count, among them such as overflow when they are multiplied.
+fn count(random: &mut Random, right: u64) -> u64 {
+    random.pick(&[0, 256, 257, 1 << 32, 1 << 63, u64::MAX, right.wrapping_add(1), right.wrapping_sub(1), right.wrapping_add(1 << 32)])
+}
+
+/// Does one damage to what goes with a table: its numbers of faults and patterns, the table, its marks, or the answer area.
+pub fn table(random: &mut Random, [faults, patterns]: [&mut u64; 2], [table, marks, answer]: [&mut Vec<u8>; 3]) {
+    match random.below(8) {
+        0 => *faults = count(random, *faults),
+        1 => *patterns = count(random, *patterns),
+        2 => table.resize(size(random, table.len()), 1),
+        3..=4 if !table.is_empty() => {
+            let place = random.below(table.len());
+            table[place] = random.pick(&[3, 4, 255]);
+        }
+        5 => answer.resize(random.pick(&[0, 31, 33, 64]), 7),
+        _ => marks.resize(size(random, marks.len()), 7),
+    }
+}
+
 /// Does one damage to a text: a byte is changed, taken out, put in or exchanged with the next; a piece is doubled; the end is cut off.
 pub fn text(random: &mut Random, bytes: &mut Vec<u8>) {
     let Some(last) = bytes.len().checked_sub(1) else { return };

@@ -48,3 +48,29 @@ pub fn small(random: &mut Random) -> (usize, Vec<u8>) {
     }
     (faults, table)
 }
+
+/// Every list of 0, 1 and 2 of this length, entries or marks.
+pub fn every(len: u32) -> impl Iterator<Item = Vec<u8>> {
+    (0..3usize.pow(len)).map(move |number| (0..len).map(|place| (number / 3usize.pow(place) % 3) as u8).collect())
+}
+
+/// Marks of so many patterns, with few or many of them kept; now and then one or several are neither 0 nor 1.
+pub fn marks(random: &mut Random, patterns: usize) -> Vec<u8> {
+    let dropped = random.below(9);
+    let mut marks: Vec<u8> = (0..patterns).map(|_| u8::from(random.below(8) >= dropped)).collect();
+    while random.once_in(6) {
+        marks[random.below(patterns)] = random.pick(&[2, 3, 128, 255]);
+    }
+    marks
+}
+
+/// Table 1 of paper 000: seven faults, and the patterns v1 to v5. Our copy of it has lost its columns; the example around it leaves two tables,
+/// which differ by exchanging v2 and v3.
+pub fn table_1_of_paper_000() -> [Vec<u8>; 2] {
+    let v1 = [1, 0, 0, 0, 0, 0, 0];
+    let v2 = [0, 1, 0, 0, 0, 0, 0];
+    let v3 = [0, 1, 1, 1, 0, 0, 1];
+    let v4 = [0, 1, 1, 1, 1, 1, 1];
+    let v5 = [0, 0, 0, 0, 1, 1, 1];
+    [[v1, v2, v3, v4, v5].concat(), [v1, v3, v2, v4, v5].concat()]
+}

@@ -5,12 +5,12 @@ use crate::refusal::{ensure, refusal, Refusal};
 /// One entry for each fault.
 pub type Row = Vec<Entry>;
 
-/// What the kept patterns must still do.
-#[derive(Clone, Copy, Debug, PartialEq, Eq)]
+/// What the kept patterns must still do. The faults come before the pairs, and these by their first fault and then by their second.
+#[derive(Clone, Copy, Debug, PartialEq, Eq, PartialOrd, Ord)]
 pub enum Need {
     /// The fault is detected.
     Detected(usize),
-    /// The two faults are told apart.
+    /// The two faults, the lower one first, are told apart.
     Apart(usize, usize),
 }
 
@@ -38,15 +38,24 @@ pub fn needs(table: &[Row]) -> Vec<Need> {
     detected.iter().map(|&fault| Need::Detected(fault)).chain(pairs.filter(met)).collect()
 }
 
+/// These patterns meet every one of the needs.
+pub fn meet_all(table: &[Row], patterns: &[usize], needs: &[Need]) -> bool {
+    needs.iter().all(|need| need.is_met(patterns.iter().map(|&pattern| &table[pattern])))
+}
+
+/// The others of these patterns.
+pub fn without(patterns: &[usize], out: usize) -> Vec<usize> {
+    patterns.iter().copied().filter(|&pattern| pattern != out).collect()
+}
+
 /// The patterns that are kept, in order: from the last to the first, a pattern is dropped if those still in the set without it meet every
 /// need.
 pub fn kept(table: &[Row]) -> Vec<usize> {
     let needs = needs(table);
     (0..table.len()).rev().fold((0..table.len()).collect(), |kept: Vec<usize>, pattern| {
-        let without: Vec<usize> = kept.iter().copied().filter(|&other| other != pattern).collect();
-        let spared = needs.iter().all(|need| need.is_met(without.iter().map(|&pattern| &table[pattern])));
-        if spared {
-            without
+        let others = without(&kept, pattern);
+        if meet_all(table, &others, &needs) {
+            others
         } else {
             kept
         }
@@ -57,15 +66,20 @@ fn entry(byte: u8) -> Option<Entry> {
     [Entry::Pass, Entry::Fail, Entry::Unknown].into_iter().find(|&entry| entry as u8 == byte)
 }
 
-/// The compactor, lent so many marks: 1 for kept, 0 for dropped.
-pub fn compact(fault_count: u64, pattern_count: u64, table: &[u8], marks: usize) -> Result<Vec<u8>, Refusal> {
+/// The rows of a table with which so many marks are lent. Refusals 12, 13, then 10.
+pub fn read(fault_count: u64, pattern_count: u64, table: &[u8], marks: usize) -> Result<Vec<Row>, Refusal> {
     let sizes = 1..=256;
     ensure(sizes.contains(&fault_count) && sizes.contains(&pattern_count), 12)?;
     ensure(table.len() as u64 == fault_count * pattern_count, 12)?;
     let entries = table.iter().enumerate().map(|(place, &byte)| entry(byte).ok_or(refusal(13, place)));
     let entries = entries.collect::<Result<Vec<Entry>, _>>()?;
     ensure(marks as u64 == pattern_count, 10)?;
-    let rows: Vec<Row> = entries.chunks_exact(fault_count as usize).map(<[_]>::to_vec).collect();
+    Ok(entries.chunks_exact(fault_count as usize).map(<[_]>::to_vec).collect())
+}
+
+/// The compactor, lent so many marks: 1 for kept, 0 for dropped.
+pub fn compact(fault_count: u64, pattern_count: u64, table: &[u8], marks: usize) -> Result<Vec<u8>, Refusal> {
+    let rows = read(fault_count, pattern_count, table, marks)?;
     let kept = kept(&rows);
     Ok((0..rows.len()).map(|pattern| u8::from(kept.contains(&pattern))).collect())
 }

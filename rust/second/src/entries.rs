@@ -53,6 +53,11 @@ pub fn compact(fault_count: u64, pattern_count: u64, table: &[u8], marks: &[u8],
     seen(answer, vec![marks.to_vec().into()], compacted.map(|marks| (vec![], vec![marks.into()])))
 }
 
+pub fn audit(fault_count: u64, pattern_count: u64, table: &[u8], marks: &[u8], answer: &[u8]) -> Seen {
+    let found = crate::audit(fault_count, pattern_count, table, marks);
+    seen(answer, vec![], found.map(|finding| (finding.numbers(), vec![])))
+}
+
 pub fn search(circuit: &[u8], fault: &[u8], budget: u64, test: &[u8], work: &[u8], answer: &[u8]) -> Seen {
     let searched = crate::search(circuit, fault, budget, test.len(), work.len());
     let written = |Searched { outcome, nodes, test: found, work: last }| {

@@ -4,6 +4,7 @@
 //! It goes its own way. Records are read into values that cannot be wrong, so that what is refused is what cannot be read; nothing is
 //! lent and nothing is written over; definitions are run as they stand. It depends on nothing and is in no hurry.
 
+pub mod audit;
 pub mod bench;
 pub mod circuit;
 pub mod clauses;
@@ -20,6 +21,7 @@ pub mod search_all;
 pub mod slice;
 pub mod values;
 
+pub use audit::{audit, Finding};
 pub use bench::bench;
 pub use circuit::{check, Circuit, Counts};
 pub use clauses::{clauses, Written};

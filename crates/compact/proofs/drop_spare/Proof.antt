@@ -3,7 +3,8 @@
 use mathlib.Core.Path.{refl, ap, _∙_}
 use borrow.Author.Needs.{needs}
 use lib.ListN.{length, length-replicate}
-use Rattle.compact.proofs.Loops.{sizes-after, ToGo, all-to-go, ready-next, one-gone, none-to-go}
+use Rattle.tallies.proofs.Tallies.{room-after}
+use Rattle.compact.proofs.Turns.{ToGo, all-to-go, ready-next, one-gone, none-to-go}
 use Rattle.compact.proofs.drop_spare.Statement.{statement}
 use Rattle.compact.proofs.drop_spare.Tie as tie
 
@@ -20,7 +21,7 @@ turn-requires : tie.Need-turn-requires Inv-loop μ-loop
 turn-requires c κs =
     let s = c .before .before .before .before .before .before .before .before in
     let l = c .before .before .before .loop in (
-      sizes-after _ _ (s .pre .0) (l .inv .cells) refl,
+      room-after _ _ (s .pre .0) (l .inv .cells) refl,
       (record { marks = l .inv .marks ∙ ap length (s .pre .1 .0) ∙ length-replicate _ 1; below = search needs }, ready-next (l .inv) (search needs)),
     )
 

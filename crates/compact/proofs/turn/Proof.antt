@@ -1,7 +1,8 @@
 -- `compact::turn` meets its contract: by the counts, which decide as the definition does.
 -- Assumes nothing.
 use native.Mathlib.Omega.{arith}
-use Rattle.compact.proofs.Loops.{row-inside, row-cells, stays, goes}
+use Rattle.tallies.proofs.Tallies.{row-inside, row-cells, row-notes}
+use Rattle.compact.proofs.Turns.{stays, goes}
 use borrow.Author.Needs.{needs}
 use Rattle.compact.proofs.turn.Statement.{statement}
 use Rattle.compact.proofs.turn.Tie as tie
@@ -12,7 +13,9 @@ mul-from c =
     omega (arith, row-inside (s .args .p) (s .args .patterns) (s .args .faults) (search needs))
 
 needed-requires : tie.Need-needed-requires
-needed-requires c κs = let s = c .before .before .before .before .before in (row-cells (s .pre .0) _ (s .pre .1 .0 .below), search needs)
+needed-requires c κs =
+    let s = c .before .before .before .before .before in
+    (row-cells (s .pre .0) _ (s .pre .1 .0 .below), row-notes (s .pre .0) (s .pre .1 .1 .seen))
 
 returns : tie.Need-returns
 returns c =

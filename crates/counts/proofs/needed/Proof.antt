@@ -4,7 +4,7 @@ use Prim.Native.Nat.{_-_}
 use borrow.Author.Needs.{needs}
 use Rattle.ground.proofs.Below.{None, none-yet, found, none-more, not-found}
 use Rattle.counts.specs.Owed.{soleAt}
-use Rattle.counts.proofs.Only.{needed-fault, needed-pair}
+use Rattle.counts.proofs.Only.{fewer-notes, needed-fault, needed-pair}
 use Rattle.counts.proofs.needed.Statement.{statement}
 use Rattle.counts.proofs.needed.Tie as tie
 
@@ -19,6 +19,11 @@ returns c = needed-fault _ _ _ _ _ (c .before .sole-in .ensures) (c .if1 .taken)
 
 loop-holds : tie.Need-loop-holds Inv-loop μ-loop
 loop-holds c = none-yet _ _
+
+sole-at-requires : tie.Need-sole-at-requires Inv-loop μ-loop
+sole-at-requires c κs =
+    let s = c .before .before .before .before .before .before .before in
+    (search needs, (fewer-notes (s .pre .1) _ (search needs), search needs))
 
 returns-2 : tie.Need-returns-2 Inv-loop μ-loop
 returns-2 c =
@@ -43,7 +48,7 @@ needed-spec =
     (λ c κs. search needs)
     returns
     loop-holds
-    (λ c κs. search needs)
+    sole-at-requires
     returns-2
     (λ c. search needs)
     (λ c. search needs)

@@ -16,6 +16,9 @@ abbrev μ-loop : tie.MeasureT-loop
 loop-holds : tie.Need-loop-holds Inv-loop μ-loop
 loop-holds c = none-some _ _
 
+sole-requires : tie.Need-sole-requires Inv-loop μ-loop
+sole-requires c κs = c .before .before .before .before .before .before .before .before .pre .1 .bit _ (search needs)
+
 loop-again : tie.Need-loop-again Inv-loop μ-loop
 loop-again c = some-more (c .before .before .before .before .before .loop .inv) (search needs) (c .sole .ensures)
 
@@ -34,7 +37,7 @@ sole-in-spec =
     (λ c. search needs)
     (λ c. search needs)
     (λ c. search needs)
-    (λ c κs. search needs)
+    sole-requires
     (λ c. search needs)
     (λ c. search needs)
     loop-again

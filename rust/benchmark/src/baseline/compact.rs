@@ -2,10 +2,10 @@
 use super::report;
 
 /// The cells of the pairs f < g stand at 256 g + f, those of the n faults behind them, from 256 n on.
-const ROW: usize = 256;
+pub const ROW: usize = 256;
 
 /// A table with fewer faults has little to clear.
-const MANY: usize = 16;
+pub const MANY: usize = 16;
 
 /// Counts a row in or out, modulo 256, where the entry is `want`.
 fn count_row(cells: &mut [u8], row: &[u8], want: u8, into: bool) {
@@ -16,15 +16,20 @@ fn count_row(cells: &mut [u8], row: &[u8], want: u8, into: bool) {
 }
 
 /// Counts a pattern in or out. Where a fault passes, its pairs look for fails, where it fails for passes; unknown tells nothing.
-fn count(counts: &mut [u8], row: &[u8], into: bool) {
+pub fn count(counts: &mut [u8], row: &[u8], into: bool) {
     for (g, &entry) in row.iter().enumerate().filter(|(_, &entry)| entry <= 1) {
         count_row(&mut counts[ROW * g..ROW * g + g], row, 1 - entry, into);
     }
     count_row(&mut counts[ROW * row.len()..], row, 1, into);
 }
 
+/// Notes the faults that a pattern fails.
+pub fn see(seen: &mut [u8], row: &[u8]) {
+    seen.iter_mut().zip(row).for_each(|(seen, &entry)| *seen |= (entry == 1) as u8);
+}
+
 /// Whether the pattern is the only one for some fault or for some pair of detected faults.
-fn needed(counts: &[u8], seen: &[u8], row: &[u8]) -> bool {
+pub fn needed(counts: &[u8], seen: &[u8], row: &[u8]) -> bool {
     let sole = |cells: &[u8], want: u8| {
         let hits = cells.iter().zip(seen).zip(row).map(|((&cell, &seen), &entry)| (cell == 1) as u8 & seen & (entry == want) as u8);
         hits.fold(0, |any, hit| any | hit) != 0
@@ -33,7 +38,8 @@ fn needed(counts: &[u8], seen: &[u8], row: &[u8]) -> bool {
         || (0..row.len()).any(|g| seen[g] == 1 && row[g] <= 1 && sole(&counts[ROW * g..ROW * g + g], 1 - row[g]))
 }
 
-fn compact(faults: u64, patterns: u64, table: &[u8], marks: &mut [u8]) -> Result<(), (u32, usize)> {
+/// The first thing that is wrong with a table and its marks.
+pub fn check(faults: u64, patterns: u64, table: &[u8], marks: &[u8]) -> Result<(), (u32, usize)> {
     let range = 1..=256;
     if !range.contains(&faults) || !range.contains(&patterns) || table.len() as u64 != faults * patterns {
         return Err((12, 0));
@@ -44,6 +50,11 @@ fn compact(faults: u64, patterns: u64, table: &[u8], marks: &mut [u8]) -> Result
     if marks.len() as u64 != patterns {
         return Err((10, 0));
     }
+    Ok(())
+}
+
+fn compact(faults: u64, patterns: u64, table: &[u8], marks: &mut [u8]) -> Result<(), (u32, usize)> {
+    check(faults, patterns, table, marks)?;
     match faults as usize {
         few @ ..MANY => mark(&mut [0; ROW * MANY], few, table, marks),
         many => mark(&mut [0; ROW * 257], many, table, marks),
@@ -58,7 +69,7 @@ fn mark(counts: &mut [u8], faults: usize, table: &[u8], marks: &mut [u8]) {
     marks.fill(1);
     for row in rows() {
         count(counts, row, true);
-        seen.iter_mut().zip(row).for_each(|(seen, &entry)| *seen |= (entry == 1) as u8);
+        see(&mut seen, row);
     }
     for (row, mark) in rows().zip(marks).rev() {
         if !needed(counts, &seen, row) {

@@ -1,0 +1,2 @@
+pub mod Findings
+pub mod Words

@@ -1,0 +1,4 @@
+pub mod Shown
+pub mod Pairs
+pub mod Spare
+pub mod InOrder
