@@ -66,13 +66,13 @@ typedef __UINT64_TYPE__ uint64_t;
 /* Refusals: name, number, what it says, and what its place counts ("" where the place is always 0). They are checked in this order, and the
    first that applies is given, with the lowest place; but compactor and audit check 12 and 13 before the size of the marks, and the bench
    reader 14 to 16 first, then 1, 4 and 5 on the records that it would write, then the size of its buffer.
+   No refusal has the number 3. It stood for no input; past 2 line 0 is always one, since there is no line below it for a gate to read.
    14: the place is the first byte such that no right text begins with the bytes up to it, or byte 32,768, or the length of a text that ends
    early. 15: the first byte of the name, where it is used or defined a second time. 16: gates alone are counted, from 0, in the text's order.
    What prints these words takes them from here, as examples/front_end.c does. */
 #define ULLIMAQSU_REFUSALS(each) \
     each(ULLIMAQSU_CIRCUIT_SIZE,    1, "the circuit is not a multiple of 8 bytes, empty, or above 2,048 records", "") \
     each(ULLIMAQSU_CIRCUIT_LAYOUT,  2, "a circuit record breaks its layout", "line") \
-    each(ULLIMAQSU_NO_INPUT,        3, "the circuit has no input", "") \
     each(ULLIMAQSU_MANY_INPUTS,     4, "the circuit has more than 64 inputs", "") \
     each(ULLIMAQSU_NO_OUTPUT,       5, "the circuit has no output", "") \
     each(ULLIMAQSU_FAULTS_SIZE,     6, "the faults are not a multiple of 8 bytes, empty, or above 256 records (search and clauses for one fault: not 8 bytes)", "") \
@@ -135,12 +135,12 @@ enum ullimaqsu_kind {
 extern "C" {
 #endif
 
-/* The circuit check. Refusals 1 to 5.
+/* The circuit check. Refusals 1, 2, 4 and 5.
    Answer: the numbers of lines, inputs and outputs. */
 uint32_t ullimaqsu_check(const uint8_t *circuit, size_t circuit_len,
                          uint8_t *answer, size_t answer_len);
 
-/* The dictionary maker. Refusals 1 to 10. N is the number of lines.
+/* The dictionary maker. Refusals 1, 2 and 4 to 10. N is the number of lines.
    Fills the table, one entry for each pattern and fault: its size is exactly faults times patterns. The work memory, exactly 2 N bytes, then
    holds the good and after them the faulty values of all lines, of the last pattern with the last fault.
    Answer: nothing but that it is done. */
@@ -151,7 +151,7 @@ uint32_t ullimaqsu_dictionary(const uint8_t *circuit, size_t circuit_len,
                               uint8_t *work, size_t work_len,
                               uint8_t *answer, size_t answer_len);
 
-/* The dictionary maker that carries 64 patterns at once, one in each bit of a word. Refusals 1 to 10. N is the number of lines.
+/* The dictionary maker that carries 64 patterns at once, one in each bit of a word. Refusals 1, 2 and 4 to 10. N is the number of lines.
    Fills the table as ullimaqsu_dictionary does. The patterns go in groups of 64, the last of which may have fewer: its spare lanes carry a
    pattern of all X. The work memory, exactly 4 N words, then holds the last group with the last fault. Bit i belongs to the group's pattern
    i: at word 2k it is set where the good value of line k is 1, at word 2k+1 where it is 0, and at neither where it is X; the faulty values
@@ -184,7 +184,7 @@ uint32_t ullimaqsu_audit(uint64_t fault_count, uint64_t pattern_count,
                          const uint8_t *marks, size_t marks_len,
                          uint8_t *answer, size_t answer_len);
 
-/* The test search, for one fault. Refusals 1 to 7 and 10. N is the number of lines, n of inputs.
+/* The test search, for one fault. Refusals 1, 2, 4 to 7 and 10. N is the number of lines, n of inputs.
    A node is a pattern; the first is all X. A node that fails is the test. One at which every output is known in both circuits and equal
    is left. At any other the first X is set to 0 and, when that side is finished, to 1. The budget is the most nodes that are looked at:
    the search gives up exactly if without a budget it would look at more.
@@ -198,7 +198,7 @@ uint32_t ullimaqsu_search(const uint8_t *circuit, size_t circuit_len,
                           uint8_t *work, size_t work_len,
                           uint8_t *answer, size_t answer_len);
 
-/* The test search, for a list of faults with one budget each. Refusals 1 to 7 and 10. N is the number of lines, n of inputs.
+/* The test search, for a list of faults with one budget each. Refusals 1, 2, 4 to 7 and 10. N is the number of lines, n of inputs.
    Does in one call what single searches do, one after the other with the same work memory. The results of a fault are its outcome, the count
    of nodes looked at, and n test bytes, written only for a test. Budgets, outcomes and counts are exactly as many as the faults, the test
    bytes n times as many. The work memory, exactly 2 N bytes, ends as the last of the searches leaves it; one with budget 0 leaves it as the
@@ -213,7 +213,7 @@ uint32_t ullimaqsu_search_all(const uint8_t *circuit, size_t circuit_len,
                               uint8_t *work, size_t work_len,
                               uint8_t *answer, size_t answer_len);
 
-/* The clause writer, for one fault. Refusals 1 to 7 and 11. N is the number of lines.
+/* The clause writer, for one fault. Refusals 1, 2, 4 to 7 and 11. N is the number of lines.
    Variables: the good value of line k is 2k+1, its faulty value 2k+2, the stuck value 2N+1, the difference at the j-th output, from 0 in
    line order, 2N+2+j. Clauses, in this order, each closed by a 0, a negated variable negative: the good gates in line order; the stuck
    value; the faulty lines in line order, where the stuck line or pin reads the stuck value and an input its good value; the differences;

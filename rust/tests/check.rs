@@ -5,12 +5,13 @@
 mod defects;
 mod harness;
 
-use cases::circuits::{circuit, example_a, record, small, AND, BUFFER, INPUT, NOT};
+use cases::circuits::{circuit, example_a, record, small, AND, BUFFER, INPUT, NOT, XNOR};
 use cases::{damage, drawn, Random};
 use defects::defects;
 use harness::{compare, first_defect_is_told, library, wrong_programs_are_seen, Case, Check, Defect};
 use second::entries::{self, Seen};
 use second::{Counts, Refusal};
+use std::collections::BTreeSet;
 use std::ops::Range;
 
 impl Case for Check {
@@ -91,6 +92,31 @@ fn every_byte_and_all_boundaries() {
     assert_eq!(compare("check, boundaries", with_areas(boundaries())).seen(), [0, 1, 2, 4, 5, 10]);
 }
 
+/// Sound circuits, and some with too many inputs or no output.
+fn sound_lines(random: &mut Random) -> Vec<u8> {
+    let mut circuit = if random.once_in(10) { circuit(random, 70, 66) } else { small(random) };
+    if random.once_in(3) {
+        circuit.chunks_exact_mut(8).for_each(|record| record[1] = 0);
+    }
+    circuit
+}
+
+/// Why no refusal has the number 3: with sound lines after it line 0 gets past refusal 2 as an input, and as no gate.
+#[test]
+fn line_0() {
+    let of_each_kind = |circuit: Vec<u8>| (INPUT..=XNOR).map(move |kind| [&[kind], &circuit[1..]].concat());
+    let circuits = drawn(6, 10_000, sound_lines).flat_map(of_each_kind);
+    let cases: Vec<_> = circuits.map(|circuit| Check { circuit, answer: vec![7; 32] }).collect();
+    let mut past = BTreeSet::new();
+    for (case, seen) in cases.iter().zip(library(&cases)) {
+        match case.circuit[0] {
+            INPUT => past.extend([seen.returned]),
+            _ => assert_eq!((seen.returned, seen.answer), (2, vec![0; 32]), "{:?}", case.circuit),
+        }
+    }
+    assert_eq!(past, BTreeSet::from([0, 4, 5]));
+}
+
 /// An area of another size comes before every other check, and stays.
 #[test]
 fn areas() {
@@ -120,11 +146,15 @@ fn instead(circuit: &[u8], number: u32, condition: bool, other: u32) -> Result<C
 type Wrong = (&'static str, fn(&[u8]) -> Result<Counts, Refusal>);
 
 /// Programs that are wrong in one way each.
-const WRONG: [Wrong; 12] = [
+const WRONG: [Wrong; 14] = [
     ("refuses everything", |_| Err(Refusal { number: 1, place: 0 })),
     ("swaps two counts", |c| second::check(c).map(|n| Counts { inputs: n.outputs, outputs: n.inputs, ..n })),
     ("gives a place one too high", |c| second::check(c).map_err(|r| Refusal { place: r.place + (r.number == 2) as usize, ..r })),
     ("lets a line read itself", |c| cleared(c, 2..4, |line, r| r[0] > 0 && line > 0 && r[2..4] == (line as u16).to_le_bytes())),
+    ("lets line 0 read itself", |c| {
+        let counts = cleared(c, 0..1, |line, r| line == 0 && r[0] <= XNOR && r[2..] == [0; 6]);
+        counts.map(|n| Counts { inputs: n.inputs - usize::from(c[0] != INPUT), ..n })
+    }),
     ("lets a buffer have a second source", |c| cleared(c, 4..6, |_, r| r[0] == BUFFER)),
     ("lets an input have a source", |c| cleared(c, 2..4, |_, r| r[0] == INPUT)),
     ("does not look at bytes 6 and 7", |c| cleared(c, 6..8, |_, _| true)),
@@ -132,6 +162,7 @@ const WRONG: [Wrong; 12] = [
     ("takes kind 9 for an input", |c| cleared(c, 0..1, |_, r| r[0] == 9)),
     ("asks for outputs before it counts inputs", |c| instead(c, 4, c.chunks_exact(8).all(|r| r[1] == 0), 5)),
     ("counts inputs before it looks at layouts", |c| instead(c, 2, c.chunks_exact(8).filter(|r| r[0] == INPUT).count() > 64, 4)),
+    ("asks for an input before it looks at layouts", |c| instead(c, 2, c.chunks_exact(8).all(|r| r[0] != INPUT), 3)),
     ("looks at layouts before it looks at the size", |c| instead(c, 1, c.len() > 8 && c[0] == BUFFER, 2)),
 ];
 

@@ -2,17 +2,13 @@
 -- Assumes nothing.
 use mathlib.Core.Path.{_≡_, refl, sym, ap, _∙_}
 use mathlib.Core.Logic.{⊎-elim}
-use mathlib.Core.Bool.{Bool, true, false}
 use mathlib.Core.List.{List}
-use Prim.Native.Nat.{ℕ, _≤_}
+use Prim.Native.Nat.{ℕ}
 use native.Mathlib.Omega.{arith}
-use lib.Dec.{leb}
-use borrow.Author.Tests.{ne-eqb}
-use Rattle.ground.specs.Choose.{choose}
 use Rattle.ground.proofs.Tests.{either}
 use Rattle.answers.specs.declared.Ruling.{Ruling}
 use Rattle.answers.specs.Rules.{refusal, AllHold}
-use Rattle.answers.proofs.Rules.{all-hold}
+use Rattle.answers.proofs.Rules.{all-hold, both-fine}
 use Rattle.answers.proofs.Answer.{was-ruled}
 use Rattle.gates.specs.Gate.{pinsOf}
 use Rattle.circuit.specs.declared.Checked.{Checked}
@@ -22,17 +18,9 @@ use Rattle.circuit.specs.Layout.{Layout}
 use Rattle.circuit.specs.Promise.{layoutRules, countRules, circuitRules, checkOf, Checks}
 use Rattle.circuit.specs.Formed.{Lower, Good, Accepts, Known}
 use Rattle.circuit.proofs.Says.{circuit-says, rulingOf, ruled}
+use Rattle.circuit.proofs.FirstLine.{gate-pin, some-input}
 
--- a gate has a first pin
-pub gate-pin : (kind : ℕ) → (kind ≡ 0 → ⊥) → 1 ≤ pinsOf kind
-unfolding pinsOf
-gate-pin kind ne = rw (ne-eqb kind 0 ne) (go (leb kind 2))
-  where
-    go : (t : Bool) → 1 ≤ choose t 1 2
-    go true = omega arith
-    go false = omega arith
-
--- so its line is not the lowest, and a source that it lacks is lower too
+-- a gate has a first pin, so its line is not the lowest, and a source that it lacks is lower too
 lower : (c : List ℕ) (k : ℕ) → Layout c k → (kindAt c k ≡ 0 → ⊥) → Lower c k
 lower c k l ne s a b =
     let first = l .pin 1 (omega arith) (omega arith) .has (gate-pin (kindAt c k) ne) in
@@ -45,9 +33,9 @@ good c e =
     record {
       some-lines = a .0 .some;
       most-lines = a .0 .few;
-      some-inputs = a .1 .1 .0;
-      most-inputs = a .1 .1 .1 .0;
-      some-outputs = a .1 .1 .1 .1 .0;
+      some-inputs = some-input c (both-fine (layoutRules c) (countRules (inputsOf c) (outputsOf c)) e .0);
+      most-inputs = a .1 .1 .0;
+      some-outputs = a .1 .1 .1 .0;
       well = record {
         size = a .0 .multiple;
         kinds = λ k l. a .1 .0 k l .kind;

@@ -28,7 +28,7 @@ checks c e = record {
 }
 
 module _ (c : List ℕ) where
-  layout-refused : (x y : ℕ) → Ruling.Refused x y ≡ refusal (layoutRules c) → Refused x y ≡ checkOf c
+  pub layout-refused : (x y : ℕ) → Ruling.Refused x y ≡ refusal (layoutRules c) → Refused x y ≡ checkOf c
   unfolding checkOf
   layout-refused x y e = rw (after-refused (layoutRules c) (countRules (inputsOf c) (outputsOf c)) (sym e))
 

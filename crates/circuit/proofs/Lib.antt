@@ -1,5 +1,6 @@
 pub mod Lines
 pub mod Answer
 pub mod Says
+pub mod FirstLine
 pub mod Accepted
 pub mod Sizes

@@ -1,14 +1,15 @@
 -- The test of a record holds exactly where the record keeps its layout.
 -- Assumes nothing.
-use mathlib.Core.Path.{_≡_, refl}
-use mathlib.Core.Bool.{Bool, true, false}
+use mathlib.Core.Path.{_≡_}
+use mathlib.Core.Logic.{⊎-elim}
+use mathlib.Core.Bool.{true}
 use mathlib.Core.List.{List}
 use Prim.Native.Nat.{ℕ, zero, suc, _≤_, _<_}
 use native.Mathlib.Omega.{arith}
-use lib.Dec.{eqb, leb, ltb}
-use borrow.Author.Tests.{eqb-true, leb-true, ltb-true, leb-false, eq-eqb, le-leb, lt-ltb}
-use Rattle.ground.specs.Choose.{choose, one}
-use Rattle.ground.proofs.Tests.{T-is, is-T, and-both, same-test, bit-one}
+use lib.Dec.{eqb, ltb}
+use borrow.Author.Tests.{eqb-true, leb-true, ltb-true, lt-leb, eq-eqb, le-leb, lt-ltb}
+use Rattle.ground.specs.Choose.{one}
+use Rattle.ground.proofs.Tests.{either, T-is, is-T, and-both, same-test, bit-one}
 use Rattle.ground.proofs.Below.{at-below}
 use Rattle.answers.specs.Rules.{Same}
 use Rattle.gates.specs.Gate.{lastKind, pinsOf}
@@ -31,19 +32,12 @@ below-one n = same-test (ltb n 1) (eqb n 0) (λ e. eq-eqb n 0 (omega (arith, ltb
 module _ (c : List ℕ) (k : ℕ) where
   pin : (s : ℕ) → pinOk c k s ≡ true → Pin c k s
   unfolding pinOk
-  pin s e = go (leb s (pinsOf (kindAt c k))) refl e
-    where
-      go : (t : Bool) → leb s (pinsOf (kindAt c k)) ≡ t → choose t (ltb (pinAt c k s) k) (eqb (pinAt c k s) 0) ≡ true → Pin c k s
-      go true q e = let l = leb-true s _ q in record { has = λ _. ltb-true _ _ e; lacks = λ h. absurd (omega arith) }
-      go false q e = let l = leb-false s _ q in record { has = λ h. absurd (omega arith); lacks = λ _. eqb-true _ _ e }
+  pin s e = record { has = λ h. ltb-true _ _ (rw (le-leb s _ h) at e); lacks = λ h. eqb-true _ _ (rw (lt-leb s _ h) at e) }
 
   pin-ok : (s : ℕ) → Pin c k s → pinOk c k s ≡ true
   unfolding pinOk
-  pin-ok s p = go (leb s (pinsOf (kindAt c k))) refl
-    where
-      go : (t : Bool) → leb s (pinsOf (kindAt c k)) ≡ t → choose t (ltb (pinAt c k s) k) (eqb (pinAt c k s) 0) ≡ true
-      go true q = lt-ltb _ _ (p .has (leb-true s _ q))
-      go false q = eq-eqb _ _ (p .lacks (leb-false s _ q))
+  pin-ok s p =
+      ⊎-elim (λ h. rw (lt-leb s _ h) (eq-eqb _ _ (p .lacks h))) (λ h. rw (le-leb s _ h) (lt-ltb _ _ (p .has h))) (either (pinsOf (kindAt c k)) s)
 
   -- a record whose test holds keeps each field's rule
   field : lineOk c k ≡ true → (i : ℕ) → i < 5 → fieldOk c k i ≡ true
@@ -77,8 +71,4 @@ module _ (c : List ℕ) (k : ℕ) where
   -- one comparison serves both
   pub limit-ok : (s : ℕ) → ltb (pinAt c k s) (limitOf c k s) ≡ pinOk c k s
   unfolding pinOk limitOf
-  limit-ok s = go (leb s (pinsOf (kindAt c k)))
-    where
-      go : (t : Bool) → ltb (pinAt c k s) (choose t k 1) ≡ choose t (ltb (pinAt c k s) k) (eqb (pinAt c k s) 0)
-      go true = refl
-      go false = below-one (pinAt c k s)
+  limit-ok s = ⊎-elim (λ h. rw (lt-leb s _ h) (below-one (pinAt c k s))) (λ h. rw (le-leb s _ h)) (either (pinsOf (kindAt c k)) s)

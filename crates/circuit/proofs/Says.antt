@@ -24,7 +24,7 @@ layout-says c = (records-same 8 2048 (length c) (omega arith), ((λ k l. layout-
 
 pub counts-say : (m o : ℕ) → AllSay (countRules m o)
 unfolding countRules AllSay
-counts-say m o = (le-same 1 m, (le-same m 64, (le-same 1 o, tt)))
+counts-say m o = (le-same m 64, (le-same 1 o, tt))
 
 pub circuit-says : (c : List ℕ) → AllSay (circuitRules c)
 circuit-says c = both-say (layoutRules c) _ (layout-says c) (counts-say (inputsOf c) (outputsOf c))

@@ -1,4 +1,4 @@
--- Part 1, the circuit check: the refusals 1 to 5, what it answers, and what it promises.
+-- Part 1, the circuit check: the refusals 1, 2, 4 and 5, what it answers, and what it promises.
 -- Assumes nothing.
 use mathlib.Core.Path.{_≡_}
 use mathlib.Core.List.{List, [], _∷_, _++_}
@@ -22,11 +22,11 @@ layoutRules c =
     ∷ each 2 (linesOf c) (lineOk c) (Layout c)
     ∷ []
 
--- some input, not more than 64 inputs, some output
+-- not more than 64 inputs, some output. No rule has the number 3, which stood for no input: past 2 there is one, at line 0, since a gate reads a line below it
+-- (`first-input`, `some-input` in proofs/FirstLine.antt)
 unfoldable pub countRules : ℕ → ℕ → List Rule
 countRules inputs outputs =
-    whole 3 (leb 1 inputs) (1 ≤ inputs) 0
-    ∷ whole 4 (leb inputs 64) (inputs ≤ 64) 0
+    whole 4 (leb inputs 64) (inputs ≤ 64) 0
     ∷ whole 5 (leb 1 outputs) (1 ≤ outputs) 0
     ∷ []
 

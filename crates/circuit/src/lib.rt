@@ -114,13 +114,10 @@ fn count_lines(circuit: &[u8], n: usize) -> LineCounts
     }
 }
 
-// Refusals 3 to 5.
+// Refusals 4 and 5.
 fn check_counts(inputs: usize, outputs: usize) -> Ruling
     ensures { λ r. ⌜ r ≡ refusal (countRules inputs outputs) ⌝ }
 {
-    if inputs < 1 {
-        return Ruling::Refused(3, 0);
-    }
     if 64 < inputs {
         return Ruling::Refused(4, 0);
     }

@@ -31,7 +31,7 @@ clausesFor c fault = clausesOf c fault (linesOf c)
 abbrev pub wordsFor : List ℕ → Fault → List ℤ
 wordsFor c fault = wordsOf (clausesFor c fault)
 
--- refusals 1 to 5, then 6 (not exactly one record, eight bytes) and 7, then 11
+-- the refusals of the circuit check, then 6 (not exactly one record, eight bytes) and 7, then 11
 abbrev pub clauseRules : List ℕ → List ℕ → ℕ → List Rule
 clauseRules c fs room = circuitRules c ++ (faultRules 1 c fs ++ roomRules (length (wordsFor c (faultAt fs 0))) room)
 

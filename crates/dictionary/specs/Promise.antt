@@ -1,4 +1,4 @@
--- Part 2, the dictionary maker: the refusals 1 to 10, and what it promises. The engines that make the table differ in their work memory alone.
+-- Part 2, the dictionary maker: the refusals 1, 2 and 4 to 10, and what it promises. The engines that make the table differ in their work memory alone.
 -- Assumes nothing.
 use mathlib.Core.Path.{_≡_}
 use mathlib.Core.List.{List, _++_}

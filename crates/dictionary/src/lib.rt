@@ -35,7 +35,7 @@ fn check_rest(
     }
 }
 
-// Refusals 1 to 10, where each line has so many places in the work memory: every engine starts with them. The circuit's numbers come back.
+// Refusals 1, 2 and 4 to 10, where each line has so many places in the work memory: every engine starts with them. The circuit's numbers come back.
 pub fn check_all(
     circuit: &[u8],
     faults: &[u8],

@@ -121,7 +121,7 @@ impl Line {
 }
 
 impl Circuit {
-    /// Reads a circuit. Refusals 1 to 5.
+    /// Reads a circuit. Refusals 1, 2, 4 and 5.
     pub fn read(bytes: &[u8]) -> Result<Circuit, Refusal> {
         let lines = records(bytes, 2048)
             .ok_or(refusal(1, 0))?
@@ -130,7 +130,6 @@ impl Circuit {
             .collect::<Result<_, _>>()?;
         let circuit = Circuit { lines };
         let Counts { inputs, outputs, .. } = circuit.counts();
-        ensure(inputs > 0, 3)?;
         ensure(inputs <= 64, 4)?;
         ensure(outputs > 0, 5)?;
         Ok(circuit)

@@ -57,7 +57,7 @@ pub struct Given {
 }
 
 impl Given {
-    /// Reads it. Refusals 1 to 9.
+    /// Reads it. Refusals 1, 2 and 4 to 9.
     pub fn read(circuit: &[u8], faults: &[u8], patterns: &[u8]) -> Result<Given, Refusal> {
         let circuit = Circuit::read(circuit)?;
         let faults = Fault::read_all(&circuit, faults, 256)?;

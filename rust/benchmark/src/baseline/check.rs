@@ -28,7 +28,6 @@ pub fn check(circuit: &[u8]) -> Result<[usize; 3], (u32, usize)> {
         outputs += usize::from(circuit[8 * k + 1]);
     }
     match (inputs, outputs) {
-        (0, _) => Err((3, 0)),
         (65.., _) => Err((4, 0)),
         (_, 0) => Err((5, 0)),
         _ => Ok([n, inputs, outputs]),

@@ -24,7 +24,7 @@ pub fn check_faults(circuit: &[u8], faults: &[u8], most: usize) -> Result<(), (u
     }
 }
 
-/// Refusals 1 to 9, or the numbers of lines and inputs.
+/// Refusals 1, 2 and 4 to 9, or the numbers of lines and inputs.
 pub fn check_given(circuit: &[u8], faults: &[u8], patterns: &[u8]) -> Result<[usize; 2], (u32, usize)> {
     let [n, inputs, _] = check(circuit)?;
     check_faults(circuit, faults, 256)?;
