@@ -66,7 +66,7 @@ typedef __UINT64_TYPE__ uint64_t;
 /* Refusals: name, number, what it says, and what its place counts ("" where the place is always 0). They are checked in this order, and the
    first that applies is given, with the lowest place; but compactor and audit check 12 and 13 before the size of the marks, and the bench
    reader 14 to 16 first, then 1, 4 and 5 on the records that it would write, then the size of its buffer.
-   No refusal has the number 3. It stood for no input; past 2 line 0 is always one, since there is no line below it for a gate to read.
+   No refusal has the number 3. It stood for no input, and past 2 there always is one: line 0, below which there is no line for a gate to read.
    14: the place is the first byte such that no right text begins with the bytes up to it, or byte 32,768, or the length of a text that ends
    early. 15: the first byte of the name, where it is used or defined a second time. 16: gates alone are counted, from 0, in the text's order.
    What prints these words takes them from here, as examples/front_end.c does. */
