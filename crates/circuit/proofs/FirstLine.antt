@@ -55,6 +55,7 @@ module _ (c : List ℕ) (past : refusal (layoutRules c) ≡ Fine) where
   unfolding layoutRules AllHold
   some-input = omega (arith, count-below (isInput c) 0 (linesOf c) (held .0 .some) (eq-eqb (kindAt c 0) 0 first-input))
 
+-- the rules up to 2 refuse with no higher number
 layout-number : (c : List ℕ) {m k : ℕ} → refusal (layoutRules c) ≡ Refused m k → m ≤ 2
 unfolding layoutRules
 layout-number c = refused-number (λ m. m ≤ 2) (layoutRules c) (omega arith, (omega arith, tt))

@@ -22,8 +22,8 @@ layoutRules c =
     ∷ each 2 (linesOf c) (lineOk c) (Layout c)
     ∷ []
 
--- not more than 64 inputs, some output. No rule has the number 3, which stood for no input: past 2 there is one, at line 0, since a gate reads a line below it
--- (`first-input`, `some-input` in proofs/FirstLine.antt)
+-- not more than 64 inputs, some output. No rule has the number 3: it stood for no input, and past 2 there always is one, line 0, below which there is no
+-- line for a gate to read (`first-input`, `some-input` in proofs/FirstLine.antt)
 unfoldable pub countRules : ℕ → ℕ → List Rule
 countRules inputs outputs =
     whole 4 (leb inputs 64) (inputs ≤ 64) 0
