@@ -50,6 +50,10 @@ static const uint8_t
     example_a[] = {INPUT, INPUT, INPUT, LINE(ULLIMAQSU_AND, 0, 0, 1), LINE(ULLIMAQSU_OR, 1, 3, 2)},
     first_is_a_buffer[] = {OUTPUT_OF(0)},
     reads_itself[] = {INPUT, INPUT, NOT_OF(1, 2)},
+    no_such_kind[] = {INPUT, LINE(9, 2, 1, 1)},
+    no_such_output[] = {INPUT, LINE(ULLIMAQSU_BUFFER, 2, 1, 1)},
+    second_byte_alone[] = {INPUT, ULLIMAQSU_AND, 1, 0, 0, 0, 1, 0, 0},
+    last_byte_alone[] = {INPUT, ULLIMAQSU_AND, 1, 0, 0, 0, 0, 0, 1, LINE(9, 2, 3, 3)},
     no_output[] = {INPUT, NOT_OF(0, 0)},
     inputs_64[] = {EIGHT_INPUTS, EIGHT_INPUTS, EIGHT_INPUTS, EIGHT_INPUTS, EIGHT_INPUTS, EIGHT_INPUTS, EIGHT_INPUTS, EIGHT_INPUTS, OUTPUT_OF(63)},
     inputs_65[] = {EIGHT_INPUTS, EIGHT_INPUTS, EIGHT_INPUTS, EIGHT_INPUTS, EIGHT_INPUTS, EIGHT_INPUTS, EIGHT_INPUTS, EIGHT_INPUTS, INPUT, OUTPUT_OF(64)};
@@ -65,8 +69,12 @@ static const struct {
     {"64 inputs", inputs_64, sizeof inputs_64, ULLIMAQSU_FINE, {65, 64, 1, 0}},
     {"no circuit at all", 0, 0, ULLIMAQSU_CIRCUIT_SIZE, {0, 0, 0, 0}},
     {"seven bytes", example_a, 7, ULLIMAQSU_CIRCUIT_SIZE, {0, 0, 0, 0}},
-    {"line 0 is a buffer", first_is_a_buffer, sizeof first_is_a_buffer, ULLIMAQSU_CIRCUIT_LAYOUT, {0, 0, 0, 0}},
-    {"a line reads itself", reads_itself, sizeof reads_itself, ULLIMAQSU_CIRCUIT_LAYOUT, {2, 0, 0, 0}},
+    {"line 0 is a buffer", first_is_a_buffer, sizeof first_is_a_buffer, ULLIMAQSU_CIRCUIT_LAYOUT, {2, 0, 0, 0}},
+    {"a line reads itself", reads_itself, sizeof reads_itself, ULLIMAQSU_CIRCUIT_LAYOUT, {18, 0, 0, 0}},
+    {"no such kind, output and sources wrong too", no_such_kind, sizeof no_such_kind, ULLIMAQSU_CIRCUIT_LAYOUT, {8, 0, 0, 0}},
+    {"no such output, both sources wrong too", no_such_output, sizeof no_such_output, ULLIMAQSU_CIRCUIT_LAYOUT, {9, 0, 0, 0}},
+    {"only a source's second byte wrong", second_byte_alone, sizeof second_byte_alone, ULLIMAQSU_CIRCUIT_LAYOUT, {12, 0, 0, 0}},
+    {"only the last byte wrong, and a line after it", last_byte_alone, sizeof last_byte_alone, ULLIMAQSU_CIRCUIT_LAYOUT, {14, 0, 0, 0}},
     {"65 inputs", inputs_65, sizeof inputs_65, ULLIMAQSU_MANY_INPUTS, {0, 0, 0, 0}},
     {"65 inputs and no output", inputs_65, 65 * 8, ULLIMAQSU_MANY_INPUTS, {0, 0, 0, 0}},
     {"no output", no_output, sizeof no_output, ULLIMAQSU_NO_OUTPUT, {0, 0, 0, 0}},
@@ -458,6 +466,31 @@ static void test_bench(void) {
         }
 }
 
+/* Refusal 2 is the check's, with its byte, whichever entry reads the circuit; and nothing that is lent is written. */
+static void test_handed_on(void) {
+    static const uint8_t fault[8], pattern[2];
+    static const uint64_t budget[1] = {9}, place[4] = {18};
+    static const char *const entries[] = {"dictionary", "dictionary in lanes", "search", "search for a list", "clauses"};
+    const uint8_t *circuit = reads_itself;
+    const size_t len = sizeof reads_itself;
+    for (int i = 0; i < 5; i++) {
+        uint8_t bytes[4], work[6], area[32];
+        uint64_t words[12], count[1];
+        int32_t clauses[80];
+        fill(bytes, sizeof bytes), fill(work, sizeof work);
+        fill((uint8_t *)words, sizeof words), fill((uint8_t *)count, sizeof count), fill((uint8_t *)clauses, sizeof clauses);
+        uint32_t returned = i == 0   ? ullimaqsu_dictionary(circuit, len, fault, 8, pattern, 2, bytes, 1, work, 6, area, 32)
+                            : i == 1 ? ullimaqsu_dictionary_lanes(circuit, len, fault, 8, pattern, 2, bytes, 1, words, 12, area, 32)
+                            : i == 2 ? ullimaqsu_search(circuit, len, fault, 8, 9, bytes, 2, work, 6, area, 32)
+                            : i == 3 ? ullimaqsu_search_all(circuit, len, fault, 8, budget, 1, bytes, 1, count, 1, bytes + 1, 2, work, 6, area, 32)
+                                     : ullimaqsu_clauses(circuit, len, fault, 8, clauses, 80, area, 32);
+        expect(returned == ULLIMAQSU_CIRCUIT_LAYOUT && answers(area, place), entries[i]);
+        expect(stays(bytes, sizeof bytes) && stays(work, sizeof work), "bytes that are lent stay");
+        expect(stays((uint8_t *)words, sizeof words) && stays((uint8_t *)count, sizeof count), "words that are lent stay");
+        expect(stays((uint8_t *)clauses, sizeof clauses), "words for clauses stay");
+    }
+}
+
 int main(void) {
     test_check();
     test_areas();
@@ -472,6 +505,7 @@ int main(void) {
     test_outcomes();
     test_clauses();
     test_bench();
+    test_handed_on();
     printf("C test: %s\n", failures ? "FAILED" : "ok");
     return failures != 0;
 }

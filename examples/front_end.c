@@ -49,6 +49,16 @@ static const struct {
 #undef REFUSAL
 };
 
+/* The fields of a circuit record: the first byte, the first kind that has the field, its name, and what is wrong where it is had and lacked. */
+static const struct {
+    unsigned first, kind;
+    const char *name, *had, *lacked;
+} fields[] = {
+#define FIELD(first, kind, name, had, lacked) {first, kind, name, had, lacked},
+    ULLIMAQSU_FIELDS(FIELD)
+#undef FIELD
+};
+
 /* Says so where a part refuses. */
 static int refused(const char *part, uint32_t refusal) {
     if (refusal == ULLIMAQSU_FINE) return 0;
@@ -59,6 +69,18 @@ static int refused(const char *part, uint32_t refusal) {
         if (*refusals[i].counts) printf(" (%s %llu)", refusals[i].counts, number(0));
     }
     printf("\n");
+    return 1;
+}
+
+/* Says which field of which line is at the place of refusal 2, and what is wrong with its number. */
+static int layout_refused(const uint8_t *circuit, size_t place) {
+    unsigned line = place / 8, first = place % 8, kind = circuit[8 * line];
+    unsigned value = first < 2 ? circuit[place] : circuit[place] + 256u * circuit[place + 1];
+    printf("circuit: refusal %u: line %u, ", (unsigned)ULLIMAQSU_CIRCUIT_LAYOUT, line);
+    for (size_t i = 0; i < sizeof fields / sizeof *fields; i++) {
+        if (fields[i].first != first) continue;
+        printf("%s (byte %u): %u %s\n", fields[i].name, (unsigned)place, value, fields[i].kind <= kind ? fields[i].had : fields[i].lacked);
+    }
     return 1;
 }
 
@@ -120,7 +142,9 @@ int main(int count, char **words) {
     struct file_of faults = load(words[2], fault_bytes, sizeof fault_bytes);
     struct file_of patterns = load(words[3], pattern_bytes, sizeof pattern_bytes);
 
-    if (refused("circuit", ullimaqsu_check(circuit.at, circuit.len, answer, sizeof answer))) return 1;
+    uint32_t refusal = ullimaqsu_check(circuit.at, circuit.len, answer, sizeof answer);
+    if (refusal == ULLIMAQSU_CIRCUIT_LAYOUT) return layout_refused(circuit.at, number(0));
+    if (refused("circuit", refusal)) return 1;
     size_t lines = number(0), inputs = number(1);
     printf("lines %u, inputs %u, outputs %u\n", (unsigned)lines, (unsigned)inputs, (unsigned)number(2));
     if (!print_dictionary(circuit, faults, patterns, lines, inputs)) return 1;

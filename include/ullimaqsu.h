@@ -67,12 +67,14 @@ typedef __UINT64_TYPE__ uint64_t;
    first that applies is given, with the lowest place; but compactor and audit check 12 and 13 before the size of the marks, and the bench
    reader 14 to 16 first, then 1, 4 and 5 on the records that it would write, then the size of its buffer.
    No refusal has the number 3. It stood for no input, and past 2 there always is one: line 0, below which there is no line for a gate to read.
+   2: of the first line that breaks its layout, the first field that breaks its rule, by its first byte in the circuit, also where only its second
+   byte is wrong. The place divided by 8 is the line, and what is left over is where the field begins in the record (ULLIMAQSU_FIELDS).
    14: the place is the first byte such that no right text begins with the bytes up to it, or byte 32,768, or the length of a text that ends
    early. 15: the first byte of the name, where it is used or defined a second time. 16: gates alone are counted, from 0, in the text's order.
    What prints these words takes them from here, as examples/front_end.c does. */
 #define ULLIMAQSU_REFUSALS(each) \
     each(ULLIMAQSU_CIRCUIT_SIZE,    1, "the circuit is not a multiple of 8 bytes, empty, or above 2,048 records", "") \
-    each(ULLIMAQSU_CIRCUIT_LAYOUT,  2, "a circuit record breaks its layout", "line") \
+    each(ULLIMAQSU_CIRCUIT_LAYOUT,  2, "a circuit record breaks its layout", "byte") \
     each(ULLIMAQSU_MANY_INPUTS,     4, "the circuit has more than 64 inputs", "") \
     each(ULLIMAQSU_NO_OUTPUT,       5, "the circuit has no output", "") \
     each(ULLIMAQSU_FAULTS_SIZE,     6, "the faults are not a multiple of 8 bytes, empty, or above 256 records (search and clauses for one fault: not 8 bytes)", "") \
@@ -86,6 +88,16 @@ typedef __UINT64_TYPE__ uint64_t;
     each(ULLIMAQSU_BENCH_SYNTAX,   14, "the text goes on or ends as no text in the bench notation does", "byte") \
     each(ULLIMAQSU_BENCH_NAME,     15, "a name is used and defined nowhere, or defined a second time", "byte") \
     each(ULLIMAQSU_BENCH_CYCLE,    16, "a gate depends on itself, or on one that does", "gate")
+
+/* The fields of a circuit record in layout order: the first byte in the record, the first of the kinds that have the field (256 where none has),
+   its name, and what is wrong with a number at the place of refusal 2, where the line's kind has the field and where it lacks it. Fields from
+   byte 2 on have two bytes. */
+#define ULLIMAQSU_FIELDS(each) \
+    each(0,   0, "kind",           "is no kind", "") \
+    each(1,   0, "output",         "is neither 0 nor 1", "") \
+    each(2,   1, "first source",   "is not lower than the line", "is not 0, and the line's kind has no first source") \
+    each(4,   3, "second source",  "is not lower than the line", "is not 0, and the line's kind has no second source") \
+    each(6, 256, "last two bytes", "", "is not 0")
 
 /* What every entry returns. */
 enum ullimaqsu_refusal {

@@ -7,6 +7,7 @@
 //! right for tests, and slow.
 
 mod entries;
+mod field;
 pub mod raw;
 mod refusal;
 
@@ -15,10 +16,11 @@ mod bridge;
 #[cfg(direct)]
 mod direct;
 
+pub use field::BadField;
 pub use refusal::{refusals, Meaning, Refusal};
 
 use raw::{enter, Call};
-use refusal::answered;
+use refusal::{answered, answered_of};
 
 /// The numbers of an accepted circuit.
 #[derive(Clone, Copy, Debug, PartialEq, Eq)]
@@ -98,11 +100,13 @@ pub struct Clauses {
 /// assert_eq!(ullimaqsu::check(&not), Ok(ullimaqsu::Counts { lines: 2, inputs: 1, outputs: 1 }));
 /// let refusal = ullimaqsu::check(&not[..8]).unwrap_err();
 /// assert_eq!(refusal.to_string(), "refusal 5: the circuit has no output");
+/// let refusal = ullimaqsu::check(&not[8..]).unwrap_err();
+/// assert_eq!(refusal.to_string(), "refusal 2: line 0, first source (byte 2): 0 is not lower than the line");
 /// ```
 pub fn check(circuit: &[u8]) -> Result<Counts, Refusal> {
     let mut area = [0; 32];
     let returned = enter(Call::Check { circuit, answer: &mut area });
-    let [lines, inputs, outputs, _] = answered(returned, area)?;
+    let [lines, inputs, outputs, _] = answered_of(circuit, returned, area)?;
     Ok(Counts { lines, inputs, outputs })
 }
 
@@ -123,7 +127,7 @@ pub fn check(circuit: &[u8]) -> Result<Counts, Refusal> {
 pub fn dictionary(circuit: &[u8], faults: &[u8], patterns: &[u8], table: &mut [u8], work: &mut [u8]) -> Result<(), Refusal> {
     let mut area = [0; 32];
     let returned = enter(Call::Dictionary { circuit, faults, patterns, table, work, answer: &mut area });
-    answered(returned, area).map(|_| ())
+    answered_of(circuit, returned, area).map(|_| ())
 }
 
 /// The dictionary maker that carries 64 patterns at once, one in each bit of a word. Fills the table as [`dictionary`] does. The patterns go in
@@ -145,7 +149,7 @@ pub fn dictionary(circuit: &[u8], faults: &[u8], patterns: &[u8], table: &mut [u
 pub fn dictionary_lanes(circuit: &[u8], faults: &[u8], patterns: &[u8], table: &mut [u8], work: &mut [u64]) -> Result<(), Refusal> {
     let mut area = [0; 32];
     let returned = enter(Call::DictionaryLanes { circuit, faults, patterns, table, work, answer: &mut area });
-    answered(returned, area).map(|_| ())
+    answered_of(circuit, returned, area).map(|_| ())
 }
 
 /// The compactor. Marks each pattern of a table, 1 kept or 0 dropped, so that the kept ones detect every fault and tell apart every pair of
@@ -197,7 +201,7 @@ pub fn audit(fault_count: u64, pattern_count: u64, table: &[u8], marks: &[u8]) -
 pub fn search(circuit: &[u8], fault: &[u8], budget: u64, test: &mut [u8], work: &mut [u8]) -> Result<Search, Refusal> {
     let mut area = [0; 32];
     let returned = enter(Call::Search { circuit, fault, budget, test, work, answer: &mut area });
-    let [number, nodes, ..] = answered(returned, area)?;
+    let [number, nodes, ..] = answered_of(circuit, returned, area)?;
     Ok(Search { outcome: Outcome::numbered(number), nodes })
 }
 
@@ -220,7 +224,7 @@ pub fn search_all(circuit: &[u8], faults: &[u8], budgets: &[u64], tests: &mut [u
     // as many results as budgets: where these are not as many as faults, the call is refused
     let (outcomes, counts) = (&mut vec![0; budgets.len()], &mut vec![0; budgets.len()]);
     let returned = enter(Call::SearchAll { circuit, faults, budgets, outcomes, counts, tests, work, answer: &mut area });
-    answered(returned, area)?;
+    answered_of(circuit, returned, area)?;
     let found = |(&number, &nodes): (&u8, &u64)| Search { outcome: Outcome::numbered(number.into()), nodes };
     Ok(outcomes.iter().zip(&*counts).map(found).collect())
 }
@@ -242,7 +246,7 @@ pub fn search_all(circuit: &[u8], faults: &[u8], budgets: &[u64], tests: &mut [u
 pub fn clauses(circuit: &[u8], fault: &[u8], words: &mut [i32]) -> Result<Clauses, Refusal> {
     let mut area = [0; 32];
     let returned = enter(Call::Clauses { circuit, fault, words, answer: &mut area });
-    let [words, clauses, variables, _] = answered(returned, area)?;
+    let [words, clauses, variables, _] = answered_of(circuit, returned, area)?;
     Ok(Clauses { words, clauses, variables })
 }
 

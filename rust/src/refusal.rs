@@ -1,4 +1,5 @@
 //! Refusals, and how the answer area is read.
+use crate::field::BadField;
 use std::{error, fmt};
 
 /// Why an entry did nothing: the number of the refusal, and the place of what is wrong.
@@ -6,6 +7,8 @@ use std::{error, fmt};
 pub struct Refusal {
     pub number: u32,
     pub place: u64,
+    /// Of refusal 2, what stands at its place.
+    pub field: Option<BadField>,
 }
 
 /// What the header says of a refusal. Its place counts something, or is always 0.
@@ -17,23 +20,35 @@ pub struct Meaning {
     pub counts: Option<&'static str>,
 }
 
+pub(crate) const HEADER: &str = include_str!("../../include/ullimaqsu.h");
+
 /// The refusals in order, from the table of the header, which alone has their names and words.
 pub fn refusals() -> impl Iterator<Item = Meaning> {
-    include_str!("../../include/ullimaqsu.h").lines().filter_map(meaning)
+    HEADER.lines().filter_map(meaning)
 }
 
 /// A row of the table: `each(NAME, NUMBER, "what it says", "what its place counts")`.
 fn meaning(line: &'static str) -> Option<Meaning> {
     let (named, words) = line.trim_start().strip_prefix("each(")?.split_once('"')?;
-    let (name, number) = named.trim_end_matches([',', ' ']).split_once(',')?;
+    let (name, number) = named.trim_end_matches([',', ' ']).split_once(',').filter(|(name, _)| name.starts_with("ULLIMAQSU_"))?;
     let (says, counts) = words.split_once("\", \"")?;
     let counts = counts.split('"').next().filter(|counts| !counts.is_empty());
     Some(Meaning { name, number: number.trim().parse().ok()?, says, counts })
 }
 
+impl Refusal {
+    /// The refusal of this number at this place, with nothing known of what stands there.
+    pub const fn new(number: u32, place: u64) -> Refusal {
+        Refusal { number, place, field: None }
+    }
+}
+
 impl fmt::Display for Refusal {
     fn fmt(&self, f: &mut fmt::Formatter) -> fmt::Result {
         write!(f, "refusal {}: ", self.number)?;
+        if let Some(field) = self.field {
+            return write!(f, "{field}");
+        }
         match refusals().find(|meaning| meaning.number == self.number) {
             Some(Meaning { says, counts: Some(counts), .. }) => write!(f, "{says} ({counts} {})", self.place),
             Some(Meaning { says, counts: None, .. }) => write!(f, "{says}"),
@@ -52,6 +67,14 @@ pub(crate) fn answered(returned: u32, area: [u8; 32]) -> Result<[u64; 4], Refusa
     }
     match returned {
         0 => Ok(numbers),
-        number => Err(Refusal { number, place: numbers[0] }),
+        number => Err(Refusal::new(number, numbers[0])),
     }
+}
+
+/// The same for a call that reads a circuit: refusal 2 also has the field that it is about.
+pub(crate) fn answered_of(circuit: &[u8], returned: u32, area: [u8; 32]) -> Result<[u64; 4], Refusal> {
+    answered(returned, area).map_err(|refusal| match refusal.number {
+        2 => Refusal { field: BadField::at(refusal.place, circuit), ..refusal },
+        _ => refusal,
+    })
 }

@@ -344,7 +344,7 @@ fn bindings() {
             Ok(second::Finding::LostFault(fault)) => Ok(Finding::LostFault(fault as u64)),
             Ok(second::Finding::LostPair(first, second)) => Ok(Finding::LostPair(first as u64, second as u64)),
             Ok(second::Finding::SparePattern(pattern)) => Ok(Finding::SparePattern(pattern as u64)),
-            Err(second::Refusal { number, place }) => Err(Refusal { number, place: place as u64 }),
+            Err(second::Refusal { number, place }) => Err(Refusal::new(number, place as u64)),
         };
         assert_eq!(ullimaqsu::audit(*fault_count, *pattern_count, table, marks), said, "{case:?}");
     }

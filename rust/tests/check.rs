@@ -9,6 +9,7 @@ use cases::circuits::{circuit, example_a, record, small, AND, BUFFER, INPUT, NOT
 use cases::{damage, drawn, Random};
 use defects::defects;
 use harness::{compare, first_defect_is_told, library, wrong_programs_are_seen, Case, Check, Defect};
+use second::circuit::bad_fields;
 use second::entries::{self, Seen};
 use second::{Counts, Refusal};
 use std::collections::BTreeSet;
@@ -76,6 +77,83 @@ fn boundaries() -> impl Iterator<Item = Vec<u8>> {
     all.into_iter()
 }
 
+/// The first number of an answer.
+fn place(seen: &Seen) -> u64 {
+    u64::from_le_bytes(seen.answer[..8].try_into().expect("eight bytes"))
+}
+
+/// Where the fields of a record begin.
+const FIRST: [usize; 5] = [0, 1, 2, 4, 6];
+
+/// Bytes that are wrong in the field of this line that begins there. A source is the line itself, or wrong in its second byte alone, or in both.
+fn wrong(line: usize, first: usize) -> Vec<Vec<u8>> {
+    match first {
+        0 => vec![vec![9], vec![255]],
+        1 => vec![vec![2], vec![255]],
+        2 | 4 => vec![(line.max(1) as u16).to_le_bytes().to_vec(), vec![0, 8], vec![255, 255]],
+        _ => vec![vec![1, 0], vec![0, 1], vec![255, 255]],
+    }
+}
+
+/// A field spoilt: where it begins in the circuit, and the bytes.
+type Spoilt = (usize, Vec<u8>);
+
+/// Every way to spoil one field of this line.
+fn spoilt_fields(line: usize) -> impl Iterator<Item = Spoilt> {
+    FIRST.into_iter().flat_map(move |first| wrong(line, first).into_iter().map(move |bytes| (8 * line + first, bytes)))
+}
+
+/// Any two of these, of one field or of two; or one alone, taken twice.
+fn pairs(fields: &[Spoilt]) -> impl Iterator<Item = Vec<Spoilt>> + '_ {
+    let pairs = fields.iter().flat_map(|one| fields.iter().map(move |other| vec![one.clone(), other.clone()]));
+    pairs.filter(|pair| pair[0] == pair[1] || pair[0].0 != pair[1].0)
+}
+
+/// Of all fields that are spoilt the library tells the lowest, and so does the second program.
+fn lowest_is_told(name: &str, sound: &[u8], cases: impl Iterator<Item = Vec<Spoilt>>) {
+    let (mut checks, mut lowest) = (vec![], vec![]);
+    for fields in cases {
+        let mut circuit = sound.to_vec();
+        fields.iter().for_each(|(at, bytes)| circuit[*at..*at + bytes.len()].copy_from_slice(bytes));
+        checks.push(Check { circuit, answer: vec![7; 32] });
+        lowest.push((2, fields.iter().map(|field| field.0 as u64).min().expect("a field")));
+    }
+    let told: Vec<_> = library(&checks).iter().map(|seen| (seen.returned, place(seen))).collect();
+    let other = (0..checks.len()).find(|&k| told[k] != lowest[k]);
+    assert_eq!(other.map(|k| (&checks[k].circuit, told[k], lowest[k])), None, "{name}");
+    compare(name, checks.into_iter());
+}
+
+/// Refusal 2: each field wrong alone, any two in one line or in two, and any fields of a line together. A line of every kind is there.
+#[test]
+fn fields() {
+    let gate = |kind| record(kind, true, 1, if kind > NOT { 1 } else { 0 });
+    let sound: Vec<u8> = [record(INPUT, false, 0, 0); 2].into_iter().chain((BUFFER..=XNOR).map(gate)).flatten().collect();
+    let lines = 0..sound.len() / 8;
+    let alone: Vec<_> = lines.clone().flat_map(spoilt_fields).collect();
+    lowest_is_told("check, fields alone and in pairs", &sound, pairs(&alone));
+    let chosen = |line: usize, some: u32| {
+        let fields = (0..5).filter(|field| some >> field & 1 == 1).map(|field| FIRST[field]);
+        fields.map(|first| (8 * line + first, wrong(line, first).swap_remove(0))).collect()
+    };
+    let together = lines.flat_map(|line| (1..32).map(move |some| chosen(line, some)));
+    lowest_is_told("check, fields together", &sound, together);
+}
+
+/// The same in the first and the last lines of the largest circuits; with a record more, or a byte, refusal 1 comes before it.
+#[test]
+fn fields_of_the_largest() {
+    for lines in [2047, 2048] {
+        let sound = circuit(&mut Random::new(7), lines, 64);
+        let fields: Vec<_> = [0, lines - 2, lines - 1].into_iter().flat_map(spoilt_fields).collect();
+        lowest_is_told("check, fields of the largest circuits", &sound, pairs(&fields));
+    }
+    let spoilt = circuit(&mut Random::new(7), 2049, 64).into_iter().map(|byte| byte | 128);
+    let cases =
+        [8 * 2049, 8 * 2048 + 1, 8 * 2048 - 1].map(|len| Check { circuit: spoilt.clone().take(len).collect(), answer: vec![7; 32] });
+    assert_eq!(compare("check, larger circuits", cases.into_iter()).seen(), [1]);
+}
+
 #[test]
 fn sound_circuits() {
     assert_eq!(compare("check, sound circuits", with_areas(drawn(1, 300_000, small))).seen(), [0, 10]);
@@ -111,7 +189,7 @@ fn line_0() {
     for (case, seen) in cases.iter().zip(library(&cases)) {
         match case.circuit[0] {
             INPUT => past.extend([seen.returned]),
-            _ => assert_eq!((seen.returned, seen.answer), (2, vec![0; 32]), "{:?}", case.circuit),
+            _ => assert_eq!((seen.returned, place(&seen)), (2, 2), "{:?}", case.circuit),
         }
     }
     assert_eq!(past, BTreeSet::from([0, 4, 5]));
@@ -143,13 +221,38 @@ fn instead(circuit: &[u8], number: u32, condition: bool, other: u32) -> Result<C
     second::check(circuit).map_err(|right| if right.number == number && condition { Refusal { number: other, place: 0 } } else { right })
 }
 
+/// The right check, except that refusal 2 tells another byte of the record: by the line, its record, and the first bad field of it.
+fn elsewhere(circuit: &[u8], other: fn(usize, [u8; 8], usize) -> usize) -> Result<Counts, Refusal> {
+    second::check(circuit).map_err(|right| match right {
+        Refusal { number: 2, place } => {
+            let line = place / 8;
+            let record = circuit[8 * line..][..8].try_into().expect("a record");
+            Refusal { place: 8 * line + other(line, record, place % 8), ..right }
+        }
+        _ => right,
+    })
+}
+
 type Wrong = (&'static str, fn(&[u8]) -> Result<Counts, Refusal>);
 
 /// Programs that are wrong in one way each.
-const WRONG: [Wrong; 14] = [
+const WRONG: [Wrong; 18] = [
     ("refuses everything", |_| Err(Refusal { number: 1, place: 0 })),
     ("swaps two counts", |c| second::check(c).map(|n| Counts { inputs: n.outputs, outputs: n.inputs, ..n })),
-    ("gives a place one too high", |c| second::check(c).map_err(|r| Refusal { place: r.place + (r.number == 2) as usize, ..r })),
+    ("gives a place one too high", |c| elsewhere(c, |_, _, first| first + 1)),
+    ("gives the line in place of the byte", |c| {
+        second::check(c).map_err(|r| Refusal { place: r.place / if r.number == 2 { 8 } else { 1 }, ..r })
+    }),
+    ("gives the last bad field in place of the first", |c| {
+        elsewhere(c, |line, record, _| *bad_fields(line, record).last().expect("a bad field"))
+    }),
+    ("gives a source's second byte", |c| elsewhere(c, |_, _, first| first + (first > 1) as usize)),
+    ("gives a source's second byte where only that is wrong", |c| {
+        elsewhere(c, |line, mut record, first| {
+            record[first | 1] = 0;
+            first + (first > 1 && !bad_fields(line, record).contains(&first)) as usize
+        })
+    }),
     ("lets a line read itself", |c| cleared(c, 2..4, |line, r| r[0] > 0 && line > 0 && r[2..4] == (line as u16).to_le_bytes())),
     ("lets line 0 read itself", |c| {
         let counts = cleared(c, 0..1, |line, r| line == 0 && r[0] <= XNOR && r[2..] == [0; 6]);
@@ -186,22 +289,24 @@ fn two_defects_at_once() {
 /// The safe calls, on the marked examples and beside the second program.
 #[test]
 fn bindings() {
-    let refused = |number, place| Err(ullimaqsu::Refusal { number, place });
-    let accepted = |lines, inputs, outputs| Ok(ullimaqsu::Counts { lines, inputs, outputs });
+    let check = |circuit: &[u8]| match ullimaqsu::check(circuit) {
+        Ok(ullimaqsu::Counts { lines, inputs, outputs }) => Ok([lines, inputs, outputs]),
+        Err(ullimaqsu::Refusal { number, place, field }) => {
+            assert_eq!(field.map(|field| field.byte), (number == 2).then_some(place));
+            Err((number, place))
+        }
+    };
     let inputs = |count, output| record(INPUT, output, 0, 0).repeat(count);
-    assert_eq!(ullimaqsu::check(&example_a()), accepted(5, 3, 1));
-    assert_eq!(ullimaqsu::check(&inputs(64, true)), accepted(64, 64, 64));
-    assert_eq!(ullimaqsu::check(&inputs(65, true)), refused(4, 0));
-    assert_eq!(ullimaqsu::check(&inputs(65, false)), refused(4, 0));
-    assert_eq!(ullimaqsu::check(&inputs(64, false)), refused(5, 0));
-    assert_eq!(ullimaqsu::check(&record(BUFFER, true, 0, 0)), refused(2, 0));
-    assert_eq!(ullimaqsu::check(&[record(INPUT, true, 0, 0), record(NOT, true, 1, 0)].concat()), refused(2, 1));
-    assert_eq!(ullimaqsu::check(&[]), refused(1, 0));
+    assert_eq!(check(&example_a()), Ok([5, 3, 1]));
+    assert_eq!(check(&inputs(64, true)), Ok([64, 64, 64]));
+    assert_eq!(check(&inputs(65, true)), Err((4, 0)));
+    assert_eq!(check(&inputs(65, false)), Err((4, 0)));
+    assert_eq!(check(&inputs(64, false)), Err((5, 0)));
+    assert_eq!(check(&record(BUFFER, true, 0, 0)), Err((2, 2)));
+    assert_eq!(check(&[record(INPUT, true, 0, 0), record(NOT, true, 1, 0)].concat()), Err((2, 10)));
+    assert_eq!(check(&[]), Err((1, 0)));
     for circuit in drawn(5, 1_000, damaged) {
-        let said = match second::check(&circuit) {
-            Ok(Counts { lines, inputs, outputs }) => accepted(lines as u64, inputs as u64, outputs as u64),
-            Err(Refusal { number, place }) => refused(number, place as u64),
-        };
-        assert_eq!(ullimaqsu::check(&circuit), said);
+        let said = second::check(&circuit).map(|Counts { lines, inputs, outputs }| [lines, inputs, outputs].map(|count| count as u64));
+        assert_eq!(check(&circuit), said.map_err(|Refusal { number, place }| (number, place as u64)));
     }
 }

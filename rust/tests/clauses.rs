@@ -176,5 +176,5 @@ fn bindings() {
     assert_eq!(written, ullimaqsu::Clauses { words: 38, clauses: 12, variables: 6 });
     assert_eq!((&words[..8], &words[36..]), (&[-3, -1, 0, 3, 1, 0, -5, 0][..], &[6, 0, 77][..]));
     let refused = ullimaqsu::clauses(&not, &fault, &mut words[..37]).unwrap_err();
-    assert_eq!(refused, ullimaqsu::Refusal { number: 11, place: 38 });
+    assert_eq!(refused, ullimaqsu::Refusal::new(11, 38));
 }

@@ -148,5 +148,5 @@ fn bindings() {
     assert_eq!(ullimaqsu::compact(3, 2, &[1, 2, 0, 1, 1, 1], &mut marks), Ok(()));
     assert_eq!(marks, [1, 1]);
     let refused = ullimaqsu::compact(3, 2, &[1, 2, 0, 1, 1, 3], &mut marks);
-    assert_eq!(refused, Err(ullimaqsu::Refusal { number: 13, place: 5 }));
+    assert_eq!(refused, Err(ullimaqsu::Refusal::new(13, 5)));
 }

@@ -222,5 +222,5 @@ fn bindings() {
     assert_eq!(table, [1, 0, 0, 1, 0, 1, 1, 0, 0, 1, 1, 0, 0, 0, 0, 0]);
     assert_eq!(work, [2, 1, 0, 2, 2, 0, 1, 0, 0, 0]);
     let refused = ullimaqsu::dictionary(&circuit, &[0, 0, 1, 0, 0, 0, 0, 0], &patterns, &mut table, &mut work);
-    assert_eq!(refused, Err(ullimaqsu::Refusal { number: 7, place: 0 }));
+    assert_eq!(refused, Err(ullimaqsu::Refusal::new(7, 0)));
 }

@@ -225,5 +225,5 @@ fn bindings() {
     assert_eq!(work[..10], [0b0001, 0b0110, 0b1011, 0, 0, 0b1111, 0b0001, 0b0110, 0b0001, 0b0110]);
     assert_eq!(work[10..], [0, u64::MAX, 0b1011, 0, 0, 0b1111, 0, u64::MAX, 0, 0b1111]);
     let refused = ullimaqsu::dictionary_lanes(&circuit, &faults, &patterns, &mut table, &mut work[..10]);
-    assert_eq!(refused, Err(ullimaqsu::Refusal { number: 10, place: 0 }));
+    assert_eq!(refused, Err(ullimaqsu::Refusal::new(10, 0)));
 }

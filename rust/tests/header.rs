@@ -11,7 +11,7 @@ use cases::circuits::{self, example_a, record, INPUT};
 use command::{run, ullimaqsu};
 use directory::{root, Directory};
 use second::{program, Entry, Files, Finding};
-use std::collections::BTreeMap;
+use std::collections::{BTreeMap, BTreeSet};
 use std::fs;
 use std::path::Path;
 use ullimaqsu::{refusals, Meaning, Outcome, Refusal};
@@ -42,9 +42,11 @@ fn the_table_of_refusals() {
         assert!(name.starts_with("ULLIMAQSU_") && !name.contains(' ') && says.contains(' ') && !says.contains('"'), "{name}: {says}");
         assert!(counts.is_none_or(|counts| !counts.contains('"') && counts.trim() == counts), "{name}: {counts:?}");
     }
-    assert_eq!(Refusal { number: 13, place: 5 }.to_string(), "refusal 13: a table byte is above 2 (byte 5)");
-    assert_eq!(Refusal { number: 5, place: 0 }.to_string(), "refusal 5: the circuit has no output");
-    assert_eq!(Refusal { number: 99, place: 3 }.to_string(), "refusal 99: unknown (place 3)");
+    assert_eq!(Refusal::new(13, 5).to_string(), "refusal 13: a table byte is above 2 (byte 5)");
+    assert_eq!(Refusal::new(5, 0).to_string(), "refusal 5: the circuit has no output");
+    assert_eq!(Refusal::new(2, 34).to_string(), "refusal 2: a circuit record breaks its layout (byte 34)");
+    assert_eq!(Refusal::new(3, 0).to_string(), "refusal 3: unknown (place 0)");
+    assert_eq!(Refusal::new(256, 0).to_string(), "refusal 256: unknown (place 0)");
 }
 
 #[test]
@@ -89,7 +91,7 @@ fn names_in_the_docs() {
         for word in text.split_whitespace() {
             if let Some((_, rest)) = word.split_once("`ULLIMAQSU_") {
                 let name = rest.split(['`', '(']).next().expect("a beginning");
-                assert!(name == "REFUSALS" || names.contains_key(name), "{word}");
+                assert!(["REFUSALS", "FIELDS"].contains(&name) || names.contains_key(name), "{word}");
                 if let Ok(number) = before.parse() {
                     assert_eq!(names.get(name), Some(&number), "{before} {word}");
                     numbered += 1;
@@ -145,14 +147,13 @@ fn declarations() {
 
 type Spoil = fn(&mut Vec<u8>);
 
-/// Example A, spoilt so that each refusal is given that files can have.
+/// Example A, spoilt so that each refusal is given that files can have, but for refusal 2.
 fn refused_files() -> Vec<(&'static str, Files)> {
     let circuit = example_a();
     let faults = [[3, 0, 0, 0, 0, 0, 0, 0], [0, 0, 0, 1, 0, 0, 0, 0]].concat();
     let patterns = vec![1, 1, 0, 0, 1, 0];
-    let spoils: [(&str, Spoil); 8] = [
+    let spoils: [(&str, Spoil); 7] = [
         ("circuit", |bytes| bytes.truncate(7)),
-        ("circuit", |bytes| bytes[34] = 4),
         ("circuit", |bytes| *bytes = record(INPUT, true, 0, 0).repeat(65)),
         ("circuit", |bytes| bytes.truncate(24)),
         ("faults", |bytes| bytes.clear()),
@@ -172,18 +173,66 @@ fn refused_files() -> Vec<(&'static str, Files)> {
     spoils.map(spoilt).into()
 }
 
-/// The example in C and the command say of each refusal what the header says, and the command also of which file.
+/// Circuits in which a field breaks its rule, some with fields after it that break theirs, and what is said of each: every field, and both ways
+/// in which a source can be wrong.
+fn bad_fields() -> Vec<(Vec<u8>, &'static str)> {
+    let lines = [record(INPUT, false, 0, 0), record(INPUT, false, 0, 0), record(circuits::NOT, false, 1, 0)].into_iter();
+    let sound: Vec<u8> = lines.chain((3..18).map(|_| record(circuits::AND, true, 0, 1))).flatten().collect();
+    let spoilt: [(usize, &[u8], &str); 8] = [
+        (136, &[9, 2, 200, 0, 200, 0, 1], "line 17, kind (byte 136): 9 is no kind"),
+        (137, &[2, 200, 0, 200, 0, 1], "line 17, output (byte 137): 2 is neither 0 nor 1"),
+        (138, &[17, 0, 200, 0, 1], "line 17, first source (byte 138): 17 is not lower than the line"),
+        (140, &[200, 0, 1], "line 17, second source (byte 140): 200 is not lower than the line"),
+        (143, &[1], "line 17, last two bytes (byte 142): 256 is not 0"),
+        (11, &[1], "line 1, first source (byte 10): 256 is not 0, and the line's kind has no first source"),
+        (12, &[1], "line 1, second source (byte 12): 1 is not 0, and the line's kind has no second source"),
+        (20, &[1], "line 2, second source (byte 20): 1 is not 0, and the line's kind has no second source"),
+    ];
+    let spoil = |(at, bytes, words): (usize, &[u8], _)| {
+        let mut circuit = sound.clone();
+        circuit[at..at + bytes.len()].copy_from_slice(bytes);
+        (circuit, words)
+    };
+    spoilt.map(spoil).into()
+}
+
+/// Every safe call that reads a circuit says which field of it is bad.
+#[test]
+fn words_of_fields() {
+    for (circuit, words) in bad_fields() {
+        let (fault, pattern) = ([0; 8], [0; 2]);
+        let refused = [
+            ullimaqsu::check(&circuit).err(),
+            ullimaqsu::dictionary(&circuit, &fault, &pattern, &mut [0], &mut [0; 36]).err(),
+            ullimaqsu::dictionary_lanes(&circuit, &fault, &pattern, &mut [0], &mut [0; 72]).err(),
+            ullimaqsu::search(&circuit, &fault, 0, &mut [0; 2], &mut [0; 36]).err(),
+            ullimaqsu::search_all(&circuit, &fault, &[0], &mut [0; 2], &mut [0; 36]).err(),
+            ullimaqsu::clauses(&circuit, &fault, &mut []).err(),
+        ];
+        for refusal in refused {
+            assert_eq!(refusal.expect("refused").to_string(), format!("refusal 2: {words}"));
+        }
+    }
+}
+
+/// The example in C and the command say of each refusal what the header says, and the command also of which file. Of refusal 2 they say which
+/// field is bad.
 #[test]
 fn printed_words() {
     let directory = Directory::new("refused");
-    let mut seen = vec![];
-    for (name, files) in refused_files() {
+    let of_files = refused_files().into_iter().map(|(name, files)| (name, files, None));
+    let of_fields = bad_fields().into_iter().map(|(circuit, words)| {
+        let files = Files { circuit: Some(circuit), faults: Some(vec![0; 8]), patterns: Some(vec![0; 2]) };
+        ("circuit", files, Some(words))
+    });
+    let mut seen = BTreeSet::new();
+    for (name, files, field) in of_files.chain(of_fields) {
         let paths = [("circuit", &files.circuit), ("faults", &files.faults), ("patterns", &files.patterns)]
             .map(|(name, bytes)| directory.write(&format!("{name}.rec"), bytes.as_ref().expect("bytes")));
         let refused = program(&files);
         let numbers: Vec<u64> = refused.split_whitespace().skip(1).map(|number| number.parse().expect("a number")).collect();
-        let refusal = Refusal { number: numbers[0] as u32, place: numbers[1] };
-        let words = refusal.to_string();
+        let refusal = Refusal::new(numbers[0] as u32, numbers[1]).to_string();
+        let words = field.map_or(refusal, |words| format!("refusal 2: {words}"));
 
         let (status, printed, _) = run(x86::program("build/front_end").args(&paths));
         let last = printed.lines().last().expect("a line");
@@ -192,7 +241,7 @@ fn printed_words() {
         let says = words.split_once(": ").expect("the number").1;
         let line = format!("ullimaqsu: {}/{name}.rec: {says}\n", directory.0.display());
         assert_eq!(ullimaqsu(&[Path::new("dictionary"), &directory.0]), (Some(1), refused, line));
-        seen.push(refusal.number);
+        seen.insert(numbers[0]);
     }
-    assert_eq!(seen, [1, 2, 4, 5, 6, 7, 8, 9]);
+    assert_eq!(seen, BTreeSet::from([1, 2, 4, 5, 6, 7, 8, 9]));
 }

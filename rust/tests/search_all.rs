@@ -285,8 +285,8 @@ fn bindings() {
     let mut search_all = |faults: &[u8], budgets: &[u64]| ullimaqsu::search_all(&example_a(), faults, budgets, &mut tests, &mut work);
     let marked = [found(Outcome::Test, 4), found(Outcome::GivenUp, 3), found(Outcome::Test, 14)];
     assert_eq!(search_all(&[at_1, at_1, at_0].concat(), &[u64::MAX, 3, u64::MAX]), Ok(marked.to_vec()));
-    assert_eq!(search_all(&[at_1, at_1, at_0].concat(), &[u64::MAX, 3]), Err(Refusal { number: 10, place: 0 }));
-    assert_eq!(search_all(&[at_1, at_0, [5, 0, 0, 0, 0, 0, 0, 0]].concat(), &[0; 3]), Err(Refusal { number: 7, place: 2 }));
+    assert_eq!(search_all(&[at_1, at_1, at_0].concat(), &[u64::MAX, 3]), Err(Refusal::new(10, 0)));
+    assert_eq!(search_all(&[at_1, at_0, [5, 0, 0, 0, 0, 0, 0, 0]].concat(), &[0; 3]), Err(Refusal::new(7, 2)));
     assert_eq!((tests, work), ([0, 0, 0, 9, 9, 9, 1, 1, 0], [1, 1, 0, 1, 1, 1, 1, 0, 0, 0]));
 
     let (mut tests, mut work) = ([9; 3], [9; 6]);

@@ -1,4 +1,6 @@
+pub mod All
 pub mod Lines
+pub mod BadByte
 pub mod Answer
 pub mod Says
 pub mod FirstLine

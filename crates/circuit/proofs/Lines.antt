@@ -7,15 +7,16 @@ use mathlib.Core.List.{List}
 use Prim.Native.Nat.{ℕ, zero, suc, _≤_, _<_}
 use native.Mathlib.Omega.{arith}
 use lib.Dec.{eqb, ltb}
-use borrow.Author.Tests.{eqb-true, leb-true, ltb-true, lt-leb, eq-eqb, le-leb, lt-ltb}
+use borrow.Author.Tests.{eqb-true, ltb-true, lt-leb, eq-eqb, le-leb, lt-ltb}
 use Rattle.ground.specs.Choose.{one}
-use Rattle.ground.proofs.Tests.{either, T-is, is-T, and-both, same-test, bit-one}
-use Rattle.ground.proofs.Below.{at-below}
+use Rattle.ground.proofs.Tests.{either, same-test, bit-one}
 use Rattle.answers.specs.Rules.{Same}
+use Rattle.answers.proofs.Same.{le-same}
 use Rattle.gates.specs.Gate.{lastKind, pinsOf}
 use Rattle.circuit.specs.Record.{kindAt, outAt, pinAt, isOutput}
-use Rattle.circuit.specs.Layout.{pinOk, fieldOk, lineOk, Pin, Layout}
+use Rattle.circuit.specs.Layout.{pinOk, fieldOk, lineOk, Pin, Field, Layout}
 use Rattle.circuit.specs.Owed.{limitOf}
+use Rattle.circuit.proofs.All.{all-same}
 
 -- pins 1, 2 and 3
 pub three : (P : ℕ → Type 0) → P 1 → P 2 → P 3 → (s : ℕ) → 1 ≤ s → s ≤ 3 → P s
@@ -39,34 +40,37 @@ module _ (c : List ℕ) (k : ℕ) where
   pin-ok s p =
       ⊎-elim (λ h. rw (lt-leb s _ h) (eq-eqb _ _ (p .lacks h))) (λ h. rw (le-leb s _ h) (lt-ltb _ _ (p .has h))) (either (pinsOf (kindAt c k)) s)
 
-  -- a record whose test holds keeps each field's rule
-  field : lineOk c k ≡ true → (i : ℕ) → i < 5 → fieldOk c k i ≡ true
-  unfolding lineOk
-  field e i l = T-is (fieldOk c k i) (at-below 5 (fieldOk c k) (is-T (lineOk c k) e) i l)
-
-  layout : lineOk c k ≡ true → Layout c k
+  pub field-same : (f : ℕ) → Same (fieldOk c k f) (Field c k f)
   unfolding fieldOk
-  layout e = record {
-    kind = leb-true (kindAt c k) lastKind (field e 0 (omega arith));
-    output = leb-true (outAt c k) 1 (field e 1 (omega arith));
-    pin = three (Pin c k) (pin 1 (field e 2 (omega arith))) (pin 2 (field e 3 (omega arith))) (pin 3 (field e 4 (omega arith)));
+  field-same zero = le-same (kindAt c k) lastKind
+  field-same (suc zero) = le-same (outAt c k) 1
+  field-same (suc (suc s)) = record { holds = pin (suc s); tests = pin-ok (suc s) }
+
+  -- a record keeps its layout exactly if each field keeps its rule
+  abbrev Fields : Type 0
+  Fields = (f : ℕ) → f < 5 → Field c k f
+
+  fields : Layout c k → Fields
+  fields l zero h = l .kind
+  fields l (suc zero) h = l .output
+  fields l (suc (suc s)) h = l .pin (suc s) (omega arith) (omega arith)
+
+  pub layout : Fields → Layout c k
+  layout h = record {
+    kind = h 0 (omega arith);
+    output = h 1 (omega arith);
+    pin = three (Pin c k) (h 2 (omega arith)) (h 3 (omega arith)) (h 4 (omega arith));
   }
 
-  layout-ok : Layout c k → lineOk c k ≡ true
-  unfolding lineOk fieldOk
-  layout-ok l =
-      and-both
-      (and-both
-      (and-both (and-both (le-leb _ _ (l .kind)) (le-leb _ _ (l .output))) (pin-ok 1 (l .pin 1 (omega arith) (omega arith))))
-      (pin-ok 2 (l .pin 2 (omega arith) (omega arith))))
-      (pin-ok 3 (l .pin 3 (omega arith) (omega arith)))
-
   pub layout-same : Same (lineOk c k) (Layout c k)
-  layout-same = record { holds = layout; tests = layout-ok }
+  unfolding lineOk
+  layout-same =
+      let same = all-same 5 (fieldOk c k) (λ f _. field-same f) in
+      record { holds = λ e. layout (same .holds e); tests = λ l. same .tests (fields l) }
 
   -- the output byte of a line that keeps its layout counts it as an output
   pub out-one : lineOk c k ≡ true → outAt c k ≡ one (isOutput c k)
-  out-one e = bit-one (outAt c k) (layout e .output)
+  out-one e = bit-one (outAt c k) (layout-same .holds e .output)
 
   -- one comparison serves both
   pub limit-ok : (s : ℕ) → ltb (pinAt c k s) (limitOf c k s) ≡ pinOk c k s

@@ -9,15 +9,13 @@ use native.Mathlib.Nat.{mul-div-right, mul-mod-right}
 use native.Mathlib.Omega.{arith}
 use lib.Dec.{leb}
 use lib.ListN.{length}
-use borrow.Author.Tests.{leb-true, le-ltb}
+use borrow.Author.Tests.{leb-true}
 use Rattle.ground.specs.Choose.{choose}
-use Rattle.ground.specs.Below.{firstNot}
+use Rattle.ground.specs.Below.{allBelow}
 use Rattle.ground.proofs.Tests.{both}
-use Rattle.ground.proofs.First.{first-none}
 use Rattle.answers.specs.declared.Ruling.{Ruling}
 use Rattle.answers.specs.declared.Ruling.the-variants.{Fine, Refused}
 use Rattle.answers.specs.Rules.{orElse, said, refusal, AllSay, AllHold}
-use Rattle.answers.specs.Rules.Rule.{each}
 use Rattle.answers.specs.Records.{recordsOk}
 use Rattle.answers.proofs.Rules.{after-refused, fine, all-hold}
 use Rattle.answers.proofs.Numbers.{refused-number}
@@ -25,8 +23,10 @@ use Rattle.answers.proofs.Same.{le-same, and-same}
 use Rattle.answers.proofs.Records.{too-many-records}
 use Rattle.circuit.specs.Record.{linesOf, inputsOf, outputsOf}
 use Rattle.circuit.specs.Layout.{lineOk, Layout}
+use Rattle.circuit.specs.BadByte.{badByte}
 use Rattle.circuit.specs.Promise.{layoutRules, countRules, circuitRules}
 use Rattle.circuit.specs.Sizes.{sizeRules, SizesHold}
+use Rattle.circuit.proofs.All.{all-same}
 use Rattle.circuit.proofs.Lines.{layout-same}
 use Rattle.circuit.proofs.Says.{counts-say}
 
@@ -69,11 +69,10 @@ module _ (c : List ℕ) (n : ℕ) (long : length c ≡ 8 * n) (keeps : n ≤ 204
   unfolding recordsOk
   whole-records = rw (long, mul-mod-right 8 n, mul-div-right n {m = 8} (omega arith))
 
-  each-line : n ≤ 2048 → said (each 2 (linesOf c) (lineOk c) (Layout c)) ≡ Fine
-  unfolding said
+  each-line : n ≤ 2048 → choose (allBelow (linesOf c) (lineOk c)) Fine (Refused 2 (badByte c)) ≡ Fine
   each-line few =
-      let all : firstNot n (lineOk c) ≡ n = first-none n (lineOk c) (λ k _ l. layout-same c k .tests (keeps few k l)) in
-      rw (lines, all, le-ltb n n (omega arith))
+      let all : allBelow (linesOf c) (lineOk c) ≡ true = rw lines (all-same n (lineOk c) (λ k _. layout-same c k) .tests (keeps few)) in
+      rw all
 
   -- the sizes decide
   pub sizes-decide : refusal (circuitRules c) ≡ refusal (sizeRules n (inputsOf c) (outputsOf c))

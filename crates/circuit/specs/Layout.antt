@@ -1,9 +1,10 @@
--- The layout of a circuit record: as a test, and in the paper's words. They are proved equivalent.
+-- The layout of a circuit record, field by field: as a test, and in the paper's words. They are proved equivalent.
+-- The fields in layout order: 0 the kind, 1 the output byte, 2 the first source, 3 the second, 4 the last two bytes, which are pin 3 and which no kind has.
 -- Assumes nothing.
 use mathlib.Core.Path.{_≡_}
 use mathlib.Core.Bool.{Bool}
 use mathlib.Core.List.{List}
-use Prim.Native.Nat.{ℕ, _-_, _≤_, _<_}
+use Prim.Native.Nat.{ℕ, zero, suc, _≤_, _<_}
 use lib.Dec.{eqb, leb, ltb}
 use Rattle.ground.specs.Choose.{choose}
 use Rattle.ground.specs.Below.{allBelow}
@@ -16,9 +17,10 @@ use Rattle.circuit.specs.Record.{kindAt, outAt, pinAt}
 unfoldable pub pinOk : List ℕ → ℕ → ℕ → Bool
 pinOk c k s = choose (leb s (pinsOf (kindAt c k))) (ltb (pinAt c k s) k) (eqb (pinAt c k s) 0)
 
--- the fields in layout order: 0 the kind, 1 the output byte, 2 to 4 the pins 1 to 3
 unfoldable pub fieldOk : List ℕ → ℕ → ℕ → Bool
-fieldOk c k i = choose (eqb i 0) (leb (kindAt c k) lastKind) (choose (eqb i 1) (leb (outAt c k) 1) (pinOk c k (i - 1)))
+fieldOk c k zero = leb (kindAt c k) lastKind
+fieldOk c k (suc zero) = leb (outAt c k) 1
+fieldOk c k (suc (suc s)) = pinOk c k (suc s)
 
 -- each field keeps its rule
 unfoldable pub lineOk : List ℕ → ℕ → Bool
@@ -31,7 +33,13 @@ pub record Pin (c : List ℕ) (k s : ℕ) : Type 0 where
   pub has : s ≤ pinsOf (kindAt c k) → pinAt c k s < k
   pub lacks : pinsOf (kindAt c k) < s → pinAt c k s ≡ 0
 
+abbrev pub Field : List ℕ → ℕ → ℕ → Type 0
+Field c k zero = kindAt c k ≤ lastKind
+Field c k (suc zero) = outAt c k ≤ 1
+Field c k (suc (suc s)) = Pin c k (suc s)
+
+-- each field keeps its rule
 pub record Layout (c : List ℕ) (k : ℕ) : Type 0 where
-  pub kind : kindAt c k ≤ lastKind
-  pub output : outAt c k ≤ 1
+  pub kind : Field c k 0
+  pub output : Field c k 1
   pub pin : (s : ℕ) → 1 ≤ s → s ≤ 3 → Pin c k s

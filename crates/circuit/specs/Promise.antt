@@ -2,11 +2,12 @@
 -- Assumes nothing.
 use mathlib.Core.Path.{_≡_}
 use mathlib.Core.List.{List, [], _∷_, _++_}
-use Prim.Native.Nat.{ℕ, _≤_}
+use Prim.Native.Nat.{ℕ, _≤_, _<_}
 use lib.Dec.{leb}
 use lib.ListN.{length}
+use Rattle.ground.specs.Below.{allBelow}
 use Rattle.answers.specs.Rules.{Rule, refusal}
-use Rattle.answers.specs.Rules.Rule.{whole, each}
+use Rattle.answers.specs.Rules.Rule.{whole}
 use Rattle.answers.specs.Records.{recordsOk, Records}
 use Rattle.answers.specs.Area.{Numbers, success, refusedAt, told}
 use Rattle.answers.specs.Answer.{answered}
@@ -14,12 +15,13 @@ use Rattle.circuit.specs.declared.Checked.{Checked}
 use Rattle.circuit.specs.declared.Checked.the-variants.{Accepted, Refused}
 use Rattle.circuit.specs.Record.{linesOf, inputsOf, outputsOf}
 use Rattle.circuit.specs.Layout.{lineOk, Layout}
+use Rattle.circuit.specs.BadByte.{badByte}
 
--- a multiple of 8 bytes, not empty, not above 2,048 records; each record keeps its layout
+-- a multiple of 8 bytes, not empty, not above 2,048 records; each record keeps its layout, and of the first that does not the byte is told
 unfoldable pub layoutRules : List ℕ → List Rule
 layoutRules c =
     whole 1 (recordsOk 8 2048 (length c)) (Records 8 2048 (length c)) 0
-    ∷ each 2 (linesOf c) (lineOk c) (Layout c)
+    ∷ whole 2 (allBelow (linesOf c) (lineOk c)) ((k : ℕ) → k < linesOf c → Layout c k) (badByte c)
     ∷ []
 
 -- not more than 64 inputs, some output. No rule has the number 3: it stood for no input, and past 2 there always is one, line 0, below which there is no

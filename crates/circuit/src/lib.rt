@@ -12,7 +12,8 @@ ghost use lib.ListN.{length};
 ghost use Rattle.ground.specs.Choose.{one};
 ghost use Rattle.answers.specs.Rules.{refusal};
 ghost use Rattle.circuit.specs.Record.{pinAt, Inside};
-ghost use Rattle.circuit.specs.Layout.{pinOk, lineOk};
+ghost use Rattle.circuit.specs.Layout.{pinOk};
+ghost use Rattle.circuit.specs.BadByte.{firstByte, badField};
 ghost use Rattle.circuit.specs.Owed.{limitOf, CountLinesDone};
 ghost use Rattle.circuit.specs.Promise.{countRules, countedOf, Checks};
 
@@ -24,11 +25,12 @@ pub enum Checked {
     Refused(u32, usize),
 }
 
-// Lines, and the inputs and outputs among them.
+// Lines that keep their layout, the inputs and outputs among them, and where in the record after them the first bad field begins, if there is one.
 struct LineCounts {
     lines: usize,
     inputs: usize,
     outputs: usize,
+    field: usize,
 }
 
 // The source of pin s of line k.
@@ -60,24 +62,27 @@ fn pin_ok(circuit: &[u8], k: usize, s: usize) -> bool
     from < limit(circuit, k, s)
 }
 
-// The record of line k keeps its layout.
-fn line_ok(circuit: &[u8], k: usize) -> bool
+// Where the first field of line k begins that breaks its rule, counted from the record's first byte; 8 where every field keeps its rule.
+fn bad_field(circuit: &[u8], k: usize) -> usize
     requires { ⌜ Inside (now circuit) k ⌝ }
-    ensures { λ r. ⌜ r ≡ lineOk (now (circuit .entry)) k ⌝ }
+    ensures { λ r. ⌜ r ≡ firstByte (badField (now (circuit .entry)) k) ⌝ }
 {
     if LAST_KIND < circuit[8 * k] {
-        return false;
+        return 0;
     }
     if 1 < circuit[8 * k + 1] {
-        return false;
+        return 1;
     }
     if !pin_ok(circuit, k, 1) {
-        return false;
+        return 2;
     }
     if !pin_ok(circuit, k, 2) {
-        return false;
+        return 4;
     }
-    pin_ok(circuit, k, 3)
+    if !pin_ok(circuit, k, 3) {
+        return 6;
+    }
+    8
 }
 
 // 1 where two bytes are equal, else 0.
@@ -96,11 +101,13 @@ fn count_lines(circuit: &[u8], n: usize) -> LineCounts
     let mut outputs = 0;
     let mut k = 0;
     while k < n {
-        if !line_ok(circuit, k) {
+        let field = bad_field(circuit, k);
+        if field < 8 {
             return LineCounts {
                 lines: k,
                 inputs,
                 outputs,
+                field,
             };
         }
         inputs += equal(circuit[8 * k], 0);
@@ -111,6 +118,7 @@ fn count_lines(circuit: &[u8], n: usize) -> LineCounts
         lines: n,
         inputs,
         outputs,
+        field: 8,
     }
 }
 
@@ -149,7 +157,8 @@ pub fn check(circuit: &[u8]) -> Checked
     let counts = count_lines(circuit, n);
     let bad = counts.lines;
     if bad < n {
-        return Checked::Refused(2, bad);
+        let byte = 8 * bad + counts.field;
+        return Checked::Refused(2, byte);
     }
     counted(n, counts.inputs, counts.outputs)
 }

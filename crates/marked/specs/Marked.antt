@@ -142,6 +142,6 @@ marked =
     -- 64 inputs pass; 65 give refusal 4
     ∷ Example.check (inputs 64) (checked.Accepted 65 64 1)
     ∷ Example.check (inputs 65) (checked.Refused 4 0)
-    -- line 0 of kind 1: refusal 2, place 0
-    ∷ Example.check (1 ∷ 1 ∷ 0 ∷ 0 ∷ 0 ∷ 0 ∷ 0 ∷ 0 ∷ []) (checked.Refused 2 0)
+    -- line 0 of kind 1: refusal 2, place 2
+    ∷ Example.check (1 ∷ 1 ∷ 0 ∷ 0 ∷ 0 ∷ 0 ∷ 0 ∷ 0 ∷ []) (checked.Refused 2 2)
     ∷ []

@@ -42,21 +42,20 @@ impl Counts {
 }
 
 impl Gate {
-    /// The gate of a kind on the line of this number. Sources must be lower, and those that the kind lacks 0.
-    fn read(number: usize, kind: u8, sources: (usize, usize)) -> Option<Gate> {
-        let lower = |source| source < number;
-        match (kind, sources) {
-            (0, (0, 0)) => Some(Gate::Input),
-            (1, (a, 0)) if lower(a) => Some(Gate::Buffer(a)),
-            (2, (a, 0)) if lower(a) => Some(Gate::Not(a)),
-            (3, (a, b)) if lower(a) && lower(b) => Some(Gate::And(a, b)),
-            (4, (a, b)) if lower(a) && lower(b) => Some(Gate::Nand(a, b)),
-            (5, (a, b)) if lower(a) && lower(b) => Some(Gate::Or(a, b)),
-            (6, (a, b)) if lower(a) && lower(b) => Some(Gate::Nor(a, b)),
-            (7, (a, b)) if lower(a) && lower(b) => Some(Gate::Xor(a, b)),
-            (8, (a, b)) if lower(a) && lower(b) => Some(Gate::Xnor(a, b)),
-            _ => None,
-        }
+    /// The gate of a kind over these lines, as many as it has pins.
+    fn of(kind: u8, [a, b]: [usize; 2]) -> Option<Gate> {
+        Some(match kind {
+            0 => Gate::Input,
+            1 => Gate::Buffer(a),
+            2 => Gate::Not(a),
+            3 => Gate::And(a, b),
+            4 => Gate::Nand(a, b),
+            5 => Gate::Or(a, b),
+            6 => Gate::Nor(a, b),
+            7 => Gate::Xor(a, b),
+            8 => Gate::Xnor(a, b),
+            _ => return None,
+        })
     }
 }
 
@@ -101,13 +100,34 @@ impl<S> Gate<S> {
     }
 }
 
+/// The source that stands at this byte of a record.
+fn source(record: [u8; 8], at: usize) -> usize {
+    usize::from(u16::from_le_bytes([record[at], record[at + 1]]))
+}
+
+/// The fields of a line's record that are not as they must be, each by its first byte. Where there is no such kind, both sources count as had.
+pub fn bad_fields(number: usize, record: [u8; 8]) -> Vec<usize> {
+    let had = match record[0] {
+        0 => 0,
+        1 | 2 => 1,
+        _ => 2,
+    };
+    let bad = |field: usize| match field {
+        0 => record[0] > 8,
+        1 => record[1] > 1,
+        source_at if source_at / 2 <= had => source(record, source_at) >= number,
+        nothing_at => source(record, nothing_at) > 0,
+    };
+    [0, 1, 2, 4, 6].into_iter().filter(|&field| bad(field)).collect()
+}
+
 impl Line {
-    /// The line of this number, if its record keeps to the layout.
-    fn read(number: usize, record: [u8; 8]) -> Option<Line> {
-        let [kind, output @ (0 | 1), a0, a1, b0, b1, 0, 0] = record else { return None };
-        let source = |bytes| usize::from(u16::from_le_bytes(bytes));
-        let gate = Gate::read(number, kind, (source([a0, a1]), source([b0, b1])))?;
-        Some(Line { gate, output: output == 1 })
+    /// The line of this number, or the byte of its record at which the first field begins that is not as it must be.
+    fn read(number: usize, record: [u8; 8]) -> Result<Line, usize> {
+        match bad_fields(number, record).first() {
+            Some(&field) => Err(field),
+            None => Ok(Line { gate: Gate::of(record[0], [source(record, 2), source(record, 4)]).expect("a kind"), output: record[1] == 1 }),
+        }
     }
 
     /// Its record.
@@ -126,7 +146,7 @@ impl Circuit {
         let lines = records(bytes, 2048)
             .ok_or(refusal(1, 0))?
             .enumerate()
-            .map(|(number, record)| Line::read(number, record).ok_or(refusal(2, number)))
+            .map(|(number, record)| Line::read(number, record).map_err(|field| refusal(2, 8 * number + field)))
             .collect::<Result<_, _>>()?;
         let circuit = Circuit { lines };
         let Counts { inputs, outputs, .. } = circuit.counts();

@@ -16,7 +16,7 @@ fn check() {
     assert_eq!(second::check(&example_a()), Ok(Counts { lines: 5, inputs: 3, outputs: 1 }));
     assert_eq!(second::check(&inputs(64)), Ok(Counts { lines: 64, inputs: 64, outputs: 64 }));
     assert_eq!(second::check(&inputs(65)), Err(Refusal { number: 4, place: 0 }));
-    assert_eq!(second::check(&[1, 1, 0, 0, 0, 0, 0, 0]), Err(Refusal { number: 2, place: 0 }));
+    assert_eq!(second::check(&[1, 1, 0, 0, 0, 0, 0, 0]), Err(Refusal { number: 2, place: 2 }));
 }
 
 /// Entries as letters.

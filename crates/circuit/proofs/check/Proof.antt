@@ -3,6 +3,7 @@
 use mathlib.Core.Path.{sym, _∙_}
 use borrow.Author.Tests.{not-true, not-false}
 use borrow.Author.Needs.{needs}
+use native.Mathlib.Omega.{arith}
 use Rattle.circuit.proofs.Answer.{checks, size-refused, line-refused, layout-fine}
 use Rattle.circuit.proofs.check.Statement.{statement}
 use Rattle.circuit.proofs.check.Tie as tie
@@ -10,11 +11,15 @@ use Rattle.circuit.proofs.check.Tie as tie
 returns : tie.Need-returns
 returns c = checks _ (size-refused _ (sym (c .before .records-ok .ensures) ∙ not-true _ (c .if1 .taken)))
 
+add-byte : tie.Need-add-byte
+add-byte c = omega (arith, c .before .before .count-lines .ensures .inside)
+
 returns-2 : tie.Need-returns-2
 returns-2 c =
-    let counted = c .before in
+    let broken = c .before in
+    let counted = broken .before in
     let whole = counted .before in
-    checks _ (line-refused _ (sym (whole .before .records-ok .ensures) ∙ not-false _ (whole .if1 .left)) (counted .count-lines .ensures) (c .if2 .taken))
+    checks _ (line-refused _ (sym (whole .before .records-ok .ensures) ∙ not-false _ (whole .if1 .left)) (counted .count-lines .ensures) (broken .if2 .taken))
 
 returns-3 : tie.Need-returns-3
 returns-3 c =
@@ -31,6 +36,8 @@ check-spec =
     (λ c κs. search needs)
     returns
     (λ c κs. search needs)
+    (λ c. omega arith)
+    add-byte
     returns-2
     (λ c κs. search needs)
     returns-3)

@@ -1,8 +1,7 @@
 -- `circuit::count_lines` meets its contract. The invariant: every line passed keeps its layout, and those that are inputs and outputs are counted.
 -- Assumes nothing.
-use borrow.Author.Tests.{not-true, not-false}
 use borrow.Author.Needs.{needs}
-use mathlib.Core.Path.{sym, _∙_}
+use mathlib.Core.Path.{_∙_}
 use native.Mathlib.Omega.{arith}
 use Prim.Native.Nat.{_-_}
 use Rattle.ground.proofs.First.{Every, every-none, every-next, stopped, passed}
@@ -10,6 +9,7 @@ use Rattle.ground.proofs.Counting.{Sum, no-sum, sum-small, sum-more, sum-all}
 use Rattle.circuit.specs.Record.{isInput, isOutput}
 use Rattle.circuit.specs.Layout.{lineOk}
 use Rattle.circuit.proofs.Lines.{out-one}
+use Rattle.circuit.proofs.BadByte.{broken-line, kept-line}
 use Rattle.circuit.proofs.count_lines.Statement.{statement}
 use Rattle.circuit.proofs.count_lines.Tie as tie
 
@@ -22,17 +22,19 @@ abbrev μ-loop : tie.MeasureT-loop
 loop-holds : tie.Need-loop-holds Inv-loop μ-loop
 loop-holds c = (every-none _, no-sum _ _, no-sum _ _)
 
-line-ok-requires : tie.Need-line-ok-requires Inv-loop μ-loop
-line-ok-requires c κs = record { inside = omega arith }
+bad-field-requires : tie.Need-bad-field-requires Inv-loop μ-loop
+bad-field-requires c κs = record { inside = omega arith }
 
 returns : tie.Need-returns Inv-loop μ-loop
 returns c =
     let so = c .before .before .before .loop .inv in
     record {
-      lines = stopped (omega arith) (so .0) (sym (c .before .line-ok .ensures) ∙ not-true _ (c .if1 .taken));
+      lines = stopped (omega arith) (so .0) (broken-line _ _ (c .before .bad-field .ensures) (c .if1 .taken));
       at-most = so .1 .at-most;
       inputs = so .1 .sum;
       outputs = so .2 .sum;
+      field = λ l. c .before .bad-field .ensures;
+      inside = omega arith;
     }
 
 add-inputs : tie.Need-add-inputs Inv-loop μ-loop
@@ -46,7 +48,7 @@ loop-again c =
     let kind = c .before .before in
     let line = kind .before .before in
     let so = line .before .before .before .loop .inv in
-    let kept = sym (line .before .line-ok .ensures) ∙ not-false _ (line .if1 .left) in
+    let kept = kept-line _ _ (line .before .bad-field .ensures) (line .if1 .left) in
     (every-next (so .0) kept, sum-more (so .1) (omega arith) (kind .equal .ensures .0), sum-more (so .2) (omega arith) (c .wide .ensures .0 ∙ out-one _ _ kept))
 
 returns-2 : tie.Need-returns-2 Inv-loop μ-loop
@@ -57,6 +59,8 @@ returns-2 c =
       at-most = omega arith;
       inputs = sum-all (so .1) (omega arith);
       outputs = sum-all (so .2) (omega arith);
+      field = λ l. absurd (omega arith);
+      inside = omega arith;
     }
 
 pub count-lines-spec : {M : Type 1} → statement M
@@ -66,7 +70,7 @@ count-lines-spec =
     Inv-loop
     μ-loop
     loop-holds
-    line-ok-requires
+    bad-field-requires
     returns
     (λ c. omega arith)
     (λ c. omega arith)

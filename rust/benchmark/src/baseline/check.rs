@@ -9,8 +9,15 @@ fn pin_ok(circuit: &[u8], k: usize, s: usize) -> bool {
     from == 0
 }
 
-fn line_ok(circuit: &[u8], k: usize) -> bool {
-    circuit[8 * k] <= 8 && circuit[8 * k + 1] <= 1 && (1..=3).all(|s| pin_ok(circuit, k, s))
+/// Where the first field of line k begins that breaks its rule, counted from the record's first byte.
+fn bad_field(circuit: &[u8], k: usize) -> Option<usize> {
+    if circuit[8 * k] > 8 {
+        return Some(0);
+    }
+    if circuit[8 * k + 1] > 1 {
+        return Some(1);
+    }
+    (1..=3).find(|&s| !pin_ok(circuit, k, s)).map(|s| 2 * s)
 }
 
 /// The numbers of lines, inputs and outputs, or the number of the refusal and its place.
@@ -21,8 +28,8 @@ pub fn check(circuit: &[u8]) -> Result<[usize; 3], (u32, usize)> {
     let n = circuit.len() / 8;
     let (mut inputs, mut outputs) = (0, 0);
     for k in 0..n {
-        if !line_ok(circuit, k) {
-            return Err((2, k));
+        if let Some(field) = bad_field(circuit, k) {
+            return Err((2, 8 * k + field));
         }
         inputs += usize::from(circuit[8 * k] == 0);
         outputs += usize::from(circuit[8 * k + 1]);
