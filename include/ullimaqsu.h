@@ -67,8 +67,8 @@ typedef __UINT64_TYPE__ uint64_t;
    first that applies is given, with the lowest place; but compactor and audit check 12 and 13 before the size of the marks, and the bench
    reader 14 to 16 first, then 1, 4 and 5 on the records that it would write, then the size of its buffer.
    No refusal has the number 3. It stood for no input, and past 2 there always is one: line 0, below which there is no line for a gate to read.
-   2: of the first line that breaks its layout, the first field that breaks its rule, by its first byte in the circuit, also where only its second
-   byte is wrong. The place divided by 8 is the line, and what is left over is where the field begins in the record (ULLIMAQSU_FIELDS).
+   2: the place is where, in the first line that breaks its layout, the first field begins that breaks its rule, also where only its second byte is
+   wrong. Divided by 8 it gives the line, and what is left over is where that field begins in a record (ULLIMAQSU_FIELDS).
    14: the place is the first byte such that no right text begins with the bytes up to it, or byte 32,768, or the length of a text that ends
    early. 15: the first byte of the name, where it is used or defined a second time. 16: gates alone are counted, from 0, in the text's order.
    What prints these words takes them from here, as examples/front_end.c does. */

@@ -103,7 +103,7 @@ fn spoilt_fields(line: usize) -> impl Iterator<Item = Spoilt> {
     FIRST.into_iter().flat_map(move |first| wrong(line, first).into_iter().map(move |bytes| (8 * line + first, bytes)))
 }
 
-/// Any two of these, of one field or of two; or one alone, taken twice.
+/// Any two of these that spoil two fields, and each alone, taken twice.
 fn pairs(fields: &[Spoilt]) -> impl Iterator<Item = Vec<Spoilt>> + '_ {
     let pairs = fields.iter().flat_map(|one| fields.iter().map(move |other| vec![one.clone(), other.clone()]));
     pairs.filter(|pair| pair[0] == pair[1] || pair[0].0 != pair[1].0)
@@ -282,7 +282,7 @@ fn wrong_programs() {
 #[test]
 fn two_defects_at_once() {
     let circuit = [record(INPUT, false, 0, 0), record(INPUT, true, 0, 0), record(AND, true, 0, 1)].concat();
-    let defects: [Defect<Check>; 5] = defects![];
+    let defects: [Defect<Check>; 9] = defects![];
     first_defect_is_told(&Check { circuit, answer: vec![7; 32] }, &defects);
 }
 

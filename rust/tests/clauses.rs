@@ -87,7 +87,7 @@ fn boundaries_and_largest() {
 }
 
 /// What can be wrong, in the order in which it is looked for.
-const DEFECTS: [Defect<Clauses>; 8] =
+const DEFECTS: [Defect<Clauses>; 12] =
     defects![(6, |case| case.fault.extend([0; 8])), (7, |case| case.fault[3] = 2), (11, |case| case.words.clear()),];
 
 #[test]

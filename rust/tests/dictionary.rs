@@ -67,7 +67,7 @@ fn boundaries_and_largest() {
 }
 
 /// What can be wrong, in the order in which it is looked for.
-const DEFECTS: [Defect<Dictionary>; 11] = defects![
+const DEFECTS: [Defect<Dictionary>; 15] = defects![
     (6, |case| case.faults.push(0)),
     (7, |case| case.faults[11] = 2),
     (8, |case| case.patterns.push(0)),

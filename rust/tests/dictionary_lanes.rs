@@ -184,7 +184,7 @@ fn sizes_of_lent_memory() {
 }
 
 /// What can be wrong, in the order in which it is looked for, sizes by one too many.
-const DEFECTS: [Defect<DictionaryLanes>; 11] = defects![
+const DEFECTS: [Defect<DictionaryLanes>; 15] = defects![
     (6, |case| case.faults.push(0)),
     (7, |case| case.faults[11] = 2),
     (8, |case| case.patterns.push(0)),

@@ -145,7 +145,7 @@ fn verdicts_and_all_vectors() {
 }
 
 /// What can be wrong, in the order in which it is looked for.
-const DEFECTS: [Defect<Search>; 9] = defects![
+const DEFECTS: [Defect<Search>; 13] = defects![
     (6, |case| case.fault.extend([0; 8])),
     (7, |case| case.fault[3] = 2),
     (10, |case| case.test.push(0)),

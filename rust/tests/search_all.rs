@@ -225,7 +225,7 @@ fn no_budget_at_all() {
 }
 
 /// What can be wrong, in the order in which it is looked for, sizes by one too many.
-const DEFECTS: [Defect<SearchAll>; 12] = defects![
+const DEFECTS: [Defect<SearchAll>; 16] = defects![
     (6, |case| case.faults.push(0)),
     (7, |case| case.faults[11] = 2),
     (10, |case| case.budgets.push(0)),

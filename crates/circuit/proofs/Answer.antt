@@ -43,12 +43,12 @@ module _ (c : List ℕ) where
 
   module _ {counts : LineCounts} (whole : recordsOk 8 2048 (length c) ≡ true) (p : CountLinesDone c (linesOf c) counts) where
     -- a line breaks its layout, the first one after those that were counted
-    pub line-refused : counts .lines < linesOf c → Refused 2 (8 * counts .lines + counts .field) ≡ checkOf c
+    pub line-refused : counts .lines < linesOf c → Refused 2 (8 * counts .lines + counts .byte) ≡ checkOf c
     unfolding layoutRules refusal said
     line-refused l =
         let broken : allBelow (linesOf c) (lineOk c) ≡ false =
         ⊎-elim (λ q. all-fails (linesOf c) (lineOk c) (badLine c) (q .inside) (q .bad)) (λ a. absurd (omega (arith, p .lines, a .0))) (first-cases (linesOf c) (lineOk c)) in
-        let place : 8 * counts .lines + counts .field ≡ badByte c = rw (p .field l, p .lines) in
+        let place : 8 * counts .lines + counts .byte ≡ badByte c = rw (p .byte l, p .lines) in
         layout-refused 2 _ (rw (whole, broken, place))
 
     -- the counts decide

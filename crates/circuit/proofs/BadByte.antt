@@ -1,18 +1,16 @@
 -- The place of refusal 2: the function and the words say the same byte.
 -- Assumes nothing.
-use mathlib.Core.Path.{_≡_, refl, sym, ap, _∙_}
+use mathlib.Core.Path.{_≡_, refl, ap, _∙_}
 use mathlib.Core.Logic.{_⊎_, ⊎-elim}
-use mathlib.Core.Bool.{Bool, true, false, true≢false}
+use mathlib.Core.Bool.{true, false}
 use mathlib.Core.List.{List}
 use Prim.Native.Nat.{ℕ, zero, suc, _/_, _%_, _≤_, _<_}
 use native.Mathlib.Omega.{arith}
-use Rattle.ground.specs.Below.{firstNot}
-use Rattle.ground.proofs.First.{Every, Lowest, first-cases, first-is}
-use Rattle.answers.specs.Rules.{Same}
+use Rattle.ground.proofs.First.{Every, Lowest, first-cases}
 use Rattle.circuit.specs.Record.{linesOf}
 use Rattle.circuit.specs.Layout.{fieldOk, lineOk, Layout}
 use Rattle.circuit.specs.BadByte.{firstByte, badField, badLine, badByte, BadFieldAt}
-use Rattle.circuit.proofs.All.{all-holds, all-fails}
+use Rattle.circuit.proofs.All.{all-holds, all-fails, first-breaks, breaks-first}
 use Rattle.circuit.proofs.Lines.{field-same, layout-same, layout}
 
 -- ---- of one line
@@ -41,35 +39,6 @@ module _ (c : List ℕ) (k : ℕ) {r : ℕ} (is : r ≡ firstByte (badField c k)
   unfolding lineOk
   kept-line l =
       ⊎-elim (λ q. absurd (omega (arith, is, begins-inside (badField c k) (q .inside)))) (λ a. all-holds 5 (fieldOk c k) (a .1)) (field-cases c k)
-
--- ---- the lowest that breaks what is asked of each
-
--- k is the lowest number below n at which what is asked does not hold
-record LowestBreak (A : ℕ → Type 0) (n k : ℕ) : Type 0 where
-  inside : k < n
-  here : A k → ⊥
-  below : (j : ℕ) → j < k → A j
-
-module _ (n : ℕ) {t : ℕ → Bool} {A : ℕ → Type 0} (same : (k : ℕ) → Same (t k) (A k)) where
-  -- if it does not hold at each, that is the first at which the test fails
-  first-breaks : (((k : ℕ) → k < n → A k) → ⊥) → LowestBreak A n (firstNot n t)
-  first-breaks not =
-      ⊎-elim
-      (λ q. record {
-        inside = q .inside;
-        here = λ a. true≢false (sym (same _ .tests a) ∙ q .bad);
-        below = λ j l. same j .holds (q .below j (omega arith) l);
-      })
-      (λ a. absurd (not (λ k l. same k .holds (a .1 k (omega arith) l))))
-      (first-cases n t)
-
-  -- and there is no other
-  breaks-first : {k : ℕ} → LowestBreak A n k → firstNot n t ≡ k
-  breaks-first {k} b = first-is n t (record { above = omega arith; inside = b .inside; bad = fails (t k) refl; below = λ j _ l. same j .tests (b .below j l) })
-    where
-      fails : (v : Bool) → t k ≡ v → v ≡ false
-      fails true e = absurd (b .here (same k .holds e))
-      fails false e = refl
 
 -- ---- of the file
 

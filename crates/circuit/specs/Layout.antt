@@ -17,6 +17,7 @@ use Rattle.circuit.specs.Record.{kindAt, outAt, pinAt}
 unfoldable pub pinOk : List ℕ → ℕ → ℕ → Bool
 pinOk c k s = choose (leb s (pinsOf (kindAt c k))) (ltb (pinAt c k s) k) (eqb (pinAt c k s) 0)
 
+-- field f of line k keeps its rule
 unfoldable pub fieldOk : List ℕ → ℕ → ℕ → Bool
 fieldOk c k zero = leb (kindAt c k) lastKind
 fieldOk c k (suc zero) = leb (outAt c k) 1
@@ -33,6 +34,7 @@ pub record Pin (c : List ℕ) (k s : ℕ) : Type 0 where
   pub has : s ≤ pinsOf (kindAt c k) → pinAt c k s < k
   pub lacks : pinsOf (kindAt c k) < s → pinAt c k s ≡ 0
 
+-- the rule of field f
 abbrev pub Field : List ℕ → ℕ → ℕ → Type 0
 Field c k zero = kindAt c k ≤ lastKind
 Field c k (suc zero) = outAt c k ≤ 1

@@ -22,5 +22,5 @@ pub record CountLinesDone (c : List ℕ) (n : ℕ) (r : LineCounts) : Type 0 whe
   pub at-most : r .lines ≤ n
   pub inputs : r .inputs ≡ inputsBefore c (r .lines)
   pub outputs : r .outputs ≡ outputsBefore c (r .lines)
-  pub field : r .lines < n → r .field ≡ firstByte (badField c (r .lines))
-  pub inside : r .field ≤ 8
+  pub byte : r .lines < n → r .byte ≡ firstByte (badField c (r .lines))
+  pub inside : r .byte ≤ 8

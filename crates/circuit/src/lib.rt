@@ -25,12 +25,12 @@ pub enum Checked {
     Refused(u32, usize),
 }
 
-// Lines that keep their layout, the inputs and outputs among them, and where in the record after them the first bad field begins, if there is one.
+// Lines that keep their layout, the inputs and outputs among them, and where in the record after them the first bad field begins, or 8.
 struct LineCounts {
     lines: usize,
     inputs: usize,
     outputs: usize,
-    field: usize,
+    byte: usize,
 }
 
 // The source of pin s of line k.
@@ -62,8 +62,8 @@ fn pin_ok(circuit: &[u8], k: usize, s: usize) -> bool
     from < limit(circuit, k, s)
 }
 
-// Where the first field of line k begins that breaks its rule, counted from the record's first byte; 8 where every field keeps its rule.
-fn bad_field(circuit: &[u8], k: usize) -> usize
+// Where in the record of line k the first field begins that breaks its rule; 8 where every field keeps its rule.
+fn bad_byte(circuit: &[u8], k: usize) -> usize
     requires { ⌜ Inside (now circuit) k ⌝ }
     ensures { λ r. ⌜ r ≡ firstByte (badField (now (circuit .entry)) k) ⌝ }
 {
@@ -101,13 +101,13 @@ fn count_lines(circuit: &[u8], n: usize) -> LineCounts
     let mut outputs = 0;
     let mut k = 0;
     while k < n {
-        let field = bad_field(circuit, k);
-        if field < 8 {
+        let byte = bad_byte(circuit, k);
+        if byte < 8 {
             return LineCounts {
                 lines: k,
                 inputs,
                 outputs,
-                field,
+                byte,
             };
         }
         inputs += equal(circuit[8 * k], 0);
@@ -118,7 +118,7 @@ fn count_lines(circuit: &[u8], n: usize) -> LineCounts
         lines: n,
         inputs,
         outputs,
-        field: 8,
+        byte: 8,
     }
 }
 
@@ -157,8 +157,8 @@ pub fn check(circuit: &[u8]) -> Checked
     let counts = count_lines(circuit, n);
     let bad = counts.lines;
     if bad < n {
-        let byte = 8 * bad + counts.field;
-        return Checked::Refused(2, byte);
+        let place = 8 * bad + counts.byte;
+        return Checked::Refused(2, place);
     }
     counted(n, counts.inputs, counts.outputs)
 }

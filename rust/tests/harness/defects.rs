@@ -1,11 +1,16 @@
 //! What can be wrong with every case that has a circuit.
 
-/// A list of defects, in the order in which they are looked for: those of the area and the circuit, and then these.
+/// A list of defects, in the order in which they are looked for: those of the area and the circuit, each field of a line among them, and then
+/// these.
 macro_rules! defects {
     ($($then:expr),* $(,)?) => {
         [
             (10, |case| case.answer.push(0)),
             (1, |case| case.circuit.push(0)),
+            (2, |case| case.circuit[8] = 9),
+            (2, |case| case.circuit[9] = 2),
+            (2, |case| case.circuit[11] = 1),
+            (2, |case| case.circuit[13] = 1),
             (2, |case| case.circuit[15] = 1),
             (4, |case| case.circuit.extend(cases::circuits::record(cases::circuits::INPUT, false, 0, 0).repeat(64))),
             (5, |case| case.circuit.chunks_mut(8).for_each(|record| record[1] &= 2)),

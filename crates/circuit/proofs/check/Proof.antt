@@ -11,8 +11,8 @@ use Rattle.circuit.proofs.check.Tie as tie
 returns : tie.Need-returns
 returns c = checks _ (size-refused _ (sym (c .before .records-ok .ensures) ∙ not-true _ (c .if1 .taken)))
 
-add-byte : tie.Need-add-byte
-add-byte c = omega (arith, c .before .before .count-lines .ensures .inside)
+add-place : tie.Need-add-place
+add-place c = omega (arith, c .before .before .count-lines .ensures .inside)
 
 returns-2 : tie.Need-returns-2
 returns-2 c =
@@ -37,7 +37,7 @@ check-spec =
     returns
     (λ c κs. search needs)
     (λ c. omega arith)
-    add-byte
+    add-place
     returns-2
     (λ c κs. search needs)
     returns-3)

@@ -22,18 +22,18 @@ abbrev μ-loop : tie.MeasureT-loop
 loop-holds : tie.Need-loop-holds Inv-loop μ-loop
 loop-holds c = (every-none _, no-sum _ _, no-sum _ _)
 
-bad-field-requires : tie.Need-bad-field-requires Inv-loop μ-loop
-bad-field-requires c κs = record { inside = omega arith }
+bad-byte-requires : tie.Need-bad-byte-requires Inv-loop μ-loop
+bad-byte-requires c κs = record { inside = omega arith }
 
 returns : tie.Need-returns Inv-loop μ-loop
 returns c =
     let so = c .before .before .before .loop .inv in
     record {
-      lines = stopped (omega arith) (so .0) (broken-line _ _ (c .before .bad-field .ensures) (c .if1 .taken));
+      lines = stopped (omega arith) (so .0) (broken-line _ _ (c .before .bad-byte .ensures) (c .if1 .taken));
       at-most = so .1 .at-most;
       inputs = so .1 .sum;
       outputs = so .2 .sum;
-      field = λ l. c .before .bad-field .ensures;
+      byte = λ l. c .before .bad-byte .ensures;
       inside = omega arith;
     }
 
@@ -48,7 +48,7 @@ loop-again c =
     let kind = c .before .before in
     let line = kind .before .before in
     let so = line .before .before .before .loop .inv in
-    let kept = kept-line _ _ (line .before .bad-field .ensures) (line .if1 .left) in
+    let kept = kept-line _ _ (line .before .bad-byte .ensures) (line .if1 .left) in
     (every-next (so .0) kept, sum-more (so .1) (omega arith) (kind .equal .ensures .0), sum-more (so .2) (omega arith) (c .wide .ensures .0 ∙ out-one _ _ kept))
 
 returns-2 : tie.Need-returns-2 Inv-loop μ-loop
@@ -59,7 +59,7 @@ returns-2 c =
       at-most = omega arith;
       inputs = sum-all (so .1) (omega arith);
       outputs = sum-all (so .2) (omega arith);
-      field = λ l. absurd (omega arith);
+      byte = λ l. absurd (omega arith);
       inside = omega arith;
     }
 
@@ -70,7 +70,7 @@ count-lines-spec =
     Inv-loop
     μ-loop
     loop-holds
-    bad-field-requires
+    bad-byte-requires
     returns
     (λ c. omega arith)
     (λ c. omega arith)

@@ -9,8 +9,8 @@ fn pin_ok(circuit: &[u8], k: usize, s: usize) -> bool {
     from == 0
 }
 
-/// Where the first field of line k begins that breaks its rule, counted from the record's first byte.
-fn bad_field(circuit: &[u8], k: usize) -> Option<usize> {
+/// Where in the record of line k the first field begins that breaks its rule.
+fn bad_byte(circuit: &[u8], k: usize) -> Option<usize> {
     if circuit[8 * k] > 8 {
         return Some(0);
     }
@@ -28,8 +28,8 @@ pub fn check(circuit: &[u8]) -> Result<[usize; 3], (u32, usize)> {
     let n = circuit.len() / 8;
     let (mut inputs, mut outputs) = (0, 0);
     for k in 0..n {
-        if let Some(field) = bad_field(circuit, k) {
-            return Err((2, 8 * k + field));
+        if let Some(byte) = bad_byte(circuit, k) {
+            return Err((2, 8 * k + byte));
         }
         inputs += usize::from(circuit[8 * k] == 0);
         outputs += usize::from(circuit[8 * k + 1]);

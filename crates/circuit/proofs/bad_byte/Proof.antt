@@ -1,4 +1,4 @@
--- `circuit::bad_field` meets its contract: one answer for each field, and one where all keep their rules.
+-- `circuit::bad_byte` meets its contract: one answer for each field, and one where all keep their rules.
 -- Assumes nothing.
 use borrow.Author.Tests.{le-leb, lt-leb, not-true, not-false}
 use mathlib.Core.Path.{_≡_, sym, _∙_}
@@ -12,8 +12,8 @@ use Rattle.circuit.specs.Record.{kindAt, outAt}
 use Rattle.circuit.specs.Layout.{pinOk, fieldOk}
 use Rattle.circuit.specs.BadByte.{badField}
 use borrow.Author.Needs.{needs}
-use Rattle.circuit.proofs.bad_field.Statement.{statement}
-use Rattle.circuit.proofs.bad_field.Tie as tie
+use Rattle.circuit.proofs.bad_byte.Statement.{statement}
+use Rattle.circuit.proofs.bad_byte.Tie as tie
 
 -- ---- the fields: a test that the code goes past says that its field is kept
 
@@ -75,8 +75,8 @@ returns-5 c = rw (last-decides (c .before .before), sym (c .before .pin-ok3 .ens
 returns-6 : tie.Need-returns-6
 returns-6 c = rw (last-decides (c .before .before), sym (c .before .pin-ok3 .ensures) ∙ not-false _ (c .if5 .left))
 
-pub bad-field-spec : {M : Type 1} → statement M
-bad-field-spec =
+pub bad-byte-spec : {M : Type 1} → statement M
+bad-byte-spec =
     tie.close
     (tie.spec
     (λ c. search needs)
