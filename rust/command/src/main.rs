@@ -1,0 +1,38 @@
+//! `ullimaqsu`: the proved test tools as commands, by the names of a circuit's text.
+//!
+//! A command reads its files, calls the library and prints. All that is answered of a circuit is the library's answer; what is made here is
+//! words, tables and pictures of it.
+mod circuit;
+mod collapse;
+mod commands;
+mod explain;
+mod fault;
+mod files;
+mod kind;
+mod nearest;
+mod out;
+mod pattern;
+mod problem;
+mod replace;
+mod table;
+mod words;
+
+use out::Out;
+use problem::Problem;
+use std::env;
+use std::process::ExitCode;
+
+fn main() -> ExitCode {
+    let mut out = Out::new();
+    let words = env::args_os().skip(1).collect();
+    let done = commands::run(words, &mut out).and_then(|()| out.flush());
+    match done {
+        Ok(()) => ExitCode::SUCCESS,
+        Err(problem) => {
+            // what was printed before stands before what is said of it
+            let _ = out.flush();
+            problem.tell();
+            problem.code()
+        }
+    }
+}

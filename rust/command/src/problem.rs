@@ -1,0 +1,44 @@
+//! Why a command ends without its answer.
+use std::ffi::OsStr;
+use std::process::ExitCode;
+
+/// Nothing more can be said where nobody reads any more.
+const CLOSED_PIPE: u8 = 141;
+
+#[derive(Debug, PartialEq, Eq)]
+pub enum Problem {
+    /// What was given has been read, and is refused: status 1.
+    Refused(String),
+    /// Nothing was run, or something can't be read or written: status 2.
+    Stopped(String),
+    /// Whoever read what is printed has gone: nothing is said.
+    Unheard,
+}
+
+impl Problem {
+    pub fn code(&self) -> ExitCode {
+        match self {
+            Problem::Refused(_) => ExitCode::from(1),
+            Problem::Stopped(_) => ExitCode::from(2),
+            Problem::Unheard => ExitCode::from(CLOSED_PIPE),
+        }
+    }
+
+    /// One line on standard error.
+    pub fn tell(&self) {
+        if let Problem::Refused(says) | Problem::Stopped(says) = self {
+            // nobody can be told that this can't be told
+            let _ = std::io::Write::write_all(&mut std::io::stderr(), format!("ullimaqsu: {}\n", one_line(says)).as_bytes());
+        }
+    }
+}
+
+/// A name of a file as it is shown.
+pub fn shown(name: impl AsRef<OsStr>) -> String {
+    one_line(&name.as_ref().to_string_lossy())
+}
+
+/// On one line whatever it is.
+fn one_line(text: &str) -> String {
+    text.chars().map(|letter| if letter.is_control() { '?' } else { letter }).collect()
+}
