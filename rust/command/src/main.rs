@@ -8,7 +8,9 @@ mod commands;
 mod explain;
 mod fault;
 mod files;
+mod help;
 mod kind;
+mod lines;
 mod nearest;
 mod out;
 mod pattern;
@@ -18,7 +20,6 @@ mod table;
 mod words;
 
 use out::Out;
-use problem::Problem;
 use std::env;
 use std::process::ExitCode;
 
