@@ -60,8 +60,8 @@ impl Picture<'_> {
         let bottom = self.y.iter().copied().fold(0.0, f64::max) + HALF + MARGIN;
         let mut svg = Svg::new(right.max(LEAST_WIDTH), bottom + FOOT, &self.title(), style::STYLE);
         self.head(&mut svg);
-        (0..self.circuit.size()).for_each(|line| svg.path(&self.class(line), &self.wire(line)));
-        (0..self.drawn.nodes.len()).for_each(|node| self.node(&mut svg, node));
+        self.wires().iter().enumerate().for_each(|(line, wire)| svg.path(&self.class(line), wire));
+        self.drawn.readers().iter().enumerate().for_each(|(node, readers)| self.node(&mut svg, node, readers.len()));
         if let Some(faulty) = &self.simulation.faulty {
             self.fault(&mut svg, faulty.fault);
         }
@@ -146,8 +146,122 @@ impl Picture<'_> {
         }
     }
 
-    /// The way of a line's wire from its gate to all that read it.
-    fn wire(&self, line: usize) -> String {
-        String::new()
+    /// For each line the way of its wire, from its gate to all that read it.
+    fn wires(&self) -> Vec<String> {
+        let mut wires = vec![String::new(); self.circuit.size()];
+        for (node, drawn) in self.drawn.nodes.iter().enumerate() {
+            let (x, y) = (self.x[drawn.column], self.y[node]);
+            match drawn.thing {
+                Thing::Line(line) => wires[line] += &format!("M{} {y}H{}", x + shapes::right(self.circuit.kind(line)), x + BEHIND),
+                Thing::Wire(line) => wires[line] += &format!("M{} {y}H{}", x - BEFORE, x + BEHIND),
+                Thing::Port(_) => (),
+            }
+            for pin in 0..drawn.pins.len() {
+                wires[self.read_at(node, pin)] += &self.way_in(node, pin);
+            }
+        }
+        wires
     }
+
+    /// The way to a pin from the column before, or its last piece where the wire is not drawn.
+    fn way_in(&self, node: usize, pin: usize) -> String {
+        let drawn = &self.drawn.nodes[node];
+        let (x, y) = (self.x[drawn.column], self.y[node] + pin_height(pin, drawn.pins.len()));
+        let from = x - BEFORE;
+        let end = match drawn.thing {
+            Thing::Line(line) => x + shapes::left(self.circuit.kind(line)),
+            Thing::Wire(_) => from,
+            Thing::Port(_) => x - BODY,
+        };
+        match drawn.pins[pin] {
+            None => format!("M{from} {y}H{end}"),
+            Some(source) => {
+                let (x, height) = (self.x[drawn.column - 1] + BEHIND, self.y[source]);
+                let middle = (x + from) / 2.0;
+                format!("M{x} {height}C{middle} {height} {middle} {y} {from} {y}H{end}")
+            }
+        }
+    }
+
+    fn node(&self, svg: &mut Svg, node: usize, readers: usize) {
+        let drawn = &self.drawn.nodes[node];
+        let (x, y, line) = (self.x[drawn.column], self.y[node], drawn.thing.line());
+        match drawn.thing {
+            Thing::Line(line) => svg.group(&format!("line-{}", self.circuit.name(line)), x, y, |svg| self.line(svg, line)),
+            Thing::Port(line) => svg.group(&format!("output-{}", self.circuit.name(line)), x, y, |svg| self.port(svg, line)),
+            Thing::Wire(_) => (),
+        }
+        if readers > 1 {
+            svg.circle(&format!("dot{}", self.difference(line)), x + BEHIND, y, 3.5);
+        }
+        for pin in (0..drawn.pins.len()).filter(|&pin| drawn.pins[pin].is_none() && matches!(drawn.thing, Thing::Line(_))) {
+            let height = y + pin_height(pin, drawn.pins.len()) + 4.0;
+            svg.text("label", Anchor::End, x - BEFORE - 4.0, height, self.circuit.name(self.read_at(node, pin)));
+        }
+    }
+
+    fn line(&self, svg: &mut Svg, line: usize) {
+        let (name, kind) = (self.circuit.name(line), self.circuit.kind(line));
+        if kind == Kind::Input {
+            let width = self.box_width(line);
+            svg.path("gate", &format!("M{BODY} -15H{}V15H{BODY}Z", BODY - width));
+            svg.text("name", Anchor::Middle, BODY - width / 2.0, 5.0, name);
+        } else {
+            shapes::draw(svg, kind);
+            svg.text("name", Anchor::Middle, 0.0, -HALF - 7.0, name);
+        }
+        svg.text(&format!("value{}", self.difference(line)), Anchor::Middle, VALUE, -7.0, &self.simulation.letters(line));
+    }
+
+    fn port(&self, svg: &mut Svg, line: usize) {
+        let (name, values) = (self.circuit.name(line), self.simulation.letters(line));
+        let end = self.name_width(line) + LETTER * (values.len() + 1) as f64;
+        svg.path("gate", &format!("M{} 0L{} -15H{end}V15H{}Z", -BODY, 12.0 - BODY, 12.0 - BODY));
+        svg.text("name", Anchor::Start, 18.0 - BODY, 5.0, name);
+        svg.text(&format!("value{}", self.difference(line)), Anchor::End, end - 7.0, 5.0, &values);
+    }
+
+    /// A cross on the wire that is stuck, and what it is stuck at.
+    fn fault(&self, svg: &mut Svg, fault: Fault) {
+        let Some(node) = self.drawn.nodes.iter().position(|node| node.thing == Thing::Line(fault.line)) else { return };
+        let (x, y) = (self.x[self.drawn.nodes[node].column], self.y[node]);
+        let word = fault.named(self.circuit);
+        svg.group("fault", x, y, |svg| match fault.site {
+            0 => {
+                svg.path("cross", &cross(VALUE, 0.0));
+                svg.text("stuck", Anchor::Middle, VALUE, 22.0, &word);
+            }
+            pin => {
+                let height = pin_height(pin - 1, self.circuit.kind(fault.line).pins());
+                svg.path("cross", &cross(8.0 - BEFORE, height));
+                svg.text("stuck", Anchor::End, 14.0 - BEFORE, if height < 0.0 { height - 11.0 } else { height + 22.0 }, &word);
+            }
+        });
+    }
+
+    /// The file, the pattern and the fault, and what becomes of it.
+    fn title(&self) -> String {
+        let fault = self.simulation.faulty.as_ref().map_or(String::new(), |faulty| format!(", fault {}", faulty.fault.named(self.circuit)));
+        format!("{}, pattern {}{fault}", self.circuit.file, self.simulation.pattern.letters())
+    }
+
+    fn head(&self, svg: &mut Svg) {
+        svg.text("title", Anchor::Start, MARGIN, 38.0, &self.title());
+        svg.text("verdict", Anchor::Start, MARGIN, 64.0, &self.simulation.verdict(self.circuit).unwrap_or_default());
+        let last = self.x.len() - 1;
+        for (column, &x) in self.x.iter().enumerate() {
+            let says = match column {
+                0 => "inputs".to_string(),
+                output if output == last => "outputs".to_string(),
+                level => format!("level {level}"),
+            };
+            svg.text("level", Anchor::Middle, x, HEAD - 16.0, &says);
+        }
+    }
+}
+
+/// Two strokes through a point.
+fn cross(x: f64, y: f64) -> String {
+    let (left, right, top, bottom) = (x - 7.0, x + 7.0, y - 7.0, y + 7.0);
+    format!("M{left} {top}L{right} {bottom}M{left} {bottom}L{right} {top}")
 }

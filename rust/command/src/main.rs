@@ -5,17 +5,20 @@
 mod circuit;
 mod collapse;
 mod commands;
+mod drawing;
 mod explain;
 mod fault;
 mod files;
 mod help;
 mod kind;
+mod levels;
 mod lines;
 mod nearest;
 mod out;
 mod pattern;
 mod problem;
 mod replace;
+mod simulation;
 mod table;
 mod words;
 
