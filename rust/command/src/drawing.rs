@@ -27,8 +27,10 @@ const HEAD: f64 = 116.0;
 const FOOT: f64 = 64.0;
 /// The width of a letter of a name.
 const LETTER: f64 = 8.5;
-/// What the title and the legend need.
-const LEAST_WIDTH: f64 = 860.0;
+/// The width of the legend.
+const LEGEND: f64 = 1000.0;
+/// The width of a letter of the title.
+const TITLE_LETTER: f64 = 13.0;
 
 pub fn draw(circuit: &Circuit, simulation: &Simulation) -> String {
     Picture::of(circuit, simulation).drawn()
@@ -58,7 +60,8 @@ impl Picture<'_> {
         let last = self.drawn.columns.len() - 1;
         let right = self.x[last] + self.port_width() + MARGIN;
         let bottom = self.y.iter().copied().fold(0.0, f64::max) + HALF + MARGIN;
-        let mut svg = Svg::new(right.max(LEAST_WIDTH), bottom + FOOT, &self.title(), style::STYLE);
+        let width = right.max(LEGEND).max(2.0 * MARGIN + TITLE_LETTER * self.title().chars().count() as f64);
+        let mut svg = Svg::new(width, bottom + FOOT, &self.title(), style::STYLE);
         self.head(&mut svg);
         self.wires().iter().enumerate().for_each(|(line, wire)| svg.path(&self.class(line), wire));
         self.drawn.readers().iter().enumerate().for_each(|(node, readers)| self.node(&mut svg, node, readers.len()));
@@ -210,7 +213,7 @@ impl Picture<'_> {
             shapes::draw(svg, kind);
             svg.text("name", Anchor::Middle, 0.0, -HALF - 7.0, name);
         }
-        svg.text(&format!("value{}", self.difference(line)), Anchor::Middle, VALUE, -7.0, &self.simulation.letters(line));
+        svg.text(&format!("value{}", self.difference(line)), Anchor::Middle, VALUE, -9.0, &self.simulation.letters(line));
     }
 
     fn port(&self, svg: &mut Svg, line: usize) {
@@ -234,7 +237,7 @@ impl Picture<'_> {
             pin => {
                 let height = pin_height(pin - 1, self.circuit.kind(fault.line).pins());
                 svg.path("cross", &cross(8.0 - BEFORE, height));
-                svg.text("stuck", Anchor::End, 14.0 - BEFORE, if height < 0.0 { height - 11.0 } else { height + 22.0 }, &word);
+                svg.text("stuck", Anchor::Middle, 0.0, HALF + 17.0, &word);
             }
         });
     }
@@ -250,18 +253,18 @@ impl Picture<'_> {
         svg.text("verdict", Anchor::Start, MARGIN, 64.0, &self.simulation.verdict(self.circuit).unwrap_or_default());
         let last = self.x.len() - 1;
         for (column, &x) in self.x.iter().enumerate() {
-            let says = match column {
-                0 => "inputs".to_string(),
-                output if output == last => "outputs".to_string(),
-                level => format!("level {level}"),
+            let (x, anchor, says) = match column {
+                0 => (MARGIN, Anchor::Start, "inputs".to_string()),
+                output if output == last => (x - BODY, Anchor::Start, "outputs".to_string()),
+                level => (x, Anchor::Middle, format!("level {level}")),
             };
-            svg.text("level", Anchor::Middle, x, HEAD - 16.0, &says);
+            svg.text("level", anchor, x, HEAD - 16.0, &says);
         }
     }
 }
 
 /// Two strokes through a point.
 fn cross(x: f64, y: f64) -> String {
-    let (left, right, top, bottom) = (x - 7.0, x + 7.0, y - 7.0, y + 7.0);
+    let (left, right, top, bottom) = (x - 6.0, x + 6.0, y - 6.0, y + 6.0);
     format!("M{left} {top}L{right} {bottom}M{left} {bottom}L{right} {top}")
 }

@@ -134,11 +134,15 @@ impl Simulation {
 
     /// What the dictionary says of the fault, in words; nothing where there is no fault.
     pub fn verdict(&self, circuit: &Circuit) -> Option<String> {
-        let outputs = || (0..circuit.size()).filter(|&line| circuit.is_output(line) && self.difference(line) == Difference::Sure);
+        let compared = |line: &usize| circuit.is_output(*line) && self.good(*line) != Value::X;
+        let outputs = |with: Difference| {
+            let lines = (0..circuit.size()).filter(compared).filter(|&line| self.difference(line) == with);
+            lines.map(|line| circuit.name(line)).collect::<Vec<_>>().join(", ")
+        };
         self.faulty.as_ref().map(|faulty| match faulty.entry {
             Entry::Pass => "pass: no output that is compared differs".to_string(),
-            Entry::Fail => format!("fail: seen at {}", outputs().map(|line| circuit.name(line)).collect::<Vec<_>>().join(", ")),
-            Entry::Unknown => "unknown: how the X's are filled decides".to_string(),
+            Entry::Fail => format!("fail: seen at {}", outputs(Difference::Sure)),
+            Entry::Unknown => format!("unknown: the faulty value is X at {}", outputs(Difference::Perhaps)),
         })
     }
 }

@@ -40,6 +40,6 @@ pub fn draw(svg: &mut Svg, kind: Kind) {
     if kind.inverts() {
         svg.circle("gate", BODY + BUBBLE, 0.0, BUBBLE);
     }
-    let middle = if kind.pins() == 1 { -12.0 } else { 1.0 };
+    let middle = if kind.pins() == 1 { -10.0 } else { 1.0 };
     svg.text("kind", Anchor::Middle, middle, 4.0, kind.word());
 }
