@@ -64,8 +64,8 @@ typedef __UINT64_TYPE__ uint64_t;
 #endif
 
 /* Refusals: name, number, what it says, and what its place counts ("" where the place is always 0). They are checked in this order, and the
-   first that applies is given, with the lowest place; but compactor and audit check 12 and 13 before the size of the marks, and the bench
-   reader 14 to 16 first, then 1, 4 and 5 on the records that it would write, then the size of its buffer.
+   first that applies is given, with the lowest place; but compactor and audit check 12 and 13 before the size of the marks, and both readers
+   of a bench text 14 to 16 first, then 1, 4 and 5 on the records that the text makes, then the size of the buffer.
    No refusal has the number 3. It stood for no input, and past 2 there always is one: line 0, below which there is no line for a gate to read.
    2: the place is where, in the first line that breaks its layout, the first field begins that breaks its rule, also where only its second byte is
    wrong. Divided by 8 it gives the line, and what is left over is where that field begins in a record (ULLIMAQSU_FIELDS).
@@ -245,6 +245,15 @@ uint32_t ullimaqsu_clauses(const uint8_t *circuit, size_t circuit_len,
 uint32_t ullimaqsu_bench(const uint8_t *text, size_t text_len,
                          uint8_t *circuit, size_t circuit_len,
                          uint8_t *answer, size_t answer_len);
+
+/* The names of a bench text's lines. Refusals as of the bench reader: 14, 15, 16, then 1, 4, 5 on the records, then 10.
+   For each line of the records that ullimaqsu_bench writes of this text, in line order: the first byte, in the text, of the line's name where
+   the text defines it, in its INPUT or at the beginning of its equation. The name is the letters, digits and underscores from there on. There
+   are exactly 2,048 places, room for the largest circuit; those after the last line stay.
+   Answer: the number of records. */
+uint32_t ullimaqsu_bench_names(const uint8_t *text, size_t text_len,
+                               uint32_t *places, size_t places_len,
+                               uint8_t *answer, size_t answer_len);
 
 #ifdef __cplusplus
 }

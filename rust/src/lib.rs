@@ -269,3 +269,24 @@ pub fn bench(text: &[u8], circuit: &mut [u8]) -> Result<u64, Refusal> {
     let returned = enter(Call::Bench { text, circuit, answer: &mut area });
     answered(returned, area).map(|[records, ..]| records)
 }
+
+/// The most lines that a circuit has, and the number of places that [`bench_names`] is lent.
+pub const MOST_LINES: usize = 2_048;
+
+/// The names of a text's lines: for each line of the circuit that [`bench`] writes of the text, in line order, the first byte of its name where
+/// the text defines it, and the number of lines. The name is the letters, digits and underscores from there on. What follows in the places
+/// stays. A refusal, which is the one that [`bench`] gives, writes nothing.
+///
+/// ```
+/// use ullimaqsu::{bench_names, MOST_LINES};
+/// let mut places = [9; MOST_LINES];
+/// assert_eq!(bench_names(b"OUTPUT(y)\ny = NOT(a)\nINPUT(a)", &mut places), Ok(2));
+/// assert_eq!(places[..4], [27, 10, 9, 9]);
+/// let refusal = bench_names(b"OUTPUT(y)\ny = NOT(b)\nINPUT(a)", &mut places).unwrap_err();
+/// assert_eq!(refusal.to_string(), "refusal 15: a name is used and defined nowhere, or defined a second time (byte 18)");
+/// ```
+pub fn bench_names(text: &[u8], places: &mut [u32]) -> Result<u64, Refusal> {
+    let mut area = [0; 32];
+    let returned = enter(Call::BenchNames { text, places, answer: &mut area });
+    answered(returned, area).map(|[records, ..]| records)
+}

@@ -2,13 +2,20 @@
 //!
 //! A command reads its files, calls the library and prints. All that is answered of a circuit is the library's answer; what is made here is
 //! words, tables and pictures of it.
+mod bar;
 mod circuit;
 mod collapse;
+mod columns;
 mod commands;
 mod explain;
 mod fault;
 mod files;
+mod form;
+mod help;
 mod kind;
+mod lines;
+mod listed;
+mod marks;
 mod nearest;
 mod out;
 mod pattern;
@@ -18,7 +25,6 @@ mod table;
 mod words;
 
 use out::Out;
-use problem::Problem;
 use std::env;
 use std::process::ExitCode;
 

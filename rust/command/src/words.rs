@@ -1,5 +1,6 @@
 //! The words of a command line: options, which begin with a dash, and the others in their order.
 use crate::commands::Command;
+use crate::nearest::offered;
 use crate::problem::{shown, Problem};
 use std::ffi::{OsStr, OsString};
 use std::path::Path;
@@ -33,7 +34,7 @@ impl Words {
                 words.rest.push(word);
                 continue;
             }
-            let choice = command.choices.iter().find(|choice| word == choice.name).ok_or_else(|| command.misused(&format!("has no option {}", shown(&word))))?;
+            let choice = command.choices.iter().find(|choice| word == choice.name).ok_or_else(|| unknown(command, &word))?;
             let value = match choice.value {
                 None => OsString::new(),
                 Some(value) => given.next().ok_or_else(|| command.misused(&format!("wants {value} after {}", choice.name)))?,
@@ -60,8 +61,18 @@ impl Words {
         self.rest.get(k).map(Path::new)
     }
 
+    /// The same where the command always has it.
+    pub fn at(&self, k: usize) -> &Path {
+        self.path(k).expect("so many words were asked for")
+    }
+
     /// The words that are no options, from the k-th on, as they are shown.
     pub fn from(&self, k: usize) -> impl Iterator<Item = String> + '_ {
         self.rest.iter().skip(k).map(|word| word.to_string_lossy().into_owned())
     }
+}
+
+fn unknown(command: &Command, word: &OsStr) -> Problem {
+    let (word, names) = (shown(word), command.choices.iter().map(|choice| choice.name));
+    command.misused(&format!("has no option `{word}`{}", offered(&word, names)))
 }

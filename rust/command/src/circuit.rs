@@ -1,0 +1,114 @@
+//! A circuit, its lines by name.
+use crate::explain::explain;
+use crate::files;
+use crate::kind::Kind;
+use crate::problem::{shown, Problem};
+use std::collections::HashMap;
+use std::path::Path;
+use ullimaqsu::{Counts, Refusal, LARGEST_CIRCUIT};
+
+/// The most bytes of a text, and one more: what is longer is refused by the same number, whatever follows.
+const MOST: usize = 32_769;
+
+/// The most lines of a circuit.
+const MOST_LINES: usize = LARGEST_CIRCUIT / 8;
+
+#[derive(Debug)]
+pub struct Circuit {
+    /// The file's name as it is shown.
+    pub file: String,
+    pub records: Vec<u8>,
+    pub counts: Counts,
+    names: Vec<String>,
+    lines: HashMap<String, usize>,
+}
+
+impl Circuit {
+    /// Of a file that is a text or records.
+    pub fn load(path: &Path) -> Result<Circuit, Problem> {
+        let (file, bytes) = (shown(path), files::read(path, MOST)?);
+        // a text may have a NUL byte too, in a comment, and is asked first
+        if bytes.contains(&0) && read_text(&bytes).is_err() {
+            return Circuit::of_records(&file, bytes);
+        }
+        Circuit::of_text(&file, &bytes)
+    }
+
+    /// Of a text in the bench notation.
+    pub fn of_text(file: &str, text: &[u8]) -> Result<Circuit, Problem> {
+        let (records, names) = read_text(text).map_err(|refusal| Problem::Refused(format!("{file}: {}", explain(text, &refusal))))?;
+        Circuit::named(file, records, names)
+    }
+
+    /// Of records, whose names are their numbers.
+    pub fn of_records(file: &str, records: Vec<u8>) -> Result<Circuit, Problem> {
+        let names = (0..records.len() / 8).map(|line| line.to_string()).collect();
+        Circuit::named(file, records, names)
+    }
+
+    fn named(file: &str, records: Vec<u8>, names: Vec<String>) -> Result<Circuit, Problem> {
+        let counts = ullimaqsu::check(&records).map_err(|refusal| Problem::Refused(format!("{file}: {refusal}")))?;
+        let lines = names.iter().cloned().zip(0..).collect();
+        Ok(Circuit { file: file.to_string(), records, counts, names, lines })
+    }
+
+    pub fn size(&self) -> usize {
+        self.names.len()
+    }
+
+    pub fn name(&self, line: usize) -> &str {
+        &self.names[line]
+    }
+
+    pub fn names(&self) -> &[String] {
+        &self.names
+    }
+
+    /// The line of this name.
+    pub fn line(&self, name: &str) -> Option<usize> {
+        self.lines.get(name).copied()
+    }
+
+    fn record(&self, line: usize) -> &[u8] {
+        &self.records[8 * line..8 * line + 8]
+    }
+
+    pub fn kind(&self, line: usize) -> Kind {
+        Kind::numbered(self.record(line)[0])
+    }
+
+    /// The line that a pin reads, 1 or 2.
+    pub fn source(&self, line: usize, pin: usize) -> usize {
+        let record = self.record(line);
+        usize::from(u16::from_le_bytes([record[2 * pin], record[2 * pin + 1]]))
+    }
+
+    /// The lines that its pins read, in order.
+    pub fn sources(&self, line: usize) -> Vec<usize> {
+        (1..=self.kind(line).pins()).map(|pin| self.source(line, pin)).collect()
+    }
+
+    pub fn is_output(&self, line: usize) -> bool {
+        self.record(line)[1] == 1
+    }
+
+    /// The lines that are inputs, in order.
+    pub fn inputs(&self) -> Vec<usize> {
+        (0..self.size()).filter(|&line| self.kind(line) == Kind::Input).collect()
+    }
+}
+
+/// The records of a text, and the names of their lines.
+fn read_text(text: &[u8]) -> Result<(Vec<u8>, Vec<String>), Refusal> {
+    let mut records = vec![0; LARGEST_CIRCUIT];
+    let count = ullimaqsu::bench(text, &mut records)? as usize;
+    records.truncate(8 * count);
+    let mut places = [0; MOST_LINES];
+    ullimaqsu::bench_names(text, &mut places)?;
+    Ok((records, places[..count].iter().map(|&place| name_at(text, place as usize)).collect()))
+}
+
+/// The name that begins here.
+fn name_at(text: &[u8], place: usize) -> String {
+    text[place..].iter().take_while(|byte| byte.is_ascii_alphanumeric() || **byte == b'_').map(|&byte| char::from(byte)).collect()
+}

@@ -1,0 +1,114 @@
+//! Faults, by the names of their lines.
+use crate::circuit::Circuit;
+use crate::files::{is_records, read_list};
+use crate::lines::{lines, place, words};
+use crate::nearest::offered;
+use crate::problem::{shown, Problem};
+use std::path::Path;
+use ullimaqsu::Refusal;
+
+#[derive(Clone, Copy, PartialEq, Eq, Hash, Debug)]
+pub struct Fault {
+    pub line: usize,
+    /// 0 for the line itself, or its pin, 1 or 2.
+    pub site: usize,
+    /// What it is stuck at.
+    pub value: bool,
+}
+
+impl Fault {
+    /// As the library reads it.
+    pub fn record(self) -> [u8; 8] {
+        let [low, high] = (self.line as u16).to_le_bytes();
+        [low, high, self.site as u8, u8::from(self.value), 0, 0, 0, 0]
+    }
+
+    /// The fault of a record, if the circuit has it.
+    fn of_record(record: &[u8], circuit: &Circuit) -> Option<Fault> {
+        let &[low, high, site, value @ (0 | 1), 0, 0, 0, 0] = record else { return None };
+        let fault = Fault { line: usize::from(u16::from_le_bytes([low, high])), site: usize::from(site), value: value == 1 };
+        (fault.line < circuit.size() && fault.site <= circuit.kind(fault.line).pins()).then_some(fault)
+    }
+
+    /// As a user writes it: `G9/0`, or `G9.1/0` at its first pin.
+    pub fn named(self, circuit: &Circuit) -> String {
+        let (name, value) = (circuit.name(self.line), u8::from(self.value));
+        match self.site {
+            0 => format!("{name}/{value}"),
+            pin => format!("{name}.{pin}/{value}"),
+        }
+    }
+
+    /// The fault that a word names, or what is wrong with it.
+    pub fn read(word: &str, circuit: &Circuit) -> Result<Fault, String> {
+        let (place, value) = word.rsplit_once('/').ok_or_else(|| {
+            format!("`{word}` is no fault: it is written NAME/0 or NAME/1, and at a pin of the gate NAME.1/0 or NAME.2/0")
+        })?;
+        let value = match value {
+            "0" => false,
+            "1" => true,
+            _ => return Err(format!("`{word}` is no fault: after `/` there must be 0 or 1, what the line is stuck at")),
+        };
+        let (name, pin) = place.split_once('.').map_or((place, None), |(name, pin)| (name, Some(pin)));
+        let names = || circuit.names().iter().map(String::as_str);
+        let line = circuit.line(name).ok_or_else(|| format!("there is no line `{name}`{}", offered(name, names())))?;
+        let site = pin.map_or(Ok(0), |pin| read_pin(pin, line, circuit))?;
+        Ok(Fault { line, site, value })
+    }
+
+    /// The fault that a word of the command line names.
+    pub fn given(word: &str, circuit: &Circuit) -> Result<Fault, Problem> {
+        Fault::read(word, circuit).map_err(Problem::Refused)
+    }
+}
+
+/// The number of a pin that the line's gate has.
+fn read_pin(pin: &str, line: usize, circuit: &Circuit) -> Result<usize, String> {
+    let pins = circuit.kind(line).pins();
+    match ["1", "2"].iter().position(|number| *number == pin) {
+        Some(before) if before < pins => Ok(before + 1),
+        _ => {
+            let has = ["no pins", "pin 1 alone", "pins 1 and 2"][pins];
+            Err(format!("`{}` has no pin `{pin}`: it is {} with {has}", circuit.name(line), circuit.kind(line).word()))
+        }
+    }
+}
+
+/// The faults of a file.
+pub fn load(path: &Path, circuit: &Circuit) -> Result<Vec<Fault>, Problem> {
+    let bytes = read_list(path)?;
+    let faults = if is_records(&bytes) { of_records(&bytes, circuit) } else { of_text(&bytes, circuit) };
+    match faults {
+        Ok(faults) if faults.is_empty() => Err(Problem::Refused(format!("{} has no fault", shown(path)))),
+        Ok(faults) => Ok(faults),
+        Err(says) => Err(Problem::Refused(format!("{}: {says}", shown(path)))),
+    }
+}
+
+fn of_records(bytes: &[u8], circuit: &Circuit) -> Result<Vec<Fault>, String> {
+    if bytes.len() % 8 > 0 {
+        return Err(format!("records of faults have 8 bytes each, and {} bytes are no multiple of that", bytes.len()));
+    }
+    let one = |(place, record)| Fault::of_record(record, circuit).ok_or_else(|| Refusal::new(7, place).to_string());
+    (0..).zip(bytes.chunks_exact(8)).map(one).collect()
+}
+
+fn of_text(bytes: &[u8], circuit: &Circuit) -> Result<Vec<Fault>, String> {
+    let mut faults = Vec::new();
+    for (number, line) in (1..).zip(lines(bytes)) {
+        let mut words = words(&line);
+        let Some((column, word)) = words.next() else { continue };
+        faults.push(Fault::read(word, circuit).map_err(|says| place(number, column, &says))?);
+        if let Some((column, word)) = words.next() {
+            return Err(place(number, column, &format!("a line has one fault, and here follows `{word}`")));
+        }
+    }
+    Ok(faults)
+}
+
+/// All faults of a circuit: each line stuck at 0 and at 1, and then its pins.
+pub fn all(circuit: &Circuit, pins: bool) -> Vec<Fault> {
+    let sites = |line| 0..=if pins { circuit.kind(line).pins() } else { 0 };
+    let places = (0..circuit.size()).flat_map(|line| sites(line).map(move |site| (line, site)));
+    places.flat_map(|(line, site)| [false, true].map(|value| Fault { line, site, value })).collect()
+}

@@ -1,0 +1,47 @@
+//! Files that are read.
+use crate::problem::{shown, Problem};
+use std::fs::File;
+use std::io::{self, ErrorKind, Read};
+use std::path::Path;
+
+/// The most bytes of a file of faults, of patterns or of marks.
+const MOST: usize = 16 << 20;
+
+/// The first bytes of a file, at most so many: who asks for one more than a limit sees that the file goes on.
+pub fn read(path: &Path, most: usize) -> Result<Vec<u8>, Problem> {
+    let unread = |error| unreadable(path, error);
+    let file = File::open(path).map_err(unread)?;
+    if file.metadata().map_err(unread)?.is_dir() {
+        return Err(Problem::Stopped(format!("{} is a directory", shown(path))));
+    }
+    let mut bytes = Vec::new();
+    file.take(most as u64).read_to_end(&mut bytes).map_err(unread)?;
+    Ok(bytes)
+}
+
+/// A whole list, unless it is longer than anyone's.
+pub fn read_list(path: &Path) -> Result<Vec<u8>, Problem> {
+    let bytes = read(path, MOST + 1)?;
+    if bytes.len() > MOST {
+        return Err(Problem::Stopped(format!("{} has more than {} MiB", shown(path), MOST >> 20)));
+    }
+    Ok(bytes)
+}
+
+/// Texts have no byte below 9, which is a tab; records always do.
+pub fn is_records(bytes: &[u8]) -> bool {
+    bytes.iter().any(|&byte| byte < 9)
+}
+
+fn unreadable(path: &Path, error: io::Error) -> Problem {
+    Problem::Stopped(match error.kind() {
+        ErrorKind::NotFound => format!("there is no file {}", shown(path)),
+        _ => format!("{} can't be read: {}", shown(path), why(&error)),
+    })
+}
+
+/// The reason, without the number that only this machine knows.
+fn why(error: &io::Error) -> String {
+    let reason = error.to_string();
+    reason.split(" (os error").next().unwrap_or_default().to_string()
+}

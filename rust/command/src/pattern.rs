@@ -1,0 +1,66 @@
+//! Patterns, a value for each input.
+use crate::circuit::Circuit;
+use crate::files::{is_records, read_list};
+use crate::form::count;
+use crate::lines::{is_blank, lines, place};
+use crate::problem::{shown, Problem};
+use std::path::Path;
+use ullimaqsu::Refusal;
+
+/// The letters of 0, 1 and 2.
+const LETTERS: [char; 3] = ['0', '1', 'X'];
+
+/// 0, 1, or 2 for X, one for each input in line order.
+#[derive(Clone, PartialEq, Eq, Debug)]
+pub struct Pattern(pub Vec<u8>);
+
+impl Pattern {
+    /// The pattern that is written so, or the byte of it at which something is wrong, and what.
+    pub fn read(word: &str, circuit: &Circuit) -> Result<Pattern, (usize, String)> {
+        let letters = || word.char_indices().filter(|(_, letter)| !is_blank(*letter));
+        let one = |(at, letter)| value(letter).ok_or_else(|| (at, format!("`{letter}` is none of 0, 1 and X")));
+        let values = letters().map(one).collect::<Result<Vec<u8>, _>>()?;
+        let inputs = circuit.counts.inputs as usize;
+        if values.len() != inputs {
+            // the first value too many, or where the next one would stand
+            let at = letters().nth(inputs).map_or(word.trim_end_matches(is_blank).len(), |(at, _)| at);
+            return Err((at, format!("this pattern has {}, and the circuit has {}", count(values.len(), "value"), count(inputs, "input"))));
+        }
+        Ok(Pattern(values))
+    }
+
+    pub fn letters(&self) -> String {
+        self.0.iter().map(|&value| LETTERS[usize::from(value)]).collect()
+    }
+}
+
+fn value(letter: char) -> Option<u8> {
+    (0..).zip(LETTERS).find(|(_, of)| *of == letter.to_ascii_uppercase()).map(|(value, _)| value)
+}
+
+/// The patterns of a file.
+pub fn load(path: &Path, circuit: &Circuit) -> Result<Vec<Pattern>, Problem> {
+    let bytes = read_list(path)?;
+    let patterns = if is_records(&bytes) { of_records(&bytes, circuit) } else { of_text(&bytes, circuit) };
+    match patterns {
+        Ok(patterns) if patterns.is_empty() => Err(Problem::Refused(format!("{} has no pattern", shown(path)))),
+        Ok(patterns) => Ok(patterns),
+        Err(says) => Err(Problem::Refused(format!("{}: {says}", shown(path)))),
+    }
+}
+
+fn of_records(bytes: &[u8], circuit: &Circuit) -> Result<Vec<Pattern>, String> {
+    let inputs = circuit.counts.inputs as usize;
+    if bytes.len() % inputs > 0 {
+        return Err(format!("the circuit has {}, and {} bytes are no multiple of that", count(inputs, "input"), bytes.len()));
+    }
+    if let Some(place) = bytes.iter().position(|&byte| byte > 2) {
+        return Err(Refusal::new(9, place as u64).to_string());
+    }
+    Ok(bytes.chunks_exact(inputs).map(|values| Pattern(values.to_vec())).collect())
+}
+
+fn of_text(bytes: &[u8], circuit: &Circuit) -> Result<Vec<Pattern>, String> {
+    let written = (1..).zip(lines(bytes)).filter(|(_, line)| !line.trim_matches(is_blank).is_empty());
+    written.map(|(number, line)| Pattern::read(&line, circuit).map_err(|(at, says)| place(number, at, &says))).collect()
+}
