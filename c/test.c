@@ -466,6 +466,27 @@ static void test_bench(void) {
         }
 }
 
+/* The same texts, with as many places above or below 2,048 as the buffer has bytes above or below its size, or with none. The names of c17's
+   lines: 1, 2, 3, 6, 7; 11, 19, 16, 23, 10, 22. */
+static void test_bench_names(void) {
+    static const uint32_t places_of_c17[] = {139, 148, 160, 182, 202, 106, 78, 92, 42, 119, 61};
+    static uint32_t places[2049];
+    for (size_t i = 0; i < sizeof benches / sizeof *benches; i++)
+        for (size_t len = 31; len <= 33; len++) {
+            uint8_t area[35];
+            const uint64_t numbers[4] = {benches[i].number};
+            size_t room = benches[i].circuit ? benches[i].circuit - 16384 + 2048 : 0;
+            fill((uint8_t *)places, sizeof places), fill(area, sizeof area);
+            uint32_t returned = ullimaqsu_bench_names((const uint8_t *)benches[i].text, benches[i].len, places, room, area + 1, len);
+            size_t named = returned ? 0 : sizeof places_of_c17;
+            expect(returned == (len == 32 ? benches[i].returned : ULLIMAQSU_BUFFER_SIZE), benches[i].name);
+            expect(len == 32 ? answers(area + 1, numbers) : stays(area + 1, 32), benches[i].name);
+            expect(stays(area, 1) && stays(area + 33, 2), "the bytes around the answer area stay");
+            expect(same((const uint8_t *)places, (const uint8_t *)places_of_c17, named), "the places of the names are written");
+            expect(stays((const uint8_t *)places + named, sizeof places - named), "the other places stay");
+        }
+}
+
 /* Refusal 2 is the check's, with its byte, whichever entry reads the circuit; and nothing that is lent is written. */
 static void test_handed_on(void) {
     static const uint8_t fault[8], pattern[2];
@@ -505,6 +526,7 @@ int main(void) {
     test_outcomes();
     test_clauses();
     test_bench();
+    test_bench_names();
     test_handed_on();
     printf("C test: %s\n", failures ? "FAILED" : "ok");
     return failures != 0;

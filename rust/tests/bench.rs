@@ -1,17 +1,22 @@
 //! The bench reader against the second program: answer and buffer, byte by byte; and its circuits against the texts' own equations.
+#[path = "wrong/answered.rs"]
+mod answered;
 mod harness;
 #[path = "harness/simulated.rs"]
 mod simulated;
+#[path = "harness/text_cases.rs"]
+mod text_cases;
 #[path = "wrong/bench.rs"]
 mod wrong;
 
-use cases::{damage, drawn, texts, Random};
-use harness::{compare, first_defect_is_told, wrong_programs_are_seen, Bench, Case, Defect};
+use cases::Random;
+use harness::{wrong_programs_are_seen, Bench, Case};
 use second::bench::{placed, Placed, Text};
 use second::entries::{self, Seen};
 use second::values::byte;
 use second::Value;
 use simulated::simulated;
+use text_cases::TextCase;
 use ullimaqsu::{Counts, LARGEST_CIRCUIT};
 
 impl Case for Bench {
@@ -20,114 +25,50 @@ impl Case for Bench {
     }
 }
 
-/// Lends a buffer and an area that are full of junk, of the right sizes.
-fn lend(random: &mut Random, text: Vec<u8>) -> Bench {
-    Bench { text, circuit: vec![random.byte(); LARGEST_CIRCUIT], answer: random.junk(32) }
-}
+impl TextCase for Bench {
+    type Element = u8;
+    const NAME: &'static str = "bench";
 
-/// The texts, each with a buffer and an area; now and then one of them has another size.
-fn with_buffers(texts: impl Iterator<Item = Vec<u8>>) -> impl Iterator<Item = Bench> {
-    let mut random = Random::new(0);
-    texts.map(move |text| {
-        let mut case = lend(&mut random, text);
-        match random.below(20) {
-            0 => case.answer.resize(random.pick(&[0, 31, 33, 64]), 7),
-            1 => case.circuit.resize(damage::size(&mut random, LARGEST_CIRCUIT), 7),
-            2..=6 => case.circuit.truncate(random.below(40)), // most refusals come before the size is looked at
-            _ => (),
-        }
-        case
-    })
-}
-
-/// Every form that a line has, names of 1 and 16 letters, keywords as names, blanks, CR LF, comments, and no final line feed.
-const FORMS: &[u8] =
-    b"INPUT(a)\r\n# OUTPUT(a)\n\tINPUT ( INPUT )\nOUTPUT(OUTPUT)#c\n\ny=BUFF(a)\nx = NOT ( y ) \nabcdefghijklmnop=AND(x,y)\n\
-    n0=NAND(a,n1)\nn1=OR(INPUT,a)\nn2=NOR(n0,abcdefghijklmnop)\nOUTPUT = XOR(n2, n1)\nz\t=\rXNOR(OUTPUT,OUTPUT)\nOUTPUT(z)\nOUTPUT(z)";
-
-/// Damage at every byte of a text: other bytes of every sort in its place, none at all, and the end there.
-fn every_byte(text: &'static [u8]) -> impl Iterator<Item = Vec<u8>> {
-    let parts = (0..text.len()).map(|place| (&text[..place], &text[place + 1..]));
-    parts.flat_map(|(before, behind)| {
-        let changed = texts::BYTES.iter().map(move |&byte| [before, &[byte], behind].concat());
-        changed.chain([[before, behind].concat(), before.to_vec()])
-    })
-}
-
-/// The sizes at which something changes: of the text, of the circuit, of its inputs and outputs.
-fn boundaries() -> Vec<Vec<u8>> {
-    let mut random = Random::new(3);
-    let mut all = vec![vec![], b"OUTPUT(a)\nINPUT(a)".to_vec(), texts::crossed(1), texts::crossed(1023), texts::crossed(1400)];
-    for lines in [1, 2, 3, 63, 64, 65, 66, 2047, 2048, 2049, 2100] {
-        all.extend([false, true].map(|backwards| texts::chain(lines, backwards)));
-        for inputs in [1, 2, 63, 64, 65, 66].into_iter().filter(|&inputs| inputs <= lines) {
-            let full = texts::largest(&mut random, lines, inputs);
-            let without_outputs = full.split_inclusive(|&byte| byte == b'\n').filter(|line| !line.starts_with(b"OUTPUT")).flatten();
-            all.push(without_outputs.copied().collect());
-            all.push([&full[..], b"#"].concat());
-            all.push([&full[..full.len() - 1], b"\n"].concat());
-            all.push(full);
-        }
+    fn lend(random: &mut Random, text: Vec<u8>) -> Bench {
+        Bench { text, circuit: vec![random.byte(); LARGEST_CIRCUIT], answer: random.junk(32) }
     }
-    for len in [texts::MOST - 1, texts::MOST, texts::MOST + 1, 2 * texts::MOST] {
-        for (before, filler) in
-            [(&b"INPUT(a)\nOUTPUT(a)"[..], b' '), (b"INPUT(a)\nOUTPUT(a)#", b'('), (b"INPUT(a)\nOUTPUT(a", b'\t'), (b"", b'\n')]
-        {
-            let mut text = before.to_vec();
-            text.resize(len, filler);
-            all.push(text);
-        }
+
+    fn text(&mut self) -> &mut Vec<u8> {
+        &mut self.text
     }
-    all
+
+    fn buffer(&mut self) -> &mut Vec<u8> {
+        &mut self.circuit
+    }
+
+    fn answer(&mut self) -> &mut Vec<u8> {
+        &mut self.answer
+    }
 }
 
 #[test]
 fn sound_texts() {
-    assert_eq!(compare("bench, sound", with_buffers(drawn(1, 10_000, texts::small))).seen(), [0, 10]);
+    text_cases::compare_sound::<Bench>();
 }
 
 #[test]
 fn damaged_texts() {
-    assert_eq!(compare("bench, damaged", with_buffers(drawn(2, 30_000, texts::damaged))).seen(), [0, 1, 5, 10, 14, 15]);
-    assert_eq!(compare("bench, other names", with_buffers(drawn(4, 10_000, texts::misnamed))).seen(), [0, 1, 5, 10, 15, 16]);
-    assert_eq!(compare("bench, cycles", with_buffers(drawn(5, 1_000, texts::cyclic))).seen(), [10, 16]);
-    assert_eq!(compare("bench, in no order", with_buffers(drawn(6, 20_000, texts::soup))).seen(), [1, 5, 10, 14, 15]);
+    text_cases::compare_damaged::<Bench>();
 }
 
 #[test]
 fn every_byte_and_all_boundaries() {
-    assert_eq!(compare("bench, every byte", with_buffers(every_byte(FORMS))).seen(), [0, 1, 5, 10, 14, 15, 16]);
-    assert_eq!(compare("bench, boundaries", with_buffers(boundaries().into_iter())).seen(), [0, 1, 4, 5, 10, 14]);
-    assert_eq!(compare("bench, near the last byte", with_buffers(drawn(7, 300, texts::near_the_end))).seen(), [0, 10, 14]);
+    text_cases::compare_every_byte_and_all_boundaries::<Bench>();
 }
-
-/// What can be wrong, in the order in which it is looked for.
-const DEFECTS: [Defect<Bench>; 8] = [
-    (10, |case| case.answer.push(0)),
-    (14, |case| case.text.push(b'(')),
-    (15, |case| case.text.extend(b"OUTPUT(nobody)\n")),
-    (16, |case| case.text.extend(b"again = NOT(again)\n")),
-    (1, |case| (0..2048).for_each(|line| case.text.extend(format!("g{line}=NOT(a)\n").bytes()))),
-    (4, |case| (0..64).for_each(|line| case.text.extend(format!("INPUT(i{line})\n").bytes()))),
-    (5, |case| case.text[..9].copy_from_slice(b"g=BUFF(a)")),
-    (10, |case| case.circuit.push(0)),
-];
 
 #[test]
 fn two_defects_at_once() {
-    first_defect_is_told(&lend(&mut Random::new(8), b"OUTPUT(y)\nINPUT(a)\ny = NOT(a)\n".to_vec()), &DEFECTS);
+    text_cases::compare_two_defects_at_once::<Bench>();
 }
 
 #[test]
 fn wrong_programs() {
-    let drawn = drawn(9, 1_500, texts::small)
-        .chain(drawn(10, 1_500, texts::misnamed))
-        .chain(drawn(11, 1_500, texts::damaged))
-        .chain(drawn(12, 200, texts::cyclic));
-    let random = &mut Random::new(13);
-    let large = [texts::largest(random, 2049, 65), [&texts::largest(random, 2048, 64)[..], b"#"].concat()];
-    let cases: Vec<_> = with_buffers(drawn.chain(every_byte(FORMS).step_by(3)).chain(large)).collect();
-    wrong_programs_are_seen(&cases, wrong::PROGRAMS);
+    wrong_programs_are_seen(&text_cases::some_of_each_sort(), wrong::PROGRAMS);
 }
 
 /// What is read is accepted by the check, and computes what the text defines: under any pattern each name's line has the value that the
@@ -135,8 +76,7 @@ fn wrong_programs() {
 #[test]
 fn circuits_compute_what_texts_define() {
     let mut random = Random::new(14);
-    let large = [texts::chain(2048, true), texts::largest(&mut random, 2048, 64)];
-    for text in drawn(15, 500, texts::small).chain(large) {
+    for text in text_cases::sound_texts(15, 500) {
         let read = Text::read(&text).expect("right in syntax");
         let Placed { line_of, .. } = placed(&text).expect("sound");
         let mut circuit = [9; LARGEST_CIRCUIT];

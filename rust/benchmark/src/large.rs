@@ -55,7 +55,7 @@ fn chain_of_xors() -> Files {
 }
 
 pub fn rows() -> impl Iterator<Item = Row> {
-    let rows: [fn() -> Row; 18] = [
+    let rows: [fn() -> Row; 20] = [
         || parts::check("check: 2,048 lines", &files()),
         || parts::dictionary::<Branches>("dictionary: 2,048 lines, 256 faults, 256 patterns", &files()),
         || parts::dictionary::<Table>("the same beside Rust that looks gates up too", &files()),
@@ -77,6 +77,8 @@ pub fn rows() -> impl Iterator<Item = Row> {
         || parts::bench("bench: a chain of 2,048 lines, backwards", &texts::chain(2048, true)),
         // every gate in the first half reads one in the second, so that the cursor goes back and forth
         || parts::bench("bench: 1,023 pairs of gates, half a text apart", &texts::crossed(1023)),
+        || parts::bench_names("bench_names: 32,768 bytes, 2,048 lines", &texts::largest(&mut Random::new(6), 2048, 64)),
+        || parts::bench_names("bench_names: a chain of 2,048 lines, backwards", &texts::chain(2048, true)),
     ];
     rows.into_iter().map(|row| row())
 }

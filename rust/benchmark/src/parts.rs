@@ -247,3 +247,16 @@ pub fn bench(name: &str, text: &[u8]) -> Row {
     assert_eq!(proved, plain);
     row
 }
+
+/// The names of a text's lines.
+pub fn bench_names(name: &str, text: &[u8]) -> Row {
+    let mut proved = (vec![0; 2_048], [0; 32]);
+    let mut plain = proved.clone();
+    let row = race(
+        name,
+        || enter(Call::BenchNames { text: black_box(text), places: &mut proved.0, answer: &mut proved.1 }),
+        || baseline::bench::enter_names(black_box(text), &mut plain.0, &mut plain.1),
+    );
+    assert_eq!(proved, plain);
+    row
+}

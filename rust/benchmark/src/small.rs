@@ -22,7 +22,7 @@ type Part = fn(&str, &Files, &[u8]) -> Row;
 
 pub fn rows() -> impl Iterator<Item = Row> {
     let examples = [("example A", files("a"), A.to_vec()), ("c17", files("c17"), example("bench/c17.bench"))];
-    let parts: [Part; 8] = [
+    let parts: [Part; 9] = [
         |name, files, _| parts::check(&format!("check: {name}"), files),
         |name, files, _| parts::dictionary::<Branches>(&format!("dictionary: {name}"), files),
         |name, files, _| parts::compact(&format!("compactor: {name}"), files.fault_count(), &parts::table(files)),
@@ -34,6 +34,7 @@ pub fn rows() -> impl Iterator<Item = Row> {
         |name, files, _| parts::search_all::<Branches>(&format!("search_all: {name}"), files, u64::MAX),
         |name, files, _| parts::clauses(&format!("clauses: {name}"), files),
         |name, _, text| parts::bench(&format!("bench: {name}"), text),
+        |name, _, text| parts::bench_names(&format!("bench_names: {name}"), text),
     ];
     parts.into_iter().flat_map(move |part| examples.each_ref().map(|(name, files, text)| part(name, files, text)))
 }

@@ -1,4 +1,46 @@
-//! stub
-pub fn explain(_text: &[u8], refusal: &ullimaqsu::Refusal) -> String {
-    refusal.to_string()
+//! What a refusal of a bench text means, with line and column.
+//!
+//! Nothing is judged anew: the text is read once more for words about the place that the library gave. Where that reading saw another place, the
+//! refusal's own words would stand; the tests know no such text.
+mod cycle;
+mod name;
+
+use crate::notation::{at_place, Spelling, Text};
+use ullimaqsu::{refusals, Refusal};
+
+/// The most bytes of a text.
+pub const MOST_BYTES: usize = 32_768;
+
+const SYNTAX: u32 = 14;
+const NAME: u32 = 15;
+const CYCLE: u32 = 16;
+
+pub fn explain(text: &[u8], refusal: &Refusal) -> String {
+    if refusal.number == SYNTAX && refusal.place == MOST_BYTES as u64 && text.len() > MOST_BYTES {
+        return at_place(text, MOST_BYTES, "a text has at most 32,768 bytes, and this one goes on");
+    }
+    match Text::read(text, Spelling::Strict) {
+        Ok(read) => explain_statements(&read, refusal),
+        Err(stuck) if refusal.number == SYNTAX && refusal.place == stuck.at as u64 => at_place(text, stuck.at, &stuck.says),
+        Err(_) => refusal.to_string(),
+    }
+}
+
+/// The same for a text whose syntax is right.
+pub fn explain_statements(text: &Text, refusal: &Refusal) -> String {
+    let place = usize::try_from(refusal.place).unwrap_or(usize::MAX);
+    let says = match refusal.number {
+        NAME => name::explain(text, place),
+        CYCLE => cycle::explain(text, place),
+        _ => records(text, refusal.number),
+    };
+    says.unwrap_or_else(|| refusal.to_string())
+}
+
+/// Refusals 1, 4 and 5 on the records: the header's words, and how many inputs and gates there are.
+fn records(text: &Text, number: u32) -> Option<String> {
+    let meaning = refusals().find(|meaning| meaning.number == number && meaning.counts.is_none())?;
+    let gates = text.gates().count();
+    let inputs = text.definitions().count() - gates;
+    Some(format!("{} (inputs in the text: {inputs}, gates: {gates})", meaning.says))
 }

@@ -1,7 +1,7 @@
 //! Faults, by the names of their lines.
 use crate::circuit::Circuit;
 use crate::files::{is_records, read_list};
-use crate::lines::{place, words};
+use crate::lines::{lines, place, words};
 use crate::nearest::offered;
 use crate::problem::{shown, Problem};
 use std::path::Path;
@@ -55,6 +55,11 @@ impl Fault {
         let site = pin.map_or(Ok(0), |pin| read_pin(pin, line, circuit))?;
         Ok(Fault { line, site, value })
     }
+
+    /// The fault that a word of the command line names.
+    pub fn given(word: &str, circuit: &Circuit) -> Result<Fault, Problem> {
+        Fault::read(word, circuit).map_err(Problem::Refused)
+    }
 }
 
 /// The number of a pin that the line's gate has.
@@ -90,7 +95,7 @@ fn of_records(bytes: &[u8], circuit: &Circuit) -> Result<Vec<Fault>, String> {
 
 fn of_text(bytes: &[u8], circuit: &Circuit) -> Result<Vec<Fault>, String> {
     let mut faults = Vec::new();
-    for (number, line) in (1..).zip(crate::lines::lines(bytes)) {
+    for (number, line) in (1..).zip(lines(bytes)) {
         let mut words = words(&line);
         let Some((column, word)) = words.next() else { continue };
         faults.push(Fault::read(word, circuit).map_err(|says| place(number, column, &says))?);

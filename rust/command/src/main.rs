@@ -2,18 +2,25 @@
 //!
 //! A command reads its files, calls the library and prints. All that is answered of a circuit is the library's answer; what is made here is
 //! words, tables and pictures of it.
+mod bar;
 mod circuit;
 mod collapse;
+mod columns;
 mod commands;
 mod drawing;
 mod explain;
 mod fault;
 mod files;
+mod form;
 mod help;
 mod kind;
 mod levels;
 mod lines;
+mod listed;
+mod marks;
+mod narrow;
 mod nearest;
+mod notation;
 mod out;
 mod pattern;
 mod problem;

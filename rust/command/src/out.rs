@@ -10,7 +10,12 @@ impl Out {
     }
 
     pub fn print(&mut self, text: &str) -> Result<(), Problem> {
-        self.0.write_all(text.as_bytes()).map_err(unwritten)
+        self.print_bytes(text.as_bytes())
+    }
+
+    /// What need not be text.
+    pub fn print_bytes(&mut self, bytes: &[u8]) -> Result<(), Problem> {
+        self.0.write_all(bytes).map_err(unwritten)
     }
 
     pub fn flush(&mut self) -> Result<(), Problem> {

@@ -1,6 +1,7 @@
 //! Patterns, a value for each input.
 use crate::circuit::Circuit;
 use crate::files::{is_records, read_list};
+use crate::form::count;
 use crate::lines::{is_blank, lines, place};
 use crate::problem::{shown, Problem};
 use std::path::Path;
@@ -35,11 +36,6 @@ impl Pattern {
 
 fn value(letter: char) -> Option<u8> {
     (0..).zip(LETTERS).find(|(_, of)| *of == letter.to_ascii_uppercase()).map(|(value, _)| value)
-}
-
-/// "1 value", "2 values".
-pub fn count(number: usize, of: &str) -> String {
-    format!("{number} {of}{}", if number == 1 { "" } else { "s" })
 }
 
 /// The patterns of a file.

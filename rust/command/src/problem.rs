@@ -11,6 +11,8 @@ pub enum Problem {
     Refused(String),
     /// Nothing was run, or something can't be read or written: status 2.
     Stopped(String),
+    /// The answer is printed, and it is that something is not as it should be: status 1, and nothing more is said.
+    Printed,
     /// Whoever read what is printed has gone: nothing is said.
     Unheard,
 }
@@ -18,7 +20,7 @@ pub enum Problem {
 impl Problem {
     pub fn code(&self) -> ExitCode {
         match self {
-            Problem::Refused(_) => ExitCode::from(1),
+            Problem::Refused(_) | Problem::Printed => ExitCode::from(1),
             Problem::Stopped(_) => ExitCode::from(2),
             Problem::Unheard => ExitCode::from(CLOSED_PIPE),
         }

@@ -1,1 +1,45 @@
-//! stub
+//! The dictionary of any number of faults and patterns, by pieces that the library takes: no entry depends on another.
+use crate::circuit::Circuit;
+use crate::fault::Fault;
+use crate::pattern::Pattern;
+
+/// The most faults and the most patterns of a call.
+pub const MOST: usize = 256;
+
+/// The most letters that are held at once.
+const MOST_LETTERS: usize = 64 << 20;
+
+/// The letter of an entry.
+pub fn letter(entry: u8) -> char {
+    match entry {
+        0 => 'P',
+        1 => 'F',
+        _ => 'U',
+    }
+}
+
+/// The library's table of at most 256 faults and 256 patterns: a row for each pattern, and in it an entry for each fault.
+pub fn entries(circuit: &Circuit, faults: &[Fault], patterns: &[Pattern]) -> Vec<u8> {
+    let records: Vec<u8> = faults.iter().flat_map(|fault| fault.record()).collect();
+    let values: Vec<u8> = patterns.iter().flat_map(|pattern| pattern.0.iter().copied()).collect();
+    let (mut table, mut work) = (vec![0; faults.len() * patterns.len()], vec![0; 4 * circuit.size()]);
+    ullimaqsu::dictionary_lanes(&circuit.records, &records, &values, &mut table, &mut work)
+        .expect("a circuit, faults and patterns that were read, and memory of its exact size, are never refused");
+    table
+}
+
+/// The faults in pieces, each as large as can be held with all its letters.
+pub fn pieces<'a>(faults: &'a [Fault], patterns: &[Pattern]) -> impl Iterator<Item = &'a [Fault]> {
+    faults.chunks((MOST_LETTERS / patterns.len().max(1)).clamp(1, MOST))
+}
+
+/// For each fault of a piece its letters, one for each pattern.
+pub fn rows(circuit: &Circuit, piece: &[Fault], patterns: &[Pattern]) -> Vec<String> {
+    let mut rows = vec![String::with_capacity(patterns.len()); piece.len()];
+    for some in patterns.chunks(MOST) {
+        for entries in entries(circuit, piece, some).chunks_exact(piece.len()) {
+            rows.iter_mut().zip(entries).for_each(|(row, &entry)| row.push(letter(entry)));
+        }
+    }
+    rows
+}

@@ -96,3 +96,11 @@ pub fn bench(text: &[u8], circuit: &[u8], answer: &[u8]) -> Seen {
     });
     seen(answer, vec![circuit.to_vec().into()], read)
 }
+
+pub fn bench_names(text: &[u8], places: &[u32], answer: &[u8]) -> Seen {
+    let named = crate::bench_names(text, places.len()).map(|names| {
+        let rest = &places[names.len()..];
+        (vec![names.len() as u64], vec![[&names[..], rest].concat().into()])
+    });
+    seen(answer, vec![places.to_vec().into()], named)
+}

@@ -22,7 +22,7 @@ pub mod slice;
 pub mod values;
 
 pub use audit::{audit, Finding};
-pub use bench::bench;
+pub use bench::{bench, bench_names};
 pub use circuit::{check, Circuit, Counts};
 pub use clauses::{clauses, Written};
 pub use compact::compact;

@@ -1,6 +1,6 @@
 //! The second program's bench reader on cases worked by hand: request #101 and each of its readings.
 use cases::circuits::{record, AND, BUFFER, INPUT, NAND, NOR, NOT, OR, XNOR, XOR};
-use second::bench::{bench, Placed, Text};
+use second::bench::{bench, bench_names, Placed, Text};
 use second::{Refusal, Value};
 
 const ROOM: usize = 16_384;
@@ -267,12 +267,36 @@ fn records_and_buffer() {
     }
 }
 
+/// The first byte of each line's name where it is defined, in the order of the lines.
+#[test]
+fn names() {
+    for (text, places) in [
+        ("INPUT(a)\nOUTPUT(a)", &[6][..]),
+        ("OUTPUT(a)\nINPUT(a)", &[16]),
+        (SMALL, &[6, 15, 28]),
+        ("y=NAND(a,b)#INPUT(b)\r\nOUTPUT(y)\r\n \tINPUT ( a )\r\nINPUT\t(\r b)", &[43, 57, 0]), // comments, CR LF and blanks
+        ("a1=NOT(a)\n  a\t= NOT(aa)\nOUTPUT(a)\nINPUT(aa)", &[40, 12, 0]), // names in names, and before their definitions
+        ("c=NOT(b)\nINPUT(z)\nb=NOT(a)\nOUTPUT(c)\nINPUT(a)\nd=NOT(a)\ne=AND(d,c)", &[15, 43, 18, 0, 46, 55]), // z, a; b, c, d, e
+        ("INPUT(INPUT)\nOUTPUT(OUTPUT)\nOUTPUT = NOT(NAND)\nNAND = NAND(INPUT, AND)\nAND = BUFF(INPUT)", &[6, 71, 47, 28]), // keywords
+    ] {
+        assert_eq!(bench_names(text.as_bytes(), 2_048), Ok(places.to_vec()), "{text:?}");
+    }
+    for room in [0, 3, 2_047, 2_049, 16_384] {
+        for (text, number, place) in
+            [(SMALL, 10, 0), ("INPUT(a)(", 14, 8), ("OUTPUT(a)", 15, 7), ("a=NOT(a)", 16, 0), ("", 1, 0), ("INPUT(a)", 5, 0)]
+        {
+            assert_eq!(bench_names(text.as_bytes(), room), Err(Refusal { number, place }), "{text:?}");
+        }
+        assert_eq!(bench_names(inputs(65).as_bytes(), room), Err(Refusal { number: 4, place: 0 }));
+    }
+}
+
 /// Values straight from the equations, by name, and those of the lines.
 #[test]
 fn values() {
     let text = "s = XOR(a, b)\nc = AND(a, b)\nINPUT(a)\nINPUT(b)\nOUTPUT(c)\nOUTPUT(s)\nn = NOR(s, c)";
     let read = Text::read(text.as_bytes()).expect("right in syntax");
-    let Placed { circuit, line_of } = read.place().expect("no cycle");
+    let Placed { circuit, line_of, .. } = read.place().expect("no cycle");
     let (no, yes, x): (Value, Value, Value) = (Some(false), Some(true), None);
     for (a, b, sum, carry, none) in
         [(no, no, no, no, yes), (yes, no, yes, no, no), (yes, yes, no, yes, no), (no, x, x, no, x), (x, x, x, x, x)]

@@ -93,7 +93,7 @@ fn circuits_compute_what_texts_define() {
     let mut random = Random::new(15);
     for text in drawn(16, 2_000, texts::small) {
         let read = Text::read(&text).expect("right in syntax");
-        let Placed { circuit, line_of } = placed(&text).expect("sound");
+        let Placed { circuit, line_of, .. } = placed(&text).expect("sound");
         let outputs: Vec<usize> = read.outputs.iter().map(|word| line_of[word.name]).collect();
         assert!((0..circuit.lines.len()).all(|line| circuit.lines[line].output == outputs.contains(&line)));
         for _ in 0..5 {

@@ -1,17 +1,9 @@
 //! Bench readers that are wrong in one way each.
-use super::{Bench, Case};
+use super::answered::{number, refuse, set_number, then};
+use super::Bench;
 use second::bench::{ByName, Text, Word};
 use second::circuit::{Circuit, Gate, Line};
 use second::entries::{self, Seen};
-
-/// What the second program says, changed where it says this number.
-fn then(case: &Bench, number: u32, change: impl Fn(&mut Seen)) -> Seen {
-    let mut seen = case.second();
-    if seen.returned == number && case.answer.len() == 32 {
-        change(&mut seen);
-    }
-    seen
-}
 
 /// What the second program says of another text.
 fn of_text(case: &Bench, text: Vec<u8>) -> Seen {
@@ -21,19 +13,6 @@ fn of_text(case: &Bench, text: Vec<u8>) -> Seen {
 /// The second program with some bytes taken for others.
 fn with_bytes(case: &Bench, byte: fn(u8) -> u8) -> Seen {
     of_text(case, case.text.iter().map(|&old| byte(old)).collect())
-}
-
-fn number(seen: &Seen) -> usize {
-    u64::from_le_bytes(seen.answer[..8].try_into().expect("eight bytes")) as usize
-}
-
-fn set_number(seen: &mut Seen, number: usize) {
-    seen.answer[..8].copy_from_slice(&(number as u64).to_le_bytes());
-}
-
-fn refuse(seen: &mut Seen, number: u32, place: usize) {
-    seen.returned = number;
-    set_number(seen, place);
 }
 
 /// Places always the gate that is picked of those that are ready, in the text's order.

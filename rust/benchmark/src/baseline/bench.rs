@@ -1,5 +1,5 @@
-//! The bench reader: words are cut in one pass, a table of hashes finds the names, and gates are placed by a cursor that goes back to the
-//! first reader of the gate it placed.
+//! The bench reader, and the names of its lines: words are cut in one pass, a table of hashes finds the names, and gates are placed by a
+//! cursor that goes back to the first reader of the gate it placed.
 mod syntax;
 
 use super::check::check;
@@ -10,6 +10,9 @@ const WORDS: usize = 16_385;
 const LINES: usize = 32_769;
 const STATEMENTS: usize = 8_193;
 const HEADS: usize = 8_192;
+
+/// Why a text is refused: the number, and the place.
+type Refused = (u32, usize);
 
 /// Names by their first bytes, of which the first `len` count.
 struct List {
@@ -176,7 +179,7 @@ impl Names<'_> {
 }
 
 /// The gates in their order, or the first that can't be placed.
-fn place(firsts: &[u16], seconds: &[u16], order: &mut [u16]) -> Result<(), (u32, usize)> {
+fn place(firsts: &[u16], seconds: &[u16], order: &mut [u16]) -> Result<(), Refused> {
     let gates = firsts.len();
     let (mut reader, mut placed) = ([u16::MAX; STATEMENTS], [false; STATEMENTS]);
     for gate in (0..gates).rev() {
@@ -223,7 +226,25 @@ fn records(inputs: usize, all: &Statements, order: &[u16], records: &mut [u8]) {
     }
 }
 
-fn bench(text: &[u8], circuit: &mut [u8]) -> Result<[u64; 3], (u32, usize)> {
+/// The first byte of each line's name where it is defined: the inputs as they stand, the gates in their order.
+fn names(all: &Statements, order: &[u16], places: &mut [u32]) {
+    let (inputs, gates) = places.split_at_mut(all.defined.len - order.len());
+    let mut defined = [0; STATEMENTS];
+    let (mut gate, mut input) = (0, 0);
+    for (&at, &is_gate) in all.defined.items().iter().zip(&all.gates) {
+        if is_gate {
+            defined[gate] = at;
+            gate += 1;
+        } else {
+            inputs[input] = at.into();
+            input += 1;
+        }
+    }
+    gates.iter_mut().zip(order).for_each(|(place, &gate)| *place = defined[gate as usize].into());
+}
+
+/// Reads a text, and hands on its statements, the order of its gates and its records. The number of records.
+fn read(text: &[u8], then: impl FnOnce(&Statements, &[u16], &[u8]) -> Result<(), Refused>) -> Result<usize, Refused> {
     syntax::check(text)?;
     let (mut words, mut ends) = ([0; WORDS], [0; LINES]);
     let lines = cut(text, &mut words, &mut ends);
@@ -258,18 +279,37 @@ fn bench(text: &[u8], circuit: &mut [u8]) -> Result<[u64; 3], (u32, usize)> {
     let made = &mut made[..8 * n];
     records(n - gates, &all, &order[..gates], made);
     check(made)?;
-    if circuit.len() != 16_384 {
-        return Err((10, 0));
+    then(&all, &order[..gates], made)?;
+    Ok(n)
+}
+
+fn answered(read: Result<usize, Refused>, answer: &mut [u8; 32]) -> u32 {
+    match read {
+        Ok(records) => report(0, [records as u64, 0, 0], answer),
+        Err((number, place)) => report(number, [place as u64, 0, 0], answer),
     }
-    circuit[..8 * n].copy_from_slice(made);
-    Ok([n as u64, 0, 0])
 }
 
 pub fn enter(text: &[u8], circuit: &mut [u8], answer: &mut [u8; 32]) -> u32 {
-    match bench(text, circuit) {
-        Ok(numbers) => report(0, numbers, answer),
-        Err((number, place)) => report(number, [place as u64, 0, 0], answer),
-    }
+    let read = read(text, |_, _, records| {
+        if circuit.len() != 16_384 {
+            return Err((10, 0));
+        }
+        circuit[..records.len()].copy_from_slice(records);
+        Ok(())
+    });
+    answered(read, answer)
+}
+
+pub fn enter_names(text: &[u8], places: &mut [u32], answer: &mut [u8; 32]) -> u32 {
+    let read = read(text, |all, order, _| {
+        if places.len() != 2_048 {
+            return Err((10, 0));
+        }
+        names(all, order, places);
+        Ok(())
+    });
+    answered(read, answer)
 }
 
 #[cfg(test)]
@@ -285,7 +325,14 @@ mod tests {
         Seen { returned, answer: answer.to_vec(), lent: vec![circuit.into()] }
     }
 
-    /// It is the same reader as the second program's.
+    /// The same of the names, with so many places.
+    fn seen_names(text: &[u8], room: usize) -> Seen {
+        let (mut places, mut answer) = (vec![7; room], [7; 32]);
+        let returned = enter_names(text, &mut places, &mut answer);
+        Seen { returned, answer: answer.to_vec(), lent: vec![places.into()] }
+    }
+
+    /// They are the same reader and the same names as the second program's.
     #[test]
     fn answers_as_the_second_program_does() {
         let small = drawn(1, 3_000, texts::small).chain(drawn(2, 10_000, texts::damaged)).chain(drawn(3, 5_000, texts::misnamed));
@@ -294,8 +341,10 @@ mod tests {
         let sizes = [(2048, 64), (2048, 65), (2049, 64), (2200, 1)];
         let largest = sizes.into_iter().map(|(lines, inputs)| texts::largest(&mut Random::new(7), lines, inputs));
         for (number, text) in small.chain(others).chain(chains).chain(largest).chain([texts::crossed(1023)]).enumerate() {
-            let room = if number % 10 == 0 { 16_383 } else { 16_384 };
+            let missing = usize::from(number % 10 == 0);
+            let (room, places) = (16_384 - missing, 2_048 - missing);
             assert_eq!(seen(&text, room), entries::bench(&text, &vec![7; room], &[7; 32]), "{text:?}");
+            assert_eq!(seen_names(&text, places), entries::bench_names(&text, &vec![7; places], &[7; 32]), "{text:?}");
         }
     }
 }

@@ -1,13 +1,71 @@
-//! stub
+//! `bench`: the records of a text in the bench notation.
 use super::Command;
+use crate::explain::{explain, MOST_BYTES};
+use crate::files;
+use crate::out::Out;
+use crate::problem::{shown, Problem};
+use crate::replace::{Place, Source};
+use crate::words::Words;
+use std::path::{Path, PathBuf};
+use ullimaqsu::{bench, check, Counts, Refusal, LARGEST_CIRCUIT};
+
 pub const COMMAND: Command = Command {
     name: "bench",
-    usage: "CIRCUIT",
-    wants: "CIRCUIT",
-    counts: 1..=1,
+    usage: "FILE [OUT]",
+    wants: "a file, and perhaps where to write",
+    counts: 1..=2,
     choices: &[],
-    says: "stub",
-    more: "",
-    example: "",
-    run: |_, _| Ok(()),
+    says: "reads a circuit in the bench notation and writes its records",
+    more: "The records go to circuit.rec beside FILE, or to OUT. It says how many lines, inputs and outputs the circuit has; or `refused`, number and place, \
+           and what is wrong at which line and column of FILE.\n\n\
+           OUT is replaced as a whole when all has gone well, the report included, and else stays. It is new or a regular file that is not \
+           write-protected, or a link to one. Gates of three and more sources are refused; narrow rewrites them.",
+    example: "ullimaqsu bench examples/bench/adder16.bench /tmp/adder16.rec",
+    run,
 };
+
+fn run(words: &Words, out: &mut Out) -> Result<(), Problem> {
+    let file = words.at(0);
+    need_text(file)?;
+    let path = words.path(1).map_or_else(|| beside(file), |path| Ok(path.to_path_buf()))?;
+    let place = Place::find(&path, &[Source { path: file, called: "the text itself" }])?;
+    let text = files::read(file, MOST_BYTES + 1)?;
+    match records(&text) {
+        Ok((records, counts)) => {
+            let new = place.write(&records)?;
+            out.print(&format!("lines {}, inputs {}, outputs {}\n", counts.lines, counts.inputs, counts.outputs))?;
+            // a report that can't be printed is a failure too
+            out.flush()?;
+            new.take_place()
+        }
+        Err(refusal) => {
+            out.print(&format!("refused {} {}\n", refusal.number, refusal.place))?;
+            out.flush()?;
+            Err(Problem::Refused(format!("{}: {}", shown(file), explain(&text, &refusal))))
+        }
+    }
+}
+
+/// What is missing, or is a directory, is told before anything is said of where to write. A pipe is opened only once.
+fn need_text(file: &Path) -> Result<(), Problem> {
+    match file.metadata() {
+        Ok(of) if !of.is_dir() => Ok(()),
+        _ => files::read(file, 0).map(|_| ()),
+    }
+}
+
+/// Where the records go if nothing else is said.
+fn beside(file: &Path) -> Result<PathBuf, Problem> {
+    if file.is_file() {
+        return Ok(file.with_file_name("circuit.rec"));
+    }
+    Err(Problem::Stopped(format!("{} is no regular file: say where its records go", shown(file))))
+}
+
+fn records(text: &[u8]) -> Result<(Vec<u8>, Counts), Refusal> {
+    let mut records = vec![0; LARGEST_CIRCUIT];
+    let count = bench(text, &mut records)?;
+    records.truncate(8 * count as usize);
+    let counts = check(&records)?;
+    Ok((records, counts))
+}

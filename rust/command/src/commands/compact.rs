@@ -1,13 +1,80 @@
-//! stub
+//! Which patterns can be dropped.
 use super::Command;
+use crate::form::{count, csv_row, list, quoted, Form, CSV, JSON};
+use crate::listed::Listed;
+use crate::marks::letter;
+use crate::out::Out;
+use crate::pattern::Pattern;
+use crate::problem::Problem;
+use crate::replace::replace;
+use crate::words::{Choice, Words};
+use std::path::Path;
+
 pub const COMMAND: Command = Command {
     name: "compact",
-    usage: "CIRCUIT",
-    wants: "CIRCUIT",
-    counts: 1..=1,
-    choices: &[],
-    says: "stub",
-    more: "",
-    example: "",
-    run: |_, _| Ok(()),
+    usage: "CIRCUIT FAULTS PATTERNS [-o FILE] [--marks FILE] [--csv | --json]",
+    wants: "a circuit, a file of faults and one of patterns",
+    counts: 3..=3,
+    choices: &[
+        Choice { name: "-o", value: Some("FILE"), says: "writes the kept patterns to FILE" },
+        Choice { name: "--marks", value: Some("FILE"), says: "writes the letters K and D to FILE, for audit" },
+        CSV,
+        JSON,
+    ],
+    says: "drops patterns that the others make needless",
+    more: "\
+Prints for each pattern its number, K if it is kept or D if it is dropped, and its values. The kept ones detect every fault that all together detect, and
+tell apart every pair of detected faults that all together tell apart; and none of them can be spared.
+
+At most 256 faults and 256 patterns.",
+    example: "ullimaqsu compact examples/c17/circuit.rec examples/c17/faults.rec examples/c17/patterns.rec --marks kept",
+    run,
 };
+
+fn run(words: &Words, out: &mut Out) -> Result<(), Problem> {
+    let form = Form::of(words, &COMMAND)?;
+    let (kept_to, marks_to) = (words.value("-o").map(Path::new), words.value("--marks").map(Path::new));
+    if kept_to.is_some() && kept_to == marks_to {
+        return Err(COMMAND.misused("writes the patterns and their marks to two files, not to one"));
+    }
+    let listed = Listed::load(words, &COMMAND)?;
+    let mut marks = vec![0; listed.patterns.len()];
+    ullimaqsu::compact(listed.faults.len() as u64, listed.patterns.len() as u64, &listed.table, &mut marks)
+        .expect("the table of a dictionary is never refused");
+    out.print(&printed(&listed, &marks, form))?;
+    let sources = [words.at(0), words.at(1), words.at(2)];
+    if let Some(path) = kept_to {
+        let kept: String = kept(&listed, &marks).map(|pattern| pattern.letters() + "\n").collect();
+        replace(path, kept.as_bytes(), &sources)?;
+    }
+    match marks_to {
+        Some(path) => replace(path, marks.iter().map(|&mark| format!("{}\n", letter(mark))).collect::<String>().as_bytes(), &sources),
+        None => Ok(()),
+    }
+}
+
+/// The patterns that are kept.
+fn kept<'a>(listed: &'a Listed, marks: &'a [u8]) -> impl Iterator<Item = &'a Pattern> {
+    listed.patterns.iter().zip(marks).filter(|(_, mark)| **mark == 1).map(|(pattern, _)| pattern)
+}
+
+fn printed(listed: &Listed, marks: &[u8], form: Form) -> String {
+    let rows =
+        || (0..).zip(listed.patterns.iter().zip(marks)).map(|(number, (pattern, &mark)): (usize, _)| (number, letter(mark), pattern));
+    match form {
+        Form::Table => {
+            let width = marks.len().saturating_sub(1).to_string().len();
+            let lines: String = rows().map(|(number, mark, pattern)| format!("{number:>width$} {mark} {}\n", pattern.letters())).collect();
+            let (kept, all, detected) = (kept(listed, marks).count(), count(marks.len(), "pattern"), count(listed.detected(), "fault"));
+            lines + &format!("{kept} of {all} kept: {detected} detected and the same pairs told apart as by all of them\n")
+        }
+        Form::Csv => {
+            let row = |(number, mark, pattern): (usize, char, &Pattern)| csv_row([number.to_string(), mark.to_string(), pattern.letters()]);
+            csv_row(["number", "mark", "pattern"]) + &rows().map(row).collect::<String>()
+        }
+        Form::Json => {
+            let marks = quoted(marks.iter().map(|&mark| letter(mark)).collect::<String>());
+            format!("{{\"patterns\": {},\n\"marks\": {marks}}}\n", list(listed.patterns.iter().map(Pattern::letters)))
+        }
+    }
+}

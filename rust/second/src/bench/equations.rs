@@ -12,16 +12,17 @@ pub type ByName<'a, T> = HashMap<&'a [u8], T>;
 #[derive(Clone, Debug)]
 pub struct Text<'a> {
     /// The names that are defined, in order.
-    defined: Vec<Word<'a>>,
+    pub defined: Vec<Word<'a>>,
     pub inputs: Vec<Word<'a>>,
     pub outputs: Vec<Word<'a>>,
     pub equations: Vec<(Word<'a>, Gate<Word<'a>>)>,
 }
 
-/// The circuit of a text, and the line of each name.
+/// The circuit of a text, the name of each line where it is defined, and the line of each name.
 #[derive(Clone, Debug)]
 pub struct Placed<'a> {
     pub circuit: Circuit,
+    pub names: Vec<Word<'a>>,
     pub line_of: ByName<'a, usize>,
 }
 
@@ -44,12 +45,16 @@ impl<'a> Text<'a> {
         Ok(read)
     }
 
+    /// The names that are used: those that gates read, and then those of outputs.
+    pub fn used(&self) -> impl Iterator<Item = Word<'a>> + '_ {
+        self.equations.iter().flat_map(|(_, gate)| gate.sources()).chain(self.outputs.iter().copied())
+    }
+
     /// Every name is defined once. Refusal 15.
     pub fn names(&self) -> Result<(), Refusal> {
         let mut known = HashSet::new();
         let second: Vec<Word> = self.defined.iter().copied().filter(|word| !known.insert(word.name)).collect();
-        let used = self.equations.iter().flat_map(|(_, gate)| gate.sources()).chain(self.outputs.iter().copied());
-        let unknown = used.filter(|word| !known.contains(word.name));
+        let unknown = self.used().filter(|word| !known.contains(word.name));
         match unknown.chain(second).map(|word| word.at).min() {
             Some(place) => Err(refusal(15, place)),
             None => Ok(()),
@@ -58,15 +63,16 @@ impl<'a> Text<'a> {
 
     /// The inputs, and then always the first equation whose sources have lines. Refusal 16. Every name must be defined once.
     pub fn place(&self) -> Result<Placed<'a>, Refusal> {
-        // names are numbered: the inputs, then the equations
-        let names: Vec<&[u8]> = self.inputs.iter().chain(self.equations.iter().map(|(word, _)| word)).map(|word| word.name).collect();
-        let number_of: ByName<usize> = names.iter().enumerate().map(|(number, &name)| (name, number)).collect();
+        // definitions are numbered: the inputs, then the equations
+        let words: Vec<Word> = self.inputs.iter().chain(self.equations.iter().map(|(word, _)| word)).copied().collect();
+        let number_of = places(&words);
         let outputs: HashSet<&[u8]> = self.outputs.iter().map(|word| word.name).collect();
-        let line = |gate, number: usize| Line { gate, output: outputs.contains(names[number]) };
+        let line = |gate, number: usize| Line { gate, output: outputs.contains(words[number].name) };
 
         let inputs = self.inputs.len();
         let mut lines: Vec<Line> = (0..inputs).map(|number| line(Gate::Input, number)).collect();
-        let mut line_of: Vec<Option<usize>> = (0..names.len()).map(|number| (number < inputs).then_some(number)).collect();
+        let mut names = self.inputs.clone();
+        let mut line_of: Vec<Option<usize>> = (0..words.len()).map(|number| (number < inputs).then_some(number)).collect();
         let gates: Vec<Gate> = self.equations.iter().map(|(_, gate)| gate.over(|_, source| number_of[source.name])).collect();
         let sources: Vec<Vec<usize>> = gates.iter().map(|gate| gate.sources()).collect();
         let mut waiting: Vec<usize> = (0..gates.len()).collect();
@@ -76,9 +82,10 @@ impl<'a> Text<'a> {
             let gate = waiting.remove(first);
             line_of[inputs + gate] = Some(lines.len());
             lines.push(line(gates[gate].over(|_, source| line_of[source].expect("placed")), inputs + gate));
+            names.push(words[inputs + gate]);
         }
-        let line_of = names.into_iter().zip(line_of).map(|(name, line)| (name, line.expect("placed"))).collect();
-        Ok(Placed { circuit: Circuit { lines }, line_of })
+        let line_of = places(&names);
+        Ok(Placed { circuit: Circuit { lines }, names, line_of })
     }
 
     /// The value of each name that is defined, straight from the equations, where the inputs have these values. There must be no refusal.
@@ -90,6 +97,11 @@ impl<'a> Text<'a> {
         });
         known
     }
+}
+
+/// The place of each name in a list.
+fn places<'a>(names: &[Word<'a>]) -> ByName<'a, usize> {
+    names.iter().enumerate().map(|(place, word)| (word.name, place)).collect()
 }
 
 /// The value of a name, by asking for those in its equation.

@@ -1,16 +1,13 @@
-//! The program behind `./ullimaqsu bench`: what it writes and says is the second program's, and its words about a refusal agree with the
-//! place, with the grammar and with the text.
-#[path = "harness/directory.rs"]
-mod directory;
-#[path = "harness/x86.rs"]
-mod x86;
+//! What `ullimaqsu bench` writes and says is the second program's, and its words about a refusal agree with the place, with the grammar and with
+//! the text.
+mod harness;
 
 use cases::{drawn, texts, Random, Tally};
-use directory::{root, Directory};
+use harness::{root, Directory, COMMAND};
 use second::bench::{parse, Text};
 use second::Refusal;
+use std::process::Command;
 use std::{fs, thread};
-use x86::program;
 
 fn text(bytes: &[u8]) -> String {
     String::from_utf8(bytes.to_vec()).expect("text")
@@ -62,13 +59,24 @@ fn check_syntax(text: &[u8], place: usize, words: &str) {
     let blank_or_more = |byte: u8| b" \t\r".contains(&byte) || in_a_word && (byte.is_ascii_alphanumeric() || byte == b'_');
     assert!(listed.iter().all(|byte| bytes.contains(byte)), "{words}: {text:?}");
     assert!(bytes.iter().all(|&byte| listed.contains(&byte) || blank_or_more(byte)), "{words}: {text:?}");
-    let found = found.split("; only ").next().expect("a beginning");
+    let (found, hint) = found.split_once("; ").unwrap_or((found, ""));
+    assert_eq!(hint, hint_at(before, text.get(place).copied(), &listed), "{words}: {text:?}");
     match text.get(place) {
         None => assert_eq!(found, "the text ends"),
         Some(b'\n') => assert_eq!(found, "the line ends"),
         Some(b' ' | b'\t' | b'\r') => assert_eq!(found, "is a blank"),
         Some(byte) if byte.is_ascii_graphic() => assert!(found.starts_with(&format!("is `{}`", char::from(*byte))), "{words}"),
         Some(byte) => assert_eq!(found, format!("is byte {byte}")),
+    }
+}
+
+/// What helps: `narrow` where a gate of two sources has a third, and capitals where a keyword that takes brackets has none.
+fn hint_at(before: &[u8], found: Option<u8>, listed: &[u8]) -> &'static str {
+    let sources = before.iter().rev().take_while(|&&byte| byte != b'(');
+    match found {
+        Some(b',') if sources.filter(|&&byte| byte == b',').count() == 1 => "`./ullimaqsu narrow` rewrites gates of three and more sources",
+        Some(b'(') if listed == b"=" => "only INPUT and OUTPUT, in capitals, are followed by `(`",
+        _ => "",
     }
 }
 
@@ -124,7 +132,7 @@ fn check_records(text: &[u8], number: u32, words: &str) {
 /// Runs the reader on a text where records stand already, and holds all that it does to the second program. The number of the refusal.
 fn check(directory: &Directory, bytes: &[u8]) -> u32 {
     let (file, records) = (directory.write("text.bench", bytes), directory.write("old.rec", b"records of old"));
-    let output = program("build/bench").args([&file, &records, &records]).output().expect("sh runs");
+    let output = Command::new(COMMAND).arg("bench").args([&file, &records]).output().expect("it starts");
     let (printed, said) = (text(&output.stdout), text(&output.stderr));
     let written = fs::read(&records).expect("records");
     assert_eq!(directory.names(), ["old.rec", "text.bench"]);
@@ -172,7 +180,7 @@ fn check_all(name: &str, texts: Vec<Vec<u8>>) -> Vec<u32> {
         threads.into_iter().flat_map(|thread| thread.join().expect("no difference")).collect()
     });
     numbers.into_iter().for_each(|number| tally.count(number));
-    println!("bench program, {name}: {tally}");
+    println!("bench, {name}: {tally}");
     tally.seen()
 }
 
@@ -193,6 +201,25 @@ fn every_beginning() {
     let random = &mut Random::new(8);
     let some = |cut: &[u8]| [sorts[0], random.pick(&sorts), random.pick(&sorts)].map(|sort| [cut, sort].concat());
     check_all("beginnings", cut.flat_map(some).collect());
+}
+
+/// A third source is where `narrow` helps, in each kind that has two, and nowhere else.
+#[test]
+fn wide_gates() {
+    let directory = Directory::new("wide");
+    let words = |statement: &str| {
+        let file = directory.write("text.bench", format!("INPUT(a)\nOUTPUT(a)\n{statement}").as_bytes());
+        let output = Command::new(COMMAND).arg("bench").arg(&file).output().expect("it starts");
+        text(&output.stderr).split_once("): ").expect("a place").1.to_string()
+    };
+    for kind in ["AND", "NAND", "OR", "NOR", "XOR", "XNOR"] {
+        let says = format!("after the second of the two sources of `{kind}` there must be `)`, and here is `,`");
+        assert_eq!(words(&format!("y={kind}(a,a ,a)")), format!("{says}; `./ullimaqsu narrow` rewrites gates of three and more sources\n"));
+        assert_eq!(words(&format!("y={kind}(a,a=")), format!("{}\n", says.replace("`,`", "`=`")));
+    }
+    for other in ["y=NOT(a,a)", "y=BUFF(a,a,a)", "INPUT(a,a,a)", "y=and(a,a,a)", "y=AND(a,,a)", "y=AND(a,a),"] {
+        assert!(!words(other).contains("narrow"), "{other}");
+    }
 }
 
 #[test]

@@ -1,23 +1,16 @@
-//! `./ullimaqsu bench` and what stands where it writes: nothing is lost, whatever OUT is, whatever fails and whoever interrupts.
-#[path = "harness/command.rs"]
-mod command;
-#[path = "harness/directory.rs"]
-mod directory;
-#[path = "harness/unheard.rs"]
-mod unheard;
+//! `ullimaqsu bench` and what stands where it writes: nothing is lost, whatever OUT is, whatever fails and whoever interrupts.
+mod harness;
 
-use command::{run, script, ullimaqsu, Said};
-use directory::{root, Directory};
+use harness::{after, into_broken, into_full, root, run, said, ullimaqsu, Directory, Said, COMMAND};
 use std::fs::{self, File, OpenOptions, Permissions};
-use std::io::{ErrorKind, Write};
+use std::io::{pipe, ErrorKind, PipeReader, PipeWriter, Read, Write};
 use std::os::unix::fs::{symlink, FileTypeExt, OpenOptionsExt, PermissionsExt};
 use std::os::unix::net::UnixListener;
 use std::os::unix::process::ExitStatusExt;
 use std::path::{Path, PathBuf};
 use std::process::{Child, Command, ExitStatus, Stdio};
-use std::time::{Duration, SystemTime};
+use std::time::Duration;
 use std::{iter, thread};
-use unheard::{after, unheard};
 
 const OLD: &[u8] = b"records of old";
 const COUNTS: &str = "lines 11, inputs 5, outputs 2\n";
@@ -102,7 +95,7 @@ fn texts_from_pipes() {
     let mut command = after(":", &words(&[Path::new("/dev/stdin"), &out]));
     let mut process = command.stdin(Stdio::piped()).stdout(Stdio::piped()).stderr(Stdio::piped()).spawn().expect("it starts");
     process.stdin.take().expect("piped").write_all(&c17()).expect("it reads");
-    assert_eq!(command::said(process.wait_with_output().expect("it ends")), (Some(0), COUNTS.to_string(), String::new()));
+    assert_eq!(said(process.wait_with_output().expect("it ends")), (Some(0), COUNTS.to_string(), String::new()));
     assert!(has_records(&out));
     symlink("/dev/null", &device).expect("a link");
     stopped(bench(&[&device]), &format!("{} is no regular file", device.display()));
@@ -236,7 +229,7 @@ fn modes() {
 #[test]
 fn odd_names() {
     let directory = Directory::new("odd\n");
-    let here = |names: &[&str]| run(Command::new(script()).arg("bench").args(names).current_dir(&directory.0));
+    let here = |names: &[&str]| run(Command::new(COMMAND).args(["bench", "--"]).args(names).current_dir(&directory.0));
     for name in ["-f", "--", "-", "!", "(", " a b ", "a\nb", "end\n", "\\n", "*", "ä"] {
         directory.write(name, &c17());
         let out = format!("{name}.{name}");
@@ -254,22 +247,41 @@ fn odd_names() {
     assert!(has_records(&directory.0.join("circuit.rec")));
 }
 
-/// A report that nobody can get, and a disk with no room: status 2, and what stood there stands there.
+/// A report that can't be printed, and a disk with no room: what stood there stands there. Where nobody reads the report nothing is said.
 #[test]
 fn what_can_not_be_printed_or_written() {
     let directory = Directory::new("full");
     let (file, out) = (directory.write("text.bench", &c17()), directory.write("out", OLD));
     let wrong = directory.write("wrong.bench", b"input(a)\n");
     for text in [&file, &wrong] {
-        let [closed, full, broken] = unheard(&words(&[text, &out]));
-        stopped(closed, "standard output is closed");
-        stopped(full, "standard output: ");
-        stopped(broken, "standard output: ");
+        stopped(into_full(&words(&[text, &out])), "standard output could not be written");
+        assert_eq!(into_broken(&words(&[text, &out])), (Some(141), String::new(), String::new()));
     }
+    // the signal is one that a caller may ignore; then the write fails
     for out in [&out, &directory.0.join("new")] {
-        stopped(run(&mut after("ulimit -f 0", &words(&[&file, out]))), &out.display().to_string());
+        stopped(run(&mut after("trap '' XFSZ; ulimit -f 0", &words(&[&file, out]))), &format!("{} could not be written", out.display()));
     }
     assert_eq!(fs::read(&out).expect("a file"), OLD);
+    assert_eq!(directory.names(), ["out", "text.bench", "wrong.bench"]);
+}
+
+/// Whoever closes standard output wants no report. All else is done as ever: no file takes the place of what is closed, and is printed into.
+#[test]
+fn closed_streams() {
+    let directory = Directory::new("closed");
+    let (file, out) = (directory.write("text.bench", &c17()), directory.write("out", OLD));
+    let wrong = directory.write("wrong.bench", b"input(a)\n");
+    let (status, _, line) = run(&mut after("exec >&-", &words(&[&wrong, &out])));
+    assert_eq!((status, line.lines().count()), (Some(1), 1), "{line}");
+    for closed in ["exec 2>&-", "exec >&- 2>&-", "exec <&- >&- 2>&-"] {
+        assert_eq!(run(&mut after(closed, &words(&[&wrong, &out]))).0, Some(1), "{closed}");
+        assert_eq!(fs::read(&out).expect("a file"), OLD, "{closed}");
+    }
+    for closed in ["exec <&-", "exec >&-", "exec 2>&-", "exec <&- >&- 2>&-"] {
+        fs::write(&out, OLD).expect("a file");
+        assert_eq!(run(&mut after(closed, &words(&[&file, &out]))).0, Some(0), "{closed}");
+        assert!(has_records(&out), "{closed}");
+    }
     assert_eq!(directory.names(), ["out", "text.bench", "wrong.bench"]);
 }
 
@@ -297,8 +309,7 @@ fn end_of(process: &mut Child) -> ExitStatus {
     panic!("it goes on");
 }
 
-/// While the reader waits for its text there is a file with a name of its own, which nobody else can read. A signal ends the reader, the file
-/// is gone, and what stood there stands there.
+/// While it waits for its text nothing stands there yet that was not there before. A signal ends it, and what stood there stands there.
 #[test]
 fn signals() {
     for (number, signal) in [(1, "HUP"), (2, "INT"), (3, "QUIT"), (15, "TERM")] {
@@ -307,13 +318,11 @@ fn signals() {
         assert!(make("mkfifo", &[], &pipe));
         // signals that whoever runs the tests ignores are heard again
         let mut command = Command::new("env");
-        command.arg(format!("--default-signal={signal}")).arg(script()).args(words(&[&pipe, &out]));
+        command.arg(format!("--default-signal={signal}")).arg(COMMAND).args(words(&[&pipe, &out]));
         let mut process = command.stdout(Stdio::null()).stderr(Stdio::null()).spawn().expect("it starts");
         let mut text = writing_end(&pipe, &mut process);
-        let new = directory.names().into_iter().find(|name| !["out", "text"].contains(&name.as_str())).expect("a new file");
-        assert_eq!(mode(&directory.0.join(&new)), 0o600);
-        let random = new.rsplit('.').next().expect("an end");
-        assert!(random.len() >= 10 && random != process.id().to_string(), "{new}");
+        text.write_all(b"INPUT(a)").expect("it reads");
+        assert_eq!(directory.names(), ["out", "text"], "{signal}");
         let id = process.id().to_string();
         assert!(Command::new("sh").args(["-c", "kill -s \"$1\" \"$2\"", "sh", signal, &id]).status().expect("it starts").success());
         assert_eq!(end_of(&mut process).signal(), Some(number), "{signal}");
@@ -323,38 +332,41 @@ fn signals() {
     }
 }
 
-/// A program is built again if something that it is made from is newer. Here nothing is built: `rt` only notes what it is asked.
+/// The new file, which stands there while its report waits to be read, has a name that nobody could know, and nobody else can read it.
 #[test]
-fn rebuilding() {
-    let directory = Directory::new("another repository");
-    let made_from = ["include/ullimaqsu.h", ".ci/program", ".ci/x86", "crates.txt", "crates/dictionary_program/src/main.rt", "c/bench.c"];
-    let programs = ["build/bench", "target/bin/dictionary_program"];
-    for name in made_from.into_iter().chain(["ullimaqsu", "bin/rt"]).chain(programs) {
-        fs::create_dir_all(directory.0.join(name).parent().expect("a directory")).expect("a directory");
-        let original = root().join(if name.starts_with("bin/") { "ullimaqsu" } else { name });
-        fs::copy(original, directory.0.join(name)).expect("a copy");
+fn the_new_file() {
+    let directory = Directory::new("new");
+    let (file, out) = (directory.write("text.bench", &c17()), directory.write("out", OLD));
+    let mut names = vec![];
+    for _ in 0..2 {
+        let (mut reads, writes) = full_pipe();
+        let mut process = Command::new(COMMAND).args(words(&[&file, &out])).stdout(writes).spawn().expect("it starts");
+        let new = loop {
+            match directory.names().into_iter().find(|name| name.starts_with('.')) {
+                Some(new) if fs::read(directory.0.join(&new)).is_ok_and(|bytes| !bytes.is_empty()) => break new,
+                _ => assert_eq!(process.try_wait().expect("a process"), None, "it ended and waited for nobody"),
+            }
+            thread::sleep(Duration::from_millis(5));
+        };
+        assert_eq!((mode(&directory.0.join(&new)), fs::read(&out).expect("a file")), (0o600, OLD.to_vec()));
+        assert!(has_records(&directory.0.join(&new)));
+        let random = new.rsplit('.').next().expect("an end").to_string();
+        assert!(random.len() >= 10 && random != process.id().to_string(), "{new}");
+        names.push(new);
+        let mut printed = vec![];
+        reads.read_to_end(&mut printed).expect("a pipe");
+        assert!(printed.ends_with(COUNTS.as_bytes()));
+        assert!(end_of(&mut process).success() && has_records(&out));
+        fs::write(&out, OLD).expect("a file");
     }
-    directory.write("bin/rt", b"#!/bin/sh\necho \"$*\" >>\"$NOTES\"\nexit 1\n");
-    let text = directory.write("text.bench", &c17());
-    let notes = directory.0.join("notes");
-    let hours = |hours: u64| SystemTime::now() + Duration::from_secs(3600 * hours);
-    let touch = |name: &str, time| File::open(directory.0.join(name)).and_then(|file| file.set_modified(time)).expect("a time");
-    let asked = |words: [&Path; 2]| {
-        fs::write(&notes, b"").expect("notes");
-        let path = format!("{}:{}", directory.0.join("bin").display(), std::env::var("PATH").expect("a path"));
-        let mut command = Command::new(directory.0.join("ullimaqsu"));
-        assert_eq!(run(command.args(words).env("PATH", path).env("NOTES", &notes)).0, Some(2));
-        fs::read_to_string(&notes).expect("notes").lines().next().map(str::to_string).expect("rt is asked")
-    };
-    let both = || [asked([Path::new("bench"), &text]), asked([Path::new("dictionary"), &directory.0])];
-    let built = ["staticlib entries", "check dictionary_program"];
-    programs.iter().for_each(|program| touch(program, hours(1)));
-    assert_eq!(both(), ["doc", "doc"], "only where the toolchain is");
-    for name in made_from {
-        let before = fs::metadata(directory.0.join(name)).and_then(|file| file.modified()).expect("a time");
-        touch(name, hours(2));
-        let right = if name == "c/bench.c" { [built[0], "doc"] } else { built };
-        assert_eq!(both(), right, "{name}");
-        touch(name, before);
-    }
+    assert_ne!(names[0], names[1]);
+    assert_eq!(directory.names(), ["out", "text.bench"]);
+}
+
+/// Both ends of a pipe that takes nothing more until it is read.
+fn full_pipe() -> (PipeReader, PipeWriter) {
+    let (reads, mut writes) = pipe().expect("a pipe");
+    // Linux gives a pipe this many bytes
+    writes.write_all(&[b' '; 1 << 16]).expect("room");
+    (reads, writes)
 }

@@ -1,0 +1,38 @@
+//! How far a long command is: a line on standard error, where that is a terminal.
+use std::io::{self, IsTerminal, Write};
+
+const WIDTH: usize = 40;
+
+pub struct Bar {
+    total: usize,
+    seen: bool,
+}
+
+impl Bar {
+    /// Of so many faults.
+    pub fn new(total: usize) -> Bar {
+        Bar { total, seen: io::stderr().is_terminal() }
+    }
+
+    /// So many are done.
+    pub fn show(&self, done: usize) {
+        self.put(&drawn(done, self.total));
+    }
+
+    /// Leaves the line empty for what is printed there, which may be the same terminal.
+    pub fn erase(&self) {
+        self.put("");
+    }
+
+    /// In place of what the line had. That it can't be written loses nothing.
+    fn put(&self, text: &str) {
+        if self.seen {
+            let _ = write!(io::stderr(), "\r\x1b[K{text}");
+        }
+    }
+}
+
+fn drawn(done: usize, total: usize) -> String {
+    let filled = WIDTH * done / total.max(1);
+    format!("[{}{}] {done} of {total} faults", "#".repeat(filled), ".".repeat(WIDTH - filled))
+}

@@ -1,0 +1,53 @@
+//! Faults and patterns with their whole table, as compaction and audit take them.
+use crate::circuit::Circuit;
+use crate::commands::Command;
+use crate::fault::{self, Fault};
+use crate::form::count;
+use crate::pattern::{self, Pattern};
+use crate::problem::{shown, Problem};
+use crate::table::{entries, MOST};
+use crate::words::Words;
+use std::path::Path;
+
+pub struct Listed {
+    pub circuit: Circuit,
+    pub faults: Vec<Fault>,
+    pub patterns: Vec<Pattern>,
+    /// A row for each pattern, and in it an entry for each fault.
+    pub table: Vec<u8>,
+}
+
+impl Listed {
+    /// Of the first three words: a circuit, faults and patterns.
+    pub fn load(words: &Words, command: &Command) -> Result<Listed, Problem> {
+        let circuit = Circuit::load(words.at(0))?;
+        let (faults, patterns) = (fault::load(words.at(1), &circuit)?, pattern::load(words.at(2), &circuit)?);
+        limit(words.at(1), faults.len(), "fault", command)?;
+        limit(words.at(2), patterns.len(), "pattern", command)?;
+        let table = entries(&circuit, &faults, &patterns);
+        Ok(Listed { circuit, faults, patterns, table })
+    }
+
+    /// The entries of a pattern.
+    fn row(&self, pattern: usize) -> &[u8] {
+        &self.table[pattern * self.faults.len()..][..self.faults.len()]
+    }
+
+    /// The first pattern whose entries are so.
+    pub fn first(&self, so: impl Fn(&[u8]) -> bool) -> Option<usize> {
+        (0..self.patterns.len()).find(|&pattern| so(self.row(pattern)))
+    }
+
+    /// How many faults some pattern fails.
+    pub fn detected(&self) -> usize {
+        (0..self.faults.len()).filter(|&fault| self.first(|row| row[fault] == 1).is_some()).count()
+    }
+}
+
+/// The library's own limit: a list can't be cut in pieces where each pattern is held against all the others.
+fn limit(path: &Path, number: usize, of: &str, command: &Command) -> Result<(), Problem> {
+    match number <= MOST {
+        true => Ok(()),
+        false => Err(Problem::Refused(format!("{} has {}, and {} takes at most {MOST}", shown(path), count(number, of), command.name))),
+    }
+}

@@ -1,0 +1,29 @@
+//! Names that a text does not have.
+use crate::notation::{Statement, Text, LONGEST_NAME};
+use std::collections::HashSet;
+
+pub struct Fresh(HashSet<String>);
+
+impl Fresh {
+    /// Beside the names of a text, defined or used.
+    pub fn beside(text: &Text) -> Fresh {
+        let words = text.statements.iter().flat_map(|statement| match statement {
+            Statement::Input(name) | Statement::Output(name) => vec![name],
+            Statement::Gate(gate) => gate.sources.iter().chain([&gate.name]).collect(),
+        });
+        Fresh(words.map(|word| String::from_utf8_lossy(word.name).into_owned()).collect())
+    }
+
+    /// A name with the next number that is free, cut where it would be too long.
+    pub fn name(&mut self, of: &str) -> String {
+        for number in 1.. {
+            let end = format!("_{number}");
+            let begin: String = of.chars().take(LONGEST_NAME - end.len()).collect();
+            let name = begin + &end;
+            if self.0.insert(name.clone()) {
+                return name;
+            }
+        }
+        unreachable!("a text has fewer names than there are numbers")
+    }
+}

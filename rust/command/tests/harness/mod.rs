@@ -1,0 +1,68 @@
+//! The command as a user runs it.
+#![allow(dead_code, unused_imports)] // not every test asks for everything
+pub mod json;
+
+pub use cases::directory::{root, Directory};
+pub use cases::said::{run, said, Said};
+use std::ffi::OsStr;
+use std::fs::OpenOptions;
+use std::io;
+use std::path::PathBuf;
+use std::process::{Command, Stdio};
+
+pub const COMMAND: &str = env!("CARGO_BIN_EXE_ullimaqsu");
+
+/// What the command says to these words.
+pub fn ullimaqsu<W: AsRef<OsStr>>(words: &[W]) -> Said {
+    run(Command::new(COMMAND).args(words))
+}
+
+/// What it prints where nothing is wrong.
+pub fn printed<W: AsRef<OsStr>>(words: &[W]) -> String {
+    let (status, printed, said) = ullimaqsu(words);
+    assert_eq!((status, said.as_str()), (Some(0), ""), "{printed}");
+    printed
+}
+
+/// What is given was read and is refused, with this line.
+pub fn refused(line: &str) -> Said {
+    (Some(1), String::new(), format!("ullimaqsu: {line}\n"))
+}
+
+/// The command line is not understood, or something can't be read or written: this line says what.
+pub fn stopped(line: &str) -> Said {
+    (Some(2), String::new(), format!("ullimaqsu: {line}\n"))
+}
+
+/// The command with these words, started by a shell that does something before.
+pub fn after<W: AsRef<OsStr>>(before: &str, words: &[W]) -> Command {
+    let mut command = Command::new("sh");
+    command.args(["-c", &format!("{before}; exec \"$@\""), "sh", COMMAND]).args(words);
+    command
+}
+
+fn into<W: AsRef<OsStr>>(output: Stdio, words: &[W]) -> Said {
+    let process = Command::new(COMMAND).args(words).stdout(output).stderr(Stdio::piped()).spawn().expect("it starts");
+    said(process.wait_with_output().expect("it ends"))
+}
+
+/// The command with these words where standard output has no room.
+pub fn into_full<W: AsRef<OsStr>>(words: &[W]) -> Said {
+    into(OpenOptions::new().write(true).open("/dev/full").expect("a full device").into(), words)
+}
+
+/// The command with these words where standard output is a pipe that nobody reads.
+pub fn into_broken<W: AsRef<OsStr>>(words: &[W]) -> Said {
+    let (_, broken) = io::pipe().expect("a pipe");
+    into(broken.into(), words)
+}
+
+/// A circuit under `examples/bench`.
+pub fn example(name: &str) -> PathBuf {
+    root().join("examples/bench").join(name).with_extension("bench")
+}
+
+/// All of them.
+pub fn examples() -> Vec<PathBuf> {
+    ["c17", "decoder4", "multiplier4", "parity16", "adder16"].iter().map(|name| example(name)).collect()
+}
