@@ -1,8 +1,8 @@
 //! The picture of a circuit under a pattern, for a class: inputs at the left, gates in columns by level, outputs at the right, with the values of
 //! all lines, and with a fault its place and the lines that differ.
-mod columns;
 mod heights;
 mod order;
+mod plan;
 mod shapes;
 mod style;
 mod svg;
@@ -11,8 +11,8 @@ use crate::circuit::Circuit;
 use crate::fault::Fault;
 use crate::kind::Kind;
 use crate::simulation::{Difference, Simulation, Value};
-use columns::{Columns, Thing};
 use heights::{heights, pin_height};
+use plan::{Plan, Thing};
 use shapes::{BODY, HALF};
 use svg::{Anchor, Svg};
 
@@ -39,7 +39,7 @@ pub fn draw(circuit: &Circuit, simulation: &Simulation) -> String {
 struct Picture<'a> {
     circuit: &'a Circuit,
     simulation: &'a Simulation,
-    drawn: Columns,
+    plan: Plan,
     /// The middle of each node from top to bottom.
     y: Vec<f64>,
     /// The middle of each column from left to right.
@@ -48,23 +48,23 @@ struct Picture<'a> {
 
 impl Picture<'_> {
     fn of<'a>(circuit: &'a Circuit, simulation: &'a Simulation) -> Picture<'a> {
-        let mut drawn = Columns::of(circuit);
-        order::order(&mut drawn);
-        let y = heights(&drawn).into_iter().map(|height| height + HEAD).collect();
-        let mut picture = Picture { circuit, simulation, drawn, y, x: Vec::new() };
+        let mut plan = Plan::of(circuit);
+        order::order(&mut plan);
+        let y = heights(&plan).into_iter().map(|height| height + HEAD).collect();
+        let mut picture = Picture { circuit, simulation, plan, y, x: Vec::new() };
         picture.x = picture.middles();
         picture
     }
 
     fn drawn(&self) -> String {
-        let last = self.drawn.columns.len() - 1;
+        let last = self.plan.columns.len() - 1;
         let right = self.x[last] + self.port_width() + MARGIN;
         let bottom = self.y.iter().copied().fold(0.0, f64::max) + HALF + MARGIN;
         let width = right.max(LEGEND).max(2.0 * MARGIN + TITLE_LETTER * self.title().chars().count() as f64);
         let mut svg = Svg::new(width, bottom + FOOT, &self.title(), style::STYLE);
         self.head(&mut svg);
         self.wires().iter().enumerate().for_each(|(line, wire)| svg.path(&self.class(line), wire));
-        self.drawn.readers().iter().enumerate().for_each(|(node, readers)| self.node(&mut svg, node, readers.len()));
+        self.plan.readers().iter().enumerate().for_each(|(node, readers)| self.node(&mut svg, node, readers.len()));
         if let Some(faulty) = &self.simulation.faulty {
             self.fault(&mut svg, faulty.fault);
         }
@@ -75,8 +75,8 @@ impl Picture<'_> {
     /// The middles of the columns: between two there is room for names, and the more the higher the wires climb there.
     fn middles(&self) -> Vec<f64> {
         let mut middles = vec![MARGIN + self.width_before(0)];
-        for column in 1..self.drawn.columns.len() {
-            let climb = self.drawn.columns[column].iter().map(|&node| self.climb(node)).fold(0.0, f64::max);
+        for column in 1..self.plan.columns.len() {
+            let climb = self.plan.columns[column].iter().map(|&node| self.climb(node)).fold(0.0, f64::max);
             let bend = 40.0 + (climb / 4.0).min(200.0).round();
             middles.push(middles[column - 1] + BEHIND + bend + self.width_before(column));
         }
@@ -85,13 +85,13 @@ impl Picture<'_> {
 
     /// How high the wires climb or fall that come in at a node.
     fn climb(&self, node: usize) -> f64 {
-        let sources = self.drawn.nodes[node].pins.iter().flatten();
+        let sources = self.plan.nodes[node].pins.iter().flatten();
         sources.map(|&source| (self.y[source] - self.y[node]).abs()).fold(0.0, f64::max)
     }
 
     /// What a column needs left of its middle.
     fn width_before(&self, column: usize) -> f64 {
-        let node_width = |&node: &usize| match self.drawn.nodes[node].thing {
+        let node_width = |&node: &usize| match self.plan.nodes[node].thing {
             Thing::Line(line) if self.circuit.kind(line) == Kind::Input => self.box_width(line) - BODY,
             Thing::Line(line) => {
                 let labels = self.labels(node).into_iter().map(|source| self.name_width(source) + BEFORE + 4.0);
@@ -99,18 +99,18 @@ impl Picture<'_> {
             }
             Thing::Wire(_) | Thing::Port(_) => BEFORE,
         };
-        self.drawn.columns[column].iter().map(node_width).fold(0.0, f64::max).round()
+        self.plan.columns[column].iter().map(node_width).fold(0.0, f64::max).round()
     }
 
     /// The lines that a node reads over wires that are not drawn.
     fn labels(&self, node: usize) -> Vec<usize> {
-        let pins = &self.drawn.nodes[node].pins;
+        let pins = &self.plan.nodes[node].pins;
         (0..pins.len()).filter(|&pin| pins[pin].is_none()).map(|pin| self.read_at(node, pin)).collect()
     }
 
     /// The line that a pin of a node reads.
     fn read_at(&self, node: usize, pin: usize) -> usize {
-        match self.drawn.nodes[node].thing {
+        match self.plan.nodes[node].thing {
             Thing::Line(line) => self.circuit.source(line, pin + 1),
             Thing::Wire(line) | Thing::Port(line) => line,
         }
@@ -152,14 +152,14 @@ impl Picture<'_> {
     /// For each line the way of its wire, from its gate to all that read it.
     fn wires(&self) -> Vec<String> {
         let mut wires = vec![String::new(); self.circuit.size()];
-        for (node, drawn) in self.drawn.nodes.iter().enumerate() {
-            let (x, y) = (self.x[drawn.column], self.y[node]);
-            match drawn.thing {
+        for (node, at) in self.plan.nodes.iter().enumerate() {
+            let (x, y) = (self.x[at.column], self.y[node]);
+            match at.thing {
                 Thing::Line(line) => wires[line] += &format!("M{} {y}H{}", x + shapes::right(self.circuit.kind(line)), x + BEHIND),
                 Thing::Wire(line) => wires[line] += &format!("M{} {y}H{}", x - BEFORE, x + BEHIND),
                 Thing::Port(_) => (),
             }
-            for pin in 0..drawn.pins.len() {
+            for pin in 0..at.pins.len() {
                 wires[self.read_at(node, pin)] += &self.way_in(node, pin);
             }
         }
@@ -168,18 +168,18 @@ impl Picture<'_> {
 
     /// The way to a pin from the column before, or its last piece where the wire is not drawn.
     fn way_in(&self, node: usize, pin: usize) -> String {
-        let drawn = &self.drawn.nodes[node];
-        let (x, y) = (self.x[drawn.column], self.y[node] + pin_height(pin, drawn.pins.len()));
+        let at = &self.plan.nodes[node];
+        let (x, y) = (self.x[at.column], self.y[node] + pin_height(pin, at.pins.len()));
         let from = x - BEFORE;
-        let end = match drawn.thing {
+        let end = match at.thing {
             Thing::Line(line) => x + shapes::left(self.circuit.kind(line)),
             Thing::Wire(_) => from,
             Thing::Port(_) => x - BODY,
         };
-        match drawn.pins[pin] {
+        match at.pins[pin] {
             None => format!("M{from} {y}H{end}"),
             Some(source) => {
-                let (x, height) = (self.x[drawn.column - 1] + BEHIND, self.y[source]);
+                let (x, height) = (self.x[at.column - 1] + BEHIND, self.y[source]);
                 let middle = (x + from) / 2.0;
                 format!("M{x} {height}C{middle} {height} {middle} {y} {from} {y}H{end}")
             }
@@ -187,9 +187,9 @@ impl Picture<'_> {
     }
 
     fn node(&self, svg: &mut Svg, node: usize, readers: usize) {
-        let drawn = &self.drawn.nodes[node];
-        let (x, y, line) = (self.x[drawn.column], self.y[node], drawn.thing.line());
-        match drawn.thing {
+        let at = &self.plan.nodes[node];
+        let (x, y, line) = (self.x[at.column], self.y[node], at.thing.line());
+        match at.thing {
             Thing::Line(line) => svg.group(&format!("line-{}", self.circuit.name(line)), x, y, |svg| self.line(svg, line)),
             Thing::Port(line) => svg.group(&format!("output-{}", self.circuit.name(line)), x, y, |svg| self.port(svg, line)),
             Thing::Wire(_) => (),
@@ -197,8 +197,8 @@ impl Picture<'_> {
         if readers > 1 {
             svg.circle(&format!("dot{}", self.difference(line)), x + BEHIND, y, 3.5);
         }
-        for pin in (0..drawn.pins.len()).filter(|&pin| drawn.pins[pin].is_none() && matches!(drawn.thing, Thing::Line(_))) {
-            let height = y + pin_height(pin, drawn.pins.len()) + 4.0;
+        for pin in (0..at.pins.len()).filter(|&pin| at.pins[pin].is_none() && matches!(at.thing, Thing::Line(_))) {
+            let height = y + pin_height(pin, at.pins.len()) + 4.0;
             svg.text("label", Anchor::End, x - BEFORE - 4.0, height, self.circuit.name(self.read_at(node, pin)));
         }
     }
@@ -226,8 +226,8 @@ impl Picture<'_> {
 
     /// A cross on the wire that is stuck, and what it is stuck at.
     fn fault(&self, svg: &mut Svg, fault: Fault) {
-        let Some(node) = self.drawn.nodes.iter().position(|node| node.thing == Thing::Line(fault.line)) else { return };
-        let (x, y) = (self.x[self.drawn.nodes[node].column], self.y[node]);
+        let Some(node) = self.plan.nodes.iter().position(|node| node.thing == Thing::Line(fault.line)) else { return };
+        let (x, y) = (self.x[self.plan.nodes[node].column], self.y[node]);
         let word = fault.named(self.circuit);
         svg.group("fault", x, y, |svg| match fault.site {
             0 => {
@@ -261,6 +261,11 @@ impl Picture<'_> {
             svg.text("level", anchor, x, HEAD - 16.0, &says);
         }
     }
+}
+
+fn mean(numbers: impl Iterator<Item = f64>) -> Option<f64> {
+    let (sum, count) = numbers.fold((0.0, 0), |(sum, count), number| (sum + number, count + 1));
+    (count > 0).then(|| sum / f64::from(count))
 }
 
 /// Two strokes through a point.

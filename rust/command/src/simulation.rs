@@ -2,7 +2,6 @@
 use crate::circuit::Circuit;
 use crate::fault::Fault;
 use crate::pattern::Pattern;
-use crate::problem::Problem;
 
 /// A value of a line: 0, 1 or X.
 #[derive(Clone, Copy, PartialEq, Eq, Debug)]
@@ -95,15 +94,15 @@ pub struct Simulation {
 impl Simulation {
     /// One call of the dictionary maker, which leaves the values of all lines in its work memory. It wants a fault; where none is given,
     /// any fault does, and its values are not looked at.
-    pub fn of(circuit: &Circuit, pattern: Pattern, fault: Option<Fault>) -> Result<Simulation, Problem> {
+    pub fn of(circuit: &Circuit, pattern: Pattern, fault: Option<Fault>) -> Simulation {
         let any = Fault { line: 0, site: 0, value: false };
         let (mut table, mut work) = ([0], vec![0; 2 * circuit.size()]);
         ullimaqsu::dictionary(&circuit.records, &fault.unwrap_or(any).record(), &pattern.0, &mut table, &mut work)
-            .map_err(|refusal| Problem::Refused(format!("{}: {refusal}", circuit.file)))?;
+            .expect("a circuit, a fault and a pattern that were read, and memory of its exact size, are never refused");
         let (good, faulty) = work.split_at(circuit.size());
         let values = |bytes: &[u8]| bytes.iter().copied().map(Value::of).collect();
         let faulty = fault.map(|fault| Faulty { fault, entry: Entry::of(table[0]), values: values(faulty) });
-        Ok(Simulation { pattern, good: values(good), faulty })
+        Simulation { pattern, good: values(good), faulty }
     }
 
     pub fn good(&self, line: usize) -> Value {

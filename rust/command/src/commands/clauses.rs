@@ -30,9 +30,9 @@ is redundant. The good value of line k, from 0, is variable 2k+1, and its faulty
 fn run(words: &Words, out: &mut Out) -> Result<(), Problem> {
     let file = words.at(0);
     let circuit = Circuit::load(file)?;
-    let fault = words.from(1).map(|word| Fault::read(&word, &circuit)).next().expect("two words were asked for").map_err(Problem::Refused)?;
-    let mut text = if words.has("--comments") { comments(&circuit, fault) } else { String::new() };
-    text += &dimacs(&circuit, fault)?;
+    let fault = Fault::given(&words.from(1).next().expect("two words were asked for"), &circuit)?;
+    let comments = if words.has("--comments") { comments(&circuit, fault) } else { String::new() };
+    let text = comments + &dimacs(&circuit, fault);
     match words.value("-o") {
         Some(into) => replace(Path::new(into), text.as_bytes(), &[file]),
         None => out.print(&text),
@@ -40,17 +40,18 @@ fn run(words: &Words, out: &mut Out) -> Result<(), Problem> {
 }
 
 /// Asks how many words there will be, and then for the words.
-fn dimacs(circuit: &Circuit, fault: Fault) -> Result<String, Problem> {
-    let refused = |refusal| Problem::Refused(format!("{}: {refusal}", circuit.file));
-    let needed = ullimaqsu::clauses(&circuit.records, &fault.record(), &mut []).map_or_else(|refusal| refusal.place, |written| written.words);
+fn dimacs(circuit: &Circuit, fault: Fault) -> String {
+    let needed =
+        ullimaqsu::clauses(&circuit.records, &fault.record(), &mut []).map_or_else(|refusal| refusal.place, |written| written.words);
     let mut words = vec![0; needed as usize];
-    let written = ullimaqsu::clauses(&circuit.records, &fault.record(), &mut words).map_err(refused)?;
+    let written = ullimaqsu::clauses(&circuit.records, &fault.record(), &mut words)
+        .expect("a circuit and a fault that were read, and as many words as are needed, are never refused");
     let mut text = format!("p cnf {} {}\n", written.variables, written.clauses);
     for word in words {
         let after = if word == 0 { '\n' } else { ' ' };
         write!(text, "{word}{after}").expect("a string takes all that is written to it");
     }
-    Ok(text)
+    text
 }
 
 /// What each variable means, as the library numbers them.

@@ -1,5 +1,6 @@
 //! How high each node stands: wires as straight as the order of the columns and the room between nodes allow.
-use super::columns::{Columns, Thing};
+use super::mean;
+use super::plan::{Plan, Thing};
 
 /// Half the distance between the two pins of a gate.
 pub const PIN: f64 = 11.0;
@@ -25,29 +26,30 @@ fn room(thing: Thing) -> f64 {
 }
 
 /// The middle of each node, from 0 downwards; the highest node ends at 0.
-pub fn heights(drawn: &Columns) -> Vec<f64> {
-    let readers = drawn.readers();
-    let pins = |node: usize| drawn.nodes[node].pins.len();
-    let mut heights = vec![0.0; drawn.nodes.len()];
+pub fn heights(plan: &Plan) -> Vec<f64> {
+    let readers = plan.readers();
+    let pins = |node: usize| plan.nodes[node].pins.len();
+    let mut heights = vec![0.0; plan.nodes.len()];
     let before = |node: usize, heights: &[f64]| {
         let pin = |(pin, source): (usize, &Option<usize>)| source.map(|source| heights[source] - pin_height(pin, pins(node)));
-        mean(drawn.nodes[node].pins.iter().enumerate().filter_map(pin))
+        mean(plan.nodes[node].pins.iter().enumerate().filter_map(pin))
     };
-    let behind = |node: usize, heights: &[f64]| mean(readers[node].iter().map(|&(reader, pin)| heights[reader] + pin_height(pin, pins(reader))));
-    drawn.columns.iter().for_each(|column| place(drawn, column, &mut heights, |_, _| None));
+    let behind =
+        |node: usize, heights: &[f64]| mean(readers[node].iter().map(|&(reader, pin)| heights[reader] + pin_height(pin, pins(reader))));
+    plan.columns.iter().for_each(|column| place(plan, column, &mut heights, |_, _| None));
     for _ in 0..ROUNDS {
-        drawn.columns.iter().for_each(|column| place(drawn, column, &mut heights, before));
-        drawn.columns.iter().rev().for_each(|column| place(drawn, column, &mut heights, behind));
+        plan.columns.iter().for_each(|column| place(plan, column, &mut heights, before));
+        plan.columns.iter().rev().for_each(|column| place(plan, column, &mut heights, behind));
     }
-    drawn.columns.iter().for_each(|column| place(drawn, column, &mut heights, before));
-    let top = (0..heights.len()).map(|node| heights[node] - room(drawn.nodes[node].thing) / 2.0).fold(f64::INFINITY, f64::min);
+    plan.columns.iter().for_each(|column| place(plan, column, &mut heights, before));
+    let top = (0..heights.len()).map(|node| heights[node] - room(plan.nodes[node].thing) / 2.0).fold(f64::INFINITY, f64::min);
     heights.iter().map(|height| (height - top).round()).collect()
 }
 
 /// Places the nodes of a column near what they wish; one without a wish wants to stay where it is.
-fn place(drawn: &Columns, column: &[usize], heights: &mut [f64], wish: impl Fn(usize, &[f64]) -> Option<f64>) {
+fn place(plan: &Plan, column: &[usize], heights: &mut [f64], wish: impl Fn(usize, &[f64]) -> Option<f64>) {
     let wishes: Vec<f64> = column.iter().map(|&node| wish(node, heights).unwrap_or(heights[node])).collect();
-    let rooms: Vec<f64> = column.iter().map(|&node| room(drawn.nodes[node].thing)).collect();
+    let rooms: Vec<f64> = column.iter().map(|&node| room(plan.nodes[node].thing)).collect();
     for (&node, height) in column.iter().zip(spaced(&wishes, &rooms)) {
         heights[node] = height;
     }
@@ -74,11 +76,6 @@ fn spaced(wishes: &[f64], rooms: &[f64]) -> Vec<f64> {
     }
     let free = groups.into_iter().flat_map(|(sum, count)| std::iter::repeat_n(sum / count as f64, count));
     free.zip(above).map(|(free, above)| free + above).collect()
-}
-
-fn mean(numbers: impl Iterator<Item = f64>) -> Option<f64> {
-    let (sum, count) = numbers.fold((0.0, 0), |(sum, count), number| (sum + number, count + 1));
-    (count > 0).then(|| sum / f64::from(count))
 }
 
 #[cfg(test)]

@@ -25,7 +25,9 @@ impl Svg {
     pub fn new(width: f64, height: f64, title: &str, style: &str) -> Svg {
         let mut svg = Svg(String::new());
         svg.put(format_args!("<?xml version=\"1.0\" encoding=\"UTF-8\"?>\n"));
-        svg.put(format_args!("<svg xmlns=\"http://www.w3.org/2000/svg\" width=\"{width}\" height=\"{height}\" viewBox=\"0 0 {width} {height}\">\n"));
+        svg.put(format_args!(
+            "<svg xmlns=\"http://www.w3.org/2000/svg\" width=\"{width}\" height=\"{height}\" viewBox=\"0 0 {width} {height}\">\n"
+        ));
         svg.put(format_args!("<title>{}</title>\n<style>{style}</style>\n", safe(title)));
         svg.put(format_args!("<rect class=\"paper\" width=\"{width}\" height=\"{height}\"/>\n"));
         svg

@@ -30,37 +30,37 @@ pub struct Node {
     pub pins: Vec<Option<usize>>,
 }
 
-pub struct Columns {
+pub struct Plan {
     pub nodes: Vec<Node>,
     /// The nodes of each column from top to bottom.
     pub columns: Vec<Vec<usize>>,
 }
 
-impl Columns {
-    pub fn of(circuit: &Circuit) -> Columns {
+impl Plan {
+    pub fn of(circuit: &Circuit) -> Plan {
         let levels = levels(circuit);
         let last = levels.iter().max().map_or(0, |highest| highest + 1);
-        let mut made = Columns { nodes: Vec::new(), columns: vec![Vec::new(); last + 1] };
+        let mut plan = Plan { nodes: Vec::new(), columns: vec![Vec::new(); last + 1] };
         // for each line its node, and then the wires that carry it on
         let carriers: Vec<Vec<usize>> = reaches(circuit, &levels, last)
             .into_iter()
             .enumerate()
             .map(|(line, reach)| {
                 let thing = |on| if on == 0 { Thing::Line(line) } else { Thing::Wire(line) };
-                (0..=reach).map(|on| made.push(thing(on), levels[line] + on)).collect()
+                (0..=reach).map(|on| plan.push(thing(on), levels[line] + on)).collect()
             })
             .collect();
         let carrier = |line: usize, column: usize| carriers[line].get(column - 1 - levels[line]).copied();
         for line in 0..circuit.size() {
             let own = carriers[line][0];
-            made.nodes[own].pins = circuit.sources(line).into_iter().map(|source| carrier(source, levels[line])).collect();
-            carriers[line].windows(2).for_each(|pair| made.nodes[pair[1]].pins = vec![Some(pair[0])]);
+            plan.nodes[own].pins = circuit.sources(line).into_iter().map(|source| carrier(source, levels[line])).collect();
+            carriers[line].windows(2).for_each(|pair| plan.nodes[pair[1]].pins = vec![Some(pair[0])]);
             if circuit.is_output(line) {
-                let port = made.push(Thing::Port(line), last);
-                made.nodes[port].pins = vec![carrier(line, last)];
+                let port = plan.push(Thing::Port(line), last);
+                plan.nodes[port].pins = vec![carrier(line, last)];
             }
         }
-        made
+        plan
     }
 
     fn push(&mut self, thing: Thing, column: usize) -> usize {
@@ -93,8 +93,8 @@ fn reaches(circuit: &Circuit, levels: &[usize], last: usize) -> Vec<usize> {
             reaches[line] = passed.max(reaches[line]);
         }
     };
-    for line in 0..circuit.size() {
-        circuit.sources(line).into_iter().for_each(|source| read(source, levels[line]));
+    for (line, &level) in levels.iter().enumerate() {
+        circuit.sources(line).into_iter().for_each(|source| read(source, level));
         if circuit.is_output(line) {
             read(line, last);
         }
