@@ -1,6 +1,7 @@
 //! The command as a user runs it.
 #![allow(dead_code, unused_imports)] // not every test asks for everything
 pub mod json;
+pub mod named;
 
 pub use cases::directory::{root, Directory};
 pub use cases::said::{run, said, Said};
