@@ -24,7 +24,8 @@ pub struct New {
 impl New {
     pub fn write(place: Place, bytes: &[u8]) -> Result<New, Problem> {
         let mode = if place.old.is_some() { OWN } else { ANYBODY };
-        let (mut file, path) = made_beside(&place.path, mode).map_err(|_| Problem::Stopped(format!("no file can be made beside {}", place.shown)))?;
+        let (mut file, path) =
+            made_beside(&place.path, mode).map_err(|_| Problem::Stopped(format!("no file can be made beside {}", place.shown)))?;
         let new = New { place, path, placed: false };
         file.write_all(bytes).map_err(|error| new.unwritten(error))?;
         Ok(new)
