@@ -1,17 +1,20 @@
-//! What the tests draw their cases from: random numbers, circuits and texts of every kind, damage, lent memory between guards, and counts
-//! of what was seen. Everything is bytes: nothing here knows the library or the second program.
+//! What the tests draw their cases from: random numbers, circuits and texts of every kind, damage, lent memory between guards, counts of what
+//! was seen, directories to run commands in, and what these say. Everything is bytes: nothing here knows the library or the second program.
 
 pub mod circuits;
 pub mod damage;
+pub mod directory;
 pub mod faults;
 pub mod files;
 mod lanes;
 mod lent;
 mod random;
+pub mod said;
 pub mod tables;
 mod tally;
 pub mod texts;
 
+pub use directory::Directory;
 pub use files::Files;
 pub use lanes::lane;
 pub use lent::Lent;

@@ -2,8 +2,9 @@
 use crate::commands::Command;
 use crate::words::Choice;
 
-/// How wide the left column of a list may be; what is wider has a line of its own.
-const LEFT: usize = 26;
+/// How wide a line of running text is at most, and the left column of a list.
+const WIDTH: usize = 80;
+const LEFT: usize = 14;
 
 /// Which archive was linked, as whoever built the command says.
 const ARCHIVE: &str = match option_env!("ULLIMAQSU_ARCHIVE") {
@@ -13,44 +14,36 @@ const ARCHIVE: &str = match option_env!("ULLIMAQSU_ARCHIVE") {
 
 /// A fact a line.
 pub fn version() -> String {
-    format!("ullimaqsu {}\n{ARCHIVE}\n", env!("CARGO_PKG_VERSION"))
+    format!("ullimaqsu {}\nlinked with {ARCHIVE}\n", env!("CARGO_PKG_VERSION"))
 }
 
 /// All commands.
 pub fn all(commands: &[&Command]) -> String {
     let rows: String = commands.iter().map(|command| row(command.name, command.says)).collect();
-    format!("{BEFORE}{rows}{AFTER}")
+    format!("{BEFORE}\n{rows}\n{}", paragraphs(AFTER))
 }
 
 const BEFORE: &str = "\
-ullimaqsu COMMAND ..: proved test tools for combinational circuits and single stuck-at faults
-
+ullimaqsu COMMAND ..
+Proved test tools for combinational circuits and single stuck-at faults.
 ";
 
-const AFTER: &str = "
+const AFTER: &str = "\
 ullimaqsu COMMAND --help says what a command takes, with an example. ullimaqsu --version says what was linked.
 
-A circuit is a text in the bench notation, or records (circuit.rec). A fault is NAME/0 or NAME/1, the line of that name stuck at 0 or 1, or
-NAME.1/0, its gate's first pin stuck at 0. A pattern has 0, 1 or X for each input, in the order of the lines. Files have one fault or pattern a
-line; blanks and comments, from # to the end of the line, may stand in them.
+A circuit is a text in the bench notation, or records (circuit.rec). A fault is NAME/0 or NAME/1, the line of that name stuck at 0 or 1; or at the pins of
+its gate NAME.1/0, NAME.1/1, NAME.2/0 or NAME.2/1. A pattern has 0, 1 or X for each input, in the order of the lines. Files have one fault or one pattern
+a line; blanks and comments, from # to the end of the line, may stand in them.
 
-Status: 0, or 1 where what was given is refused, or 2 where the command line is not understood or something can't be read or written.
-";
+Status: 0, or 1 where what was given is refused, or 2 where the command line is not understood or something can't be read or written.";
 
 /// One command: its usage, what it does, its options and an example.
 pub fn of(command: &Command) -> String {
     let Command { name, usage, says, more, example, choices, .. } = command;
-    let mut text = format!("ullimaqsu {name} {usage}\n\n{says}\n");
-    if !more.is_empty() {
-        text += &format!("\n{}\n", more.trim());
-    }
-    if !choices.is_empty() {
-        text += &format!("\n{}", choices.iter().map(|choice| row(&shown(choice), choice.says)).collect::<String>());
-    }
-    if !example.is_empty() {
-        text += &format!("\nExample: {example}\n");
-    }
-    text
+    let options: String = choices.iter().map(|choice| row(&shown(choice), choice.says)).collect();
+    // what is typed stays on one line, to be copied
+    let parts = [format!("ullimaqsu {name} {usage}\n"), paragraphs(says), paragraphs(more), options, format!("Example: {example}\n")];
+    parts.into_iter().filter(|part| !part.is_empty()).collect::<Vec<_>>().join("\n")
 }
 
 /// An option with its value.
@@ -58,6 +51,29 @@ fn shown(choice: &Choice) -> String {
     choice.value.map_or(choice.name.to_string(), |value| format!("{} {value}", choice.name))
 }
 
+/// A row of a list.
 fn row(left: &str, right: &str) -> String {
-    format!("  {left:LEFT$}{right}\n")
+    filled(&format!("  {left:LEFT$} "), right, LEFT + 3)
+}
+
+/// Paragraphs, between which there is an empty line.
+fn paragraphs(text: &str) -> String {
+    let paragraphs = text.split("\n\n").filter(|paragraph| !paragraph.is_empty());
+    paragraphs.map(|paragraph| filled("", paragraph, 0)).collect::<Vec<_>>().join("\n")
+}
+
+/// Words behind a beginning, in lines of at most the width; each line but the first begins with so many blanks.
+fn filled(begin: &str, words: &str, indent: usize) -> String {
+    let (mut text, mut column, mut gap) = (begin.to_string(), begin.len(), "");
+    for word in words.split_whitespace() {
+        if column + gap.len() + word.len() > WIDTH {
+            text += &format!("\n{:indent$}", "");
+            (column, gap) = (indent, "");
+        }
+        text += gap;
+        text += word;
+        column += gap.len() + word.len();
+        gap = " ";
+    }
+    text + "\n"
 }

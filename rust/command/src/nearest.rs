@@ -1,12 +1,11 @@
 //! The names that someone may have meant.
 
-/// The names nearest to one that is none of them: at most three, the nearest first, and none that is too far to help.
+/// The names nearest to one that is none of them: at most three, in their order, and none that is too far to help.
 pub fn nearest<'a>(name: &str, names: impl Iterator<Item = &'a str>) -> Vec<&'a str> {
-    let far = (name.chars().count() + 1) / 3;
-    let mut near: Vec<(usize, &str)> =
-        names.map(|other| (distance(name, other), other)).filter(|(steps, _)| *steps <= far.min(3)).collect();
-    near.sort_by_key(|(steps, _)| *steps);
-    near.into_iter().take(3).map(|(_, other)| other).collect()
+    let far = ((name.chars().count() + 1) / 3).min(3);
+    let steps: Vec<(usize, &str)> = names.map(|other| (distance(name, other), other)).collect();
+    let least = steps.iter().map(|(steps, _)| *steps).min().filter(|least| *least <= far);
+    steps.into_iter().filter(|(steps, _)| Some(*steps) == least).take(3).map(|(_, other)| other).collect()
 }
 
 /// The same as the end of a sentence: "; the nearest names are `a`, `b` and `c`", or nothing.

@@ -1,21 +1,10 @@
 //! `./ullimaqsu` and what it says.
 use crate::directory::{root, Directory};
+pub use cases::said::{run, said, Said};
 use std::ffi::OsStr;
 use std::path::PathBuf;
-use std::process::{Command, Output};
+use std::process::Command;
 use std::sync::Once;
-
-/// How a command ended, what it printed and what it said on standard error.
-pub type Said = (Option<i32>, String, String);
-
-pub fn said(output: Output) -> Said {
-    let text = |bytes| String::from_utf8(bytes).expect("text");
-    (output.status.code(), text(output.stdout), text(output.stderr))
-}
-
-pub fn run(command: &mut Command) -> Said {
-    said(command.output().expect("it starts"))
-}
 
 /// The command line. Its programs are built where something is newer, once and before anything is compared, since it says so.
 pub fn script() -> PathBuf {

@@ -27,7 +27,7 @@ Prints for each pattern its number, K if it is kept or D if it is dropped, and i
 tell apart every pair of detected faults that all together tell apart; and none of them can be spared.
 
 At most 256 faults and 256 patterns.",
-    example: "ullimaqsu compact examples/c17/circuit.rec examples/c17/faults.rec examples/c17/patterns.rec",
+    example: "ullimaqsu compact examples/c17/circuit.rec examples/c17/faults.rec examples/c17/patterns.rec --marks kept",
     run,
 };
 
@@ -65,8 +65,8 @@ fn printed(listed: &Listed, marks: &[u8], form: Form) -> String {
         Form::Table => {
             let width = marks.len().saturating_sub(1).to_string().len();
             let lines: String = rows().map(|(number, mark, pattern)| format!("{number:>width$} {mark} {}\n", pattern.letters())).collect();
-            let (kept, detected) = (kept(listed, marks).count(), count(listed.detected(), "fault"));
-            lines + &format!("{kept} of {}: they detect {detected}, as all of them do\n", count(marks.len(), "pattern") + " kept")
+            let (kept, all, detected) = (kept(listed, marks).count(), count(marks.len(), "pattern"), count(listed.detected(), "fault"));
+            lines + &format!("{kept} of {all} kept: {detected} detected and the same pairs told apart as by all of them\n")
         }
         Form::Csv => {
             let row = |(number, mark, pattern): (usize, char, &Pattern)| csv_row([number.to_string(), mark.to_string(), pattern.letters()]);

@@ -14,7 +14,7 @@ use crate::words::Words;
 
 pub const COMMAND: Command = Command {
     name: "dictionary",
-    usage: "CIRCUIT FAULTS PATTERNS [--csv | --json], or DIR",
+    usage: "(CIRCUIT FAULTS PATTERNS [--csv | --json] | DIR)",
     wants: "a circuit, a file of faults and one of patterns, or a directory of circuit.rec, faults.rec and patterns.rec",
     counts: 1..=3,
     choices: &[CSV, JSON],

@@ -4,8 +4,7 @@ use crate::bar::Bar;
 use crate::circuit::Circuit;
 use crate::columns::{widest, Columns};
 use crate::fault::{self, Fault};
-use crate::form::count;
-use crate::form::{csv_row, list, quoted, Form, CSV, JSON};
+use crate::form::{count, csv_row, list, quoted, Form, CSV, JSON};
 use crate::out::Out;
 use crate::pattern::Pattern;
 use crate::problem::Problem;
@@ -18,7 +17,7 @@ use ullimaqsu::{Outcome, Search};
 
 pub const COMMAND: Command = Command {
     name: "search",
-    usage: "CIRCUIT FAULT.. | CIRCUIT --all | CIRCUIT --faults FILE, [--budget N] [-o FILE] [--csv | --json]",
+    usage: "CIRCUIT (FAULT.. | --all | --faults FILE) [--budget N] [-o FILE] [--csv | --json]",
     wants: "a circuit and then faults, or --all, or --faults FILE",
     counts: 1..=usize::MAX,
     choices: &[

@@ -1,63 +1,38 @@
-//! The command as it was built, and directories of files to run it on.
-#![allow(dead_code)] // not every test asks for all
+//! The command as a user runs it.
+#![allow(dead_code, unused_imports)] // not every test asks for everything
+pub mod json;
+pub mod named;
 
+pub use cases::directory::{root, Directory};
+pub use cases::said::{run, said, Said};
 use std::ffi::OsStr;
 use std::fs::OpenOptions;
-use std::path::{Path, PathBuf};
-use std::process::{Command, Output, Stdio};
-use std::{env, fs, io, process};
+use std::io;
+use std::path::PathBuf;
+use std::process::{Command, Stdio};
 
 pub const COMMAND: &str = env!("CARGO_BIN_EXE_ullimaqsu");
 
-pub fn root() -> PathBuf {
-    Path::new(env!("CARGO_MANIFEST_DIR")).join("../..").canonicalize().expect("the repository")
-}
-
-/// A directory of its own, which is removed at the end.
-pub struct Directory(pub PathBuf);
-
-impl Directory {
-    pub fn new(name: &str) -> Directory {
-        let path = env::temp_dir().join(format!("ullimaqsu-{}-{name}", process::id()));
-        fs::create_dir_all(&path).expect("a directory");
-        Directory(path)
-    }
-
-    pub fn write(&self, name: &str, bytes: &[u8]) -> PathBuf {
-        let path = self.0.join(name);
-        fs::write(&path, bytes).expect("a file");
-        path
-    }
-
-    /// The names of all that stands in it, in order.
-    pub fn names(&self) -> Vec<String> {
-        let entries = fs::read_dir(&self.0).expect("a directory");
-        let mut names: Vec<_> = entries.map(|entry| entry.expect("an entry").file_name().into_string().expect("text")).collect();
-        names.sort();
-        names
-    }
-}
-
-impl Drop for Directory {
-    fn drop(&mut self) {
-        let _ = fs::remove_dir_all(&self.0);
-    }
-}
-
-/// How a command ended, what it printed and what it said on standard error.
-pub type Said = (Option<i32>, String, String);
-
-pub fn said(output: Output) -> Said {
-    let text = |bytes| String::from_utf8(bytes).expect("text");
-    (output.status.code(), text(output.stdout), text(output.stderr))
-}
-
-pub fn run(command: &mut Command) -> Said {
-    said(command.output().expect("it starts"))
-}
-
+/// What the command says to these words.
 pub fn ullimaqsu<W: AsRef<OsStr>>(words: &[W]) -> Said {
     run(Command::new(COMMAND).args(words))
+}
+
+/// What it prints where nothing is wrong.
+pub fn printed<W: AsRef<OsStr>>(words: &[W]) -> String {
+    let (status, printed, said) = ullimaqsu(words);
+    assert_eq!((status, said.as_str()), (Some(0), ""), "{printed}");
+    printed
+}
+
+/// What is given was read and is refused, with this line.
+pub fn refused(line: &str) -> Said {
+    (Some(1), String::new(), format!("ullimaqsu: {line}\n"))
+}
+
+/// The command line is not understood, or something can't be read or written: this line says what.
+pub fn stopped(line: &str) -> Said {
+    (Some(2), String::new(), format!("ullimaqsu: {line}\n"))
 }
 
 /// The command with these words, started by a shell that does something before.
@@ -81,4 +56,14 @@ pub fn into_full<W: AsRef<OsStr>>(words: &[W]) -> Said {
 pub fn into_broken<W: AsRef<OsStr>>(words: &[W]) -> Said {
     let (_, broken) = io::pipe().expect("a pipe");
     into(broken.into(), words)
+}
+
+/// A circuit under `examples/bench`.
+pub fn example(name: &str) -> PathBuf {
+    root().join("examples/bench").join(name).with_extension("bench")
+}
+
+/// All of them.
+pub fn examples() -> Vec<PathBuf> {
+    ["c17", "decoder4", "multiplier4", "parity16", "adder16"].iter().map(|name| example(name)).collect()
 }

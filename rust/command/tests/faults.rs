@@ -1,0 +1,198 @@
+//! `ullimaqsu faults`: every fault by name, and collapsing held to what simulation says.
+mod harness;
+
+use cases::{circuits, drawn, texts, Directory, Random};
+use harness::named::Named;
+use harness::{example, examples, printed, stopped, ullimaqsu};
+use second::circuit::Gate;
+use second::{Circuit, Fault, Site, Value};
+use std::fs;
+use std::path::{Path, PathBuf};
+
+fn faults(path: &Path, options: &[&str]) -> String {
+    let words: Vec<&Path> = [Path::new("faults"), path].into_iter().chain(options.iter().map(Path::new)).collect();
+    printed(&words)
+}
+
+/// Texts and records, as files with what the second program has of them.
+fn circuits(directory: &Directory, count: usize) -> Vec<(PathBuf, Named)> {
+    let text = |(number, text): (usize, Vec<u8>)| (directory.write(&format!("{number}.bench"), &text), Named::of_text(&text));
+    let records = |(number, records): (usize, Vec<u8>)| (directory.write(&format!("{number}.rec"), &records), Named::of_records(&records));
+    let texts = drawn(1, count, texts::small).enumerate().map(text);
+    texts.chain(drawn(2, count, circuits::few_inputs).enumerate().map(records)).collect()
+}
+
+#[test]
+fn all_faults() {
+    let directory = Directory::new("faults");
+    let known = examples().into_iter().map(|path| (path.clone(), Named::of_text(&fs::read(&path).expect("an example"))));
+    for (path, named) in circuits(&directory, 40).into_iter().chain(known) {
+        assert_eq!(faults(&path, &[]), named.fault_lines(&named.faults(false)));
+        assert_eq!(faults(&path, &["--pins"]), named.fault_lines(&named.faults(true)));
+    }
+}
+
+/// A pin stuck at the first value is the line stuck at the second.
+type Row = (bool, bool);
+
+/// The textbook's table: the rows of a gate.
+fn textbook(gate: Gate) -> Vec<Row> {
+    match gate {
+        Gate::Buffer(_) => vec![(false, false), (true, true)],
+        Gate::Not(_) => vec![(false, true), (true, false)],
+        Gate::And(..) => vec![(false, false)],
+        Gate::Nand(..) => vec![(false, true)],
+        Gate::Or(..) => vec![(true, true)],
+        Gate::Nor(..) => vec![(true, false)],
+        Gate::Input | Gate::Xor(..) | Gate::Xnor(..) => vec![],
+    }
+}
+
+/// The pins that read a line.
+fn readers(circuit: &Circuit, line: usize) -> Vec<(usize, usize)> {
+    let of = |reader: usize| (1..).zip(circuit.lines[reader].gate.sources()).map(move |(pin, source)| (reader, pin, source));
+    (0..circuit.lines.len()).flat_map(of).filter(|(_, _, source)| *source == line).map(|(reader, pin, _)| (reader, pin)).collect()
+}
+
+/// All pairs of faults that are equivalent by such a table, or along a wire.
+fn pairs(circuit: &Circuit, table: impl Fn(Gate) -> Vec<Row>, is_wire: impl Fn(&Circuit, usize) -> bool) -> Vec<(Fault, Fault)> {
+    let mut pairs = vec![];
+    for (line, of) in circuit.lines.iter().enumerate() {
+        for pin in 1..=of.gate.sources().len() {
+            let rows = table(of.gate).into_iter();
+            pairs.extend(
+                rows.map(|(at, to)| (Fault { line, site: Site::Pin(pin), stuck: at }, Fault { line, site: Site::Line, stuck: to })),
+            );
+        }
+        if is_wire(circuit, line) {
+            let (reader, pin) = readers(circuit, line)[0];
+            let both = |stuck| (Fault { line, site: Site::Line, stuck }, Fault { line: reader, site: Site::Pin(pin), stuck });
+            pairs.extend([false, true].map(both));
+        }
+    }
+    pairs
+}
+
+fn wire(circuit: &Circuit, line: usize) -> bool {
+    readers(circuit, line).len() == 1 && !circuit.lines[line].output
+}
+
+/// The faults of a list that are equivalent to none before them, by going from pair to pair.
+fn firsts(list: &[Fault], pairs: &[(Fault, Fault)]) -> Vec<Fault> {
+    let mut reached: Vec<Fault> = vec![];
+    let mut firsts = vec![];
+    for &fault in list {
+        if reached.contains(&fault) {
+            continue;
+        }
+        firsts.push(fault);
+        let mut next = vec![fault];
+        while let Some(at) = next.pop() {
+            if !reached.contains(&at) {
+                reached.push(at);
+                next.extend(pairs.iter().filter(|(one, _)| *one == at).map(|(_, other)| *other));
+                next.extend(pairs.iter().filter(|(_, other)| *other == at).map(|(one, _)| *one));
+            }
+        }
+    }
+    firsts
+}
+
+/// What every vector gives at the outputs.
+fn behaviour(circuit: &Circuit, fault: Fault) -> Vec<Vec<Value>> {
+    let inputs = circuit.inputs().count();
+    let vector = |number: usize| (0..inputs).map(|k| Some(number >> k & 1 == 1)).collect::<Vec<Value>>();
+    let outputs = |values: Vec<Value>| circuit.outputs().map(|line| values[line]).collect();
+    (0..1 << inputs).map(|number| outputs(circuit.values(&vector(number), Some(fault)))).collect()
+}
+
+/// No vector tells the two of any pair apart.
+fn none_differs(circuit: &Circuit, pairs: &[(Fault, Fault)]) -> bool {
+    pairs.iter().all(|&(one, other)| behaviour(circuit, one) == behaviour(circuit, other))
+}
+
+/// Circuits in which every kind and every sort of line occurs.
+fn small_circuits() -> Vec<Circuit> {
+    drawn(3, 60, circuits::few_inputs)
+        .map(|records| Named::of_records(&records).circuit)
+        .filter(|circuit| circuit.inputs().count() < 6)
+        .collect()
+}
+
+/// The table is right: what it calls equivalent no vector tells apart. And with any other row, or with wires that are outputs or that several
+/// pins read, this would be seen.
+#[test]
+fn the_table() {
+    let circuits = small_circuits();
+    let holds = |table: &dyn Fn(Gate) -> Vec<Row>, wire: &dyn Fn(&Circuit, usize) -> bool| {
+        circuits.iter().all(|circuit| none_differs(circuit, &pairs(circuit, table, wire)))
+    };
+    assert!(holds(&textbook, &wire));
+    let kinds: [fn(usize) -> Gate; 8] = [
+        Gate::Buffer,
+        Gate::Not,
+        |a| Gate::And(a, a),
+        |a| Gate::Nand(a, a),
+        |a| Gate::Or(a, a),
+        |a| Gate::Nor(a, a),
+        |a| Gate::Xor(a, a),
+        |a| Gate::Xnor(a, a),
+    ];
+    let same = |one: Gate, other: Gate| one.over(|_, _| 0) == other.over(|_, _| 0);
+    for kind in kinds {
+        for row in [(false, false), (false, true), (true, false), (true, true)] {
+            if !textbook(kind(0)).contains(&row) {
+                let wrong = |gate: Gate| if same(gate, kind(0)) { vec![row] } else { vec![] };
+                assert!(!holds(&wrong, &wire), "{:?} with {row:?}", kind(0));
+            }
+        }
+    }
+    assert!(!holds(&|_| vec![], &|circuit, line| readers(circuit, line).len() == 1), "outputs are no wires");
+    assert!(!holds(&|_| vec![], &|circuit, line| !readers(circuit, line).is_empty() && !circuit.lines[line].output), "stems are no wires");
+}
+
+/// The command keeps the first of each class, with pins and without.
+#[test]
+fn collapsing() {
+    let directory = Directory::new("collapse");
+    let mut left_out = 0;
+    for (path, named) in
+        circuits(&directory, 60).into_iter().chain([(example("c17"), Named::of_text(&fs::read(example("c17")).expect("c17")))])
+    {
+        let pairs = pairs(&named.circuit, textbook, wire);
+        for (options, all) in [(&["--collapse"][..], named.faults(false)), (&["--collapse", "--pins"], named.faults(true))] {
+            let firsts = firsts(&all, &pairs);
+            left_out += all.len() - firsts.len();
+            assert_eq!(faults(&path, options), named.fault_lines(&firsts));
+        }
+    }
+    assert!(left_out > 100);
+    // c17 has 22 classes, as every textbook says
+    assert_eq!(faults(&example("c17"), &["--pins", "--collapse"]).lines().count(), 22);
+}
+
+/// The list goes to a file, and never over the circuit.
+#[test]
+fn into_a_file() {
+    let directory = Directory::new("faults to a file");
+    let circuit = directory.write("c17.bench", fs::read(example("c17")).expect("c17"));
+    let out = directory.path("list");
+    let words = |out: &Path| ullimaqsu(&[Path::new("faults"), &circuit, Path::new("-o"), out]);
+    assert_eq!(words(&out), (Some(0), String::new(), String::new()));
+    assert_eq!(directory.read("list"), faults(&circuit, &[]));
+    assert_eq!(words(&circuit), stopped(&format!("{} is one of the files that are read", circuit.display())));
+    assert_eq!(directory.read("c17.bench"), fs::read_to_string(example("c17")).expect("c17"));
+    let missing = directory.path("missing/list");
+    assert_eq!(words(&missing).0, Some(2));
+    assert_eq!(directory.names(), ["c17.bench", "list"]);
+}
+
+/// As many as there can be.
+#[test]
+fn the_largest() {
+    let directory = Directory::new("largest");
+    let text = texts::largest(&mut Random::new(5), 2048, 64);
+    let (path, named) = (directory.write("largest.bench", &text), Named::of_text(&text));
+    assert_eq!(faults(&path, &["--pins"]), named.fault_lines(&named.faults(true)));
+    assert!(faults(&path, &["--pins", "--collapse"]).lines().count() < named.faults(true).len());
+}
