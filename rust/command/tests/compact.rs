@@ -1,7 +1,7 @@
 //! `ullimaqsu compact` and `ullimaqsu audit` against the second program.
 mod harness;
 
-use cases::{circuits, drawn, tables, texts, Directory, Random};
+use cases::{circuits, tables, texts, Directory, Random};
 use harness::json::Json;
 use harness::named::{letters, pattern_lines, Named};
 use harness::{example, printed, refused, stopped, ullimaqsu, Said};
