@@ -104,7 +104,7 @@ fn places_of_names() {
 fn chain(lines: usize) -> Vec<u8> {
     let gates: String =
         (1..=(lines - 1) / 2).map(|k| format!("{k}=OR({0},{0},a)\n", if k == 1 { "a".to_string() } else { (k - 1).to_string() })).collect();
-    let last = if lines % 2 == 0 { "z=NOT(1)\n" } else { "" };
+    let last = if lines.is_multiple_of(2) { "z=NOT(1)\n" } else { "" };
     format!("INPUT(a)\nOUTPUT(1)\n{gates}{last}").into_bytes()
 }
 
@@ -116,16 +116,16 @@ fn sizes() {
     let long = chain(3001);
     assert_eq!(
         narrow(&directory, &long),
-        Err("with gates of two sources this circuit has 3001 lines, and a circuit has at most 2048".to_string())
+        Err("with gates of two sources this circuit has 3,001 lines, and a circuit has at most 2,048".to_string())
     );
 
     // to the last line
     let wide = |sources: usize| format!("INPUT(a)\nOUTPUT(y)\ny=AND(a{})", ",a".repeat(sources - 1)).into_bytes();
     let said = narrow(&directory, &wide(2049)).expect_err("too many lines");
-    assert_eq!(said, "with gates of two sources this circuit has 2049 lines, and a circuit has at most 2048");
+    assert_eq!(said, "with gates of two sources this circuit has 2,049 lines, and a circuit has at most 2,048");
     let said = narrow(&directory, &wide(2048)).expect_err("too many bytes");
     assert!(
-        said.starts_with("with gates of two sources this text has ") && said.ends_with(" bytes, and a text has at most 32768"),
+        said.starts_with("with gates of two sources this text has ") && said.ends_with(" bytes, and a text has at most 32,768"),
         "{said}"
     );
 
@@ -135,12 +135,12 @@ fn sizes() {
     let full = narrowed(&directory, &filled(32_768 - without));
     assert!(full.len() == 32_768 && accepted(&full));
     let said = narrow(&directory, &filled(32_769 - without));
-    assert_eq!(said, Err("with gates of two sources this text has 32769 bytes, and a text has at most 32768".to_string()));
+    assert_eq!(said, Err("with gates of two sources this text has 32,769 bytes, and a text has at most 32,768".to_string()));
 
     // a text may be larger than what becomes of it
     let blanks = [&b"INPUT(a)\nOUTPUT(y)\ny=AND(a,"[..], &vec![b' '; 1_000_000], b"a,a)"].concat();
     assert_eq!(narrowed(&directory, &blanks), b"INPUT(a)\nOUTPUT(y)\ny_1 = AND(a, a)\ny=AND(y_1, a)");
-    let file = directory.write("wide.bench", &vec![b'#'; (1 << 20) + 1]);
+    let file = directory.write("wide.bench", vec![b'#'; (1 << 20) + 1]);
     let said = ullimaqsu(&[Path::new("narrow"), &file]);
     assert_eq!(said, (Some(2), String::new(), format!("ullimaqsu: {} has more than 1 MiB\n", file.display())));
     assert_eq!(directory.names(), ["wide.bench"]);
