@@ -273,9 +273,9 @@ pub fn bench(text: &[u8], circuit: &mut [u8]) -> Result<u64, Refusal> {
 /// The most lines that a circuit has, and the number of places that [`bench_names`] is lent.
 pub const MOST_LINES: usize = 2_048;
 
-/// The names of a text's lines: for each line of the circuit that [`bench`] writes of the text, in line order, the first byte of its name where
-/// the text defines it, and the number of lines. The name is the letters, digits and underscores from there on. What follows in the places
-/// stays. A refusal, which is the one that [`bench`] gives, writes nothing.
+/// The names of a text's lines: puts, for each line of the circuit that [`bench`] writes of the text, in line order, the first byte of its name
+/// where the text defines it, and gives the number of lines. The name is the letters, digits and underscores from there on. What follows in
+/// the places stays. The refusals are those of [`bench`], and a refusal writes nothing.
 ///
 /// ```
 /// use ullimaqsu::{bench_names, MOST_LINES};
