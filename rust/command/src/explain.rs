@@ -12,8 +12,8 @@ use ullimaqsu::{refusals, Refusal};
 pub const MOST_BYTES: usize = 32_768;
 
 const SYNTAX: u32 = 14;
-const NAME: u32 = 15;
-const CYCLE: u32 = 16;
+pub const NAME: u32 = 15;
+pub const CYCLE: u32 = 16;
 
 pub fn explain(text: &[u8], refusal: &Refusal) -> String {
     if refusal.number == SYNTAX && refusal.place == MOST_BYTES as u64 && text.len() > MOST_BYTES {

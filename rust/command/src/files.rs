@@ -41,7 +41,7 @@ fn unreadable(path: &Path, error: io::Error) -> Problem {
 }
 
 /// The reason, without the number that only this machine knows.
-fn why(error: &io::Error) -> String {
+pub fn why(error: &io::Error) -> String {
     let reason = error.to_string();
     reason.split(" (os error").next().unwrap_or_default().to_string()
 }

@@ -11,7 +11,7 @@ mod edit;
 mod fresh;
 mod tree;
 
-use crate::explain::{explain_statements, MOST_BYTES};
+use crate::explain::{explain_statements, CYCLE, MOST_BYTES, NAME};
 use crate::notation::{at_place, Gate, Spelling, Text};
 use edit::{Edit, Edited};
 use fresh::Fresh;
@@ -25,16 +25,27 @@ pub fn narrowed(text: &[u8]) -> Result<Vec<u8>, String> {
     let text = Text::read(text, Spelling::Wide).map_err(|stuck| at_place(text, stuck.at, &stuck.says))?;
     let lines = text.definitions().count() + text.gates().map(made_for).sum::<usize>();
     if lines > MOST_LINES {
-        return Err(format!("with gates of two sources this circuit has {lines} lines, and a circuit has at most {MOST_LINES}"));
+        return Err(too_large("circuit", lines, "lines", MOST_LINES));
     }
     let narrow = rewritten(&text);
-    let bytes = narrow.bytes.len();
-    if bytes > MOST_BYTES {
-        return Err(format!("with gates of two sources this text has {bytes} bytes, and a text has at most {MOST_BYTES}"));
+    if narrow.bytes.len() > MOST_BYTES {
+        return Err(too_large("text", narrow.bytes.len(), "bytes", MOST_BYTES));
     }
     match ullimaqsu::bench(&narrow.bytes, &mut [0; LARGEST_CIRCUIT]) {
         Ok(_) => Ok(narrow.bytes),
         Err(refusal) => Err(explain_statements(&text, &of_the_original(&text, &narrow, refusal))),
+    }
+}
+
+fn too_large(what: &str, count: usize, of: &str, most: usize) -> String {
+    format!("with gates of two sources this {what} has {} {of}, and a {what} has at most {}", thousands(count), thousands(most))
+}
+
+/// A number as people read it.
+fn thousands(number: usize) -> String {
+    match number {
+        0..1000 => number.to_string(),
+        _ => format!("{},{:03}", thousands(number / 1000), number % 1000),
     }
 }
 
@@ -56,8 +67,8 @@ fn made_for(gate: &Gate) -> usize {
 fn of_the_original(text: &Text, narrow: &Edited, refusal: Refusal) -> Refusal {
     let place = usize::try_from(refusal.place).unwrap_or(usize::MAX);
     let place = match refusal.number {
-        15 => narrow.origin(place),
-        16 => gate_of(text, place),
+        NAME => narrow.origin(place),
+        CYCLE => gate_of(text, place),
         _ => place,
     };
     Refusal::new(refusal.number, place as u64)

@@ -4,7 +4,7 @@ mod harness;
 use harness::{after, into_broken, into_full, root, run, said, ullimaqsu, Directory, Said, COMMAND};
 use std::fs::{self, File, OpenOptions, Permissions};
 use std::io::{pipe, ErrorKind, PipeReader, PipeWriter, Read, Write};
-use std::os::unix::fs::{symlink, FileTypeExt, OpenOptionsExt, PermissionsExt};
+use std::os::unix::fs::{chown, symlink, FileTypeExt, MetadataExt, OpenOptionsExt, PermissionsExt};
 use std::os::unix::net::UnixListener;
 use std::os::unix::process::ExitStatusExt;
 use std::path::{Path, PathBuf};
@@ -46,7 +46,7 @@ fn make(tool: &str, words: &[&str], path: &Path) -> bool {
 #[test]
 fn commands() {
     let directory = Directory::new("a command");
-    let file = directory.write("c 17.bench", &c17());
+    let file = directory.write("c 17.bench", c17());
 
     // beside the file, over what stands there
     let beside = directory.write("circuit.rec", OLD);
@@ -64,9 +64,12 @@ fn commands() {
     assert!(has_records(&beside));
     assert_eq!(bench(&[&wrong, &directory.0.join("none")]).0, Some(1));
 
-    // a directory that is not there gets no file of its name
-    let missing = directory.0.join("missing/");
-    stopped(bench(&[&file, &missing]), &format!("there is no directory {}", missing.display()));
+    // a directory that is not there gets no file of its name, nor does a file become one
+    for missing in ["missing/", "missing/.", "missing/..", "other/", "other/."].map(|name| directory.0.join(name)) {
+        stopped(bench(&[&file, &missing]), &format!("there is no directory {}", missing.display()));
+    }
+    stopped(bench(&[&file, Path::new("")]), "the directory of  is missing");
+    assert!(has_records(&other));
 
     // nothing is run: too few words, too many
     stopped(bench(&[]), "--help");
@@ -116,7 +119,7 @@ fn device(directory: &Directory) -> PathBuf {
 #[test]
 fn other_things_than_files() {
     let directory = Directory::new("things");
-    let file = directory.write("text.bench", &c17());
+    let file = directory.write("text.bench", c17());
     let path = |name: &str| directory.0.join(name);
     let (pipe, socket, device) = (path("pipe"), path("socket"), device(&directory));
     assert!(make("mkfifo", &[], &pipe));
@@ -157,7 +160,7 @@ fn other_things_than_files() {
 #[test]
 fn links_to_files() {
     let directory = Directory::new("links");
-    let file = directory.write("text.bench", &c17());
+    let file = directory.write("text.bench", c17());
     fs::create_dir(directory.0.join("below")).expect("a directory");
     let real = directory.write("below/real.rec", OLD);
     let (near, far) = (directory.0.join("near"), directory.0.join("below/far"));
@@ -173,7 +176,7 @@ fn links_to_files() {
 #[test]
 fn the_text_itself() {
     let directory = Directory::new("itself");
-    let file = directory.write("circuit.rec", &c17());
+    let file = directory.write("circuit.rec", c17());
     let (link, second) = (directory.0.join("link"), directory.0.join("second"));
     symlink("circuit.rec", &link).expect("a link");
     fs::hard_link(&file, &second).expect("a second name");
@@ -189,7 +192,7 @@ fn the_text_itself() {
 #[test]
 fn directories_that_take_nothing() {
     let directory = Directory::new("nowhere");
-    let file = directory.write("text.bench", &c17());
+    let file = directory.write("text.bench", c17());
     for out in [&directory.0.join("absent/out"), &directory.0.join("text.bench/out"), Path::new("/proc/ullimaqsu")] {
         stopped(bench(&[&file, out]), &out.display().to_string());
     }
@@ -204,7 +207,7 @@ fn mode(path: &Path) -> u32 {
 #[test]
 fn modes() {
     let directory = Directory::new("modes");
-    let file = directory.write("text.bench", &c17());
+    let file = directory.write("text.bench", c17());
     let out = directory.write("out", OLD);
     for protected in [0o444, 0o464, 0o0] {
         fs::set_permissions(&out, Permissions::from_mode(protected)).expect("a mode");
@@ -225,13 +228,29 @@ fn modes() {
     assert_eq!(directory.names(), ["000", "027", "077", "out", "text.bench"]);
 }
 
+/// What is replaced keeps its owner where the caller may give files away, as root may.
+#[test]
+fn owners() {
+    let directory = Directory::new("owners");
+    let (file, out) = (directory.write("text.bench", c17()), directory.write("out", OLD));
+    let owner = || fs::metadata(&out).map(|of| (of.uid(), of.gid())).expect("a file");
+    let given = chown(&out, Some(12_345), Some(23_456)).is_ok();
+    fs::set_permissions(&out, Permissions::from_mode(0o4664)).expect("a mode");
+    let before = owner();
+    assert_eq!(bench(&[&file, &out]).0, Some(0));
+    assert_eq!((has_records(&out), mode(&out), owner()), (true, 0o4664, before));
+    if !given {
+        println!("NOT compared: owners other than the caller, who is not root");
+    }
+}
+
 /// Names are names, whatever they begin or end with, and messages stay on one line.
 #[test]
 fn odd_names() {
     let directory = Directory::new("odd\n");
     let here = |names: &[&str]| run(Command::new(COMMAND).args(["bench", "--"]).args(names).current_dir(&directory.0));
     for name in ["-f", "--", "-", "!", "(", " a b ", "a\nb", "end\n", "\\n", "*", "ä"] {
-        directory.write(name, &c17());
+        directory.write(name, c17());
         let out = format!("{name}.{name}");
         assert_eq!(here(&[name, &out]), (Some(0), COUNTS.to_string(), String::new()), "{name:?}");
         assert!(has_records(&directory.0.join(&out)), "{name:?}");
@@ -242,7 +261,7 @@ fn odd_names() {
         assert!(has_records(&directory.0.join(&out)), "{name:?}");
     }
     // the directory's own name ends in a line feed
-    let file = directory.write("text", &c17());
+    let file = directory.write("text", c17());
     assert_eq!(bench(&[&file]).0, Some(0));
     assert!(has_records(&directory.0.join("circuit.rec")));
 }
@@ -251,7 +270,7 @@ fn odd_names() {
 #[test]
 fn what_can_not_be_printed_or_written() {
     let directory = Directory::new("full");
-    let (file, out) = (directory.write("text.bench", &c17()), directory.write("out", OLD));
+    let (file, out) = (directory.write("text.bench", c17()), directory.write("out", OLD));
     let wrong = directory.write("wrong.bench", b"input(a)\n");
     for text in [&file, &wrong] {
         stopped(into_full(&words(&[text, &out])), "standard output could not be written");
@@ -269,7 +288,7 @@ fn what_can_not_be_printed_or_written() {
 #[test]
 fn closed_streams() {
     let directory = Directory::new("closed");
-    let (file, out) = (directory.write("text.bench", &c17()), directory.write("out", OLD));
+    let (file, out) = (directory.write("text.bench", c17()), directory.write("out", OLD));
     let wrong = directory.write("wrong.bench", b"input(a)\n");
     let (status, _, line) = run(&mut after("exec >&-", &words(&[&wrong, &out])));
     assert_eq!((status, line.lines().count()), (Some(1), 1), "{line}");
@@ -336,7 +355,7 @@ fn signals() {
 #[test]
 fn the_new_file() {
     let directory = Directory::new("new");
-    let (file, out) = (directory.write("text.bench", &c17()), directory.write("out", OLD));
+    let (file, out) = (directory.write("text.bench", c17()), directory.write("out", OLD));
     let mut names = vec![];
     for _ in 0..2 {
         let (mut reads, writes) = full_pipe();

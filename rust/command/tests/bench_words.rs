@@ -72,10 +72,10 @@ fn check_syntax(text: &[u8], place: usize, words: &str) {
 
 /// What helps: `narrow` where a gate of two sources has a third, and capitals where a keyword that takes brackets has none.
 fn hint_at(before: &[u8], found: Option<u8>, listed: &[u8]) -> &'static str {
-    let sources = before.iter().rev().take_while(|&&byte| byte != b'(');
-    match found {
-        Some(b',') if sources.filter(|&&byte| byte == b',').count() == 1 => "`./ullimaqsu narrow` rewrites gates of three and more sources",
-        Some(b'(') if listed == b"=" => "only INPUT and OUTPUT, in capitals, are followed by `(`",
+    let second = before.iter().rev().find(|&&byte| byte == b'(' || byte == b',') == Some(&b',');
+    match (listed, found) {
+        (b")", Some(b',')) if second => "`./ullimaqsu narrow` rewrites gates of three and more sources",
+        (b"=", Some(b'(')) => "only INPUT and OUTPUT, in capitals, are followed by `(`",
         _ => "",
     }
 }

@@ -92,7 +92,7 @@ fn random_circuits() {
     };
     drawn(3, 50, texts::small).for_each(|text| one(Named::of_text(&text), &directory.write("text", &text)));
     drawn(4, 30, circuits::small).for_each(|records| one(Named::of_records(&records), &directory.write("records", &records)));
-    assert!(seen.iter().all(|&times| times > 20), "{seen:?}");
+    assert!(seen.iter().all(|&times| times > 0), "{seen:?}");
 }
 
 /// Around the most that a call of the library takes, and well above.
@@ -101,7 +101,8 @@ fn many_faults_and_patterns() {
     let (directory, random) = (Directory::new("many"), &mut Random::new(5));
     let named = Named::of_text(&fs::read(example("c17")).expect("c17"));
     for (fault_count, pattern_count) in [(256, 256), (257, 1), (1, 257), (300, 10), (3, 11), (10, 513), (520, 300)] {
-        compare(&directory, &example("c17"), &named, &named.given(random, fault_count, pattern_count));
+        let seen = compare(&directory, &example("c17"), &named, &named.given(random, fault_count, pattern_count));
+        assert!(fault_count * pattern_count < 1000 || seen.iter().all(|&times| times > 20), "{seen:?}");
     }
 }
 

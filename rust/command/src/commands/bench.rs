@@ -1,4 +1,4 @@
-//! `bench`: the records of a text in the bench notation.
+//! The records of a text in the bench notation.
 use super::Command;
 use crate::explain::{explain, MOST_BYTES};
 use crate::files;
@@ -15,42 +15,32 @@ pub const COMMAND: Command = Command {
     wants: "a file, and perhaps where to write",
     counts: 1..=2,
     choices: &[],
-    says: "reads a circuit in the bench notation and writes its records",
-    more: "The records go to circuit.rec beside FILE, or to OUT. It says how many lines, inputs and outputs the circuit has; or `refused`, number and place, \
-           and what is wrong at which line and column of FILE.\n\n\
-           OUT is replaced as a whole when all has gone well, the report included, and else stays. It is new or a regular file that is not \
-           write-protected, or a link to one. Gates of three and more sources are refused; narrow rewrites them.",
+    says: "reads a circuit in the bench notation and writes its records to circuit.rec beside FILE, or to OUT",
+    more: "\
+It says how many lines, inputs and outputs the circuit has; or `refused`, number and place, and what is wrong at which line and column of FILE.
+
+OUT is replaced as a whole when all has gone well, the report included, and else stays. It is new or a regular file that is not write-protected, or a
+link to one. A circuit with gates of three and more sources is refused; ullimaqsu narrow rewrites them.",
     example: "ullimaqsu bench examples/bench/adder16.bench /tmp/adder16.rec",
     run,
 };
 
 fn run(words: &Words, out: &mut Out) -> Result<(), Problem> {
     let file = words.at(0);
-    need_text(file)?;
+    let text = files::read(file, MOST_BYTES + 1)?;
     let path = words.path(1).map_or_else(|| beside(file), |path| Ok(path.to_path_buf()))?;
     let place = Place::find(&path, &[Source { path: file, called: "the text itself" }])?;
-    let text = files::read(file, MOST_BYTES + 1)?;
     match records(&text) {
         Ok((records, counts)) => {
             let new = place.write(&records)?;
-            out.print(&format!("lines {}, inputs {}, outputs {}\n", counts.lines, counts.inputs, counts.outputs))?;
-            // a report that can't be printed is a failure too
-            out.flush()?;
+            // a report that can't be printed is a failure too: what stands there then stays
+            report(out, &format!("lines {}, inputs {}, outputs {}\n", counts.lines, counts.inputs, counts.outputs))?;
             new.take_place()
         }
         Err(refusal) => {
-            out.print(&format!("refused {} {}\n", refusal.number, refusal.place))?;
-            out.flush()?;
+            report(out, &format!("refused {} {}\n", refusal.number, refusal.place))?;
             Err(Problem::Refused(format!("{}: {}", shown(file), explain(&text, &refusal))))
         }
-    }
-}
-
-/// What is missing, or is a directory, is told before anything is said of where to write. A pipe is opened only once.
-fn need_text(file: &Path) -> Result<(), Problem> {
-    match file.metadata() {
-        Ok(of) if !of.is_dir() => Ok(()),
-        _ => files::read(file, 0).map(|_| ()),
     }
 }
 
@@ -68,4 +58,9 @@ fn records(text: &[u8]) -> Result<(Vec<u8>, Counts), Refusal> {
     records.truncate(8 * count as usize);
     let counts = check(&records)?;
     Ok((records, counts))
+}
+
+fn report(out: &mut Out, line: &str) -> Result<(), Problem> {
+    out.print(line)?;
+    out.flush()
 }

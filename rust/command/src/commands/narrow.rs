@@ -1,4 +1,4 @@
-//! `narrow`: a text with gates of three and more sources as one that the library reads.
+//! A text with gates of three and more sources as one that the library reads.
 use super::Command;
 use crate::files;
 use crate::narrow::narrowed;
@@ -16,29 +16,29 @@ pub const COMMAND: Command = Command {
     usage: "FILE [-o OUT]",
     wants: "a file in the bench notation",
     counts: 1..=1,
-    choices: &[Choice { name: "-o", value: Some("a file"), says: "writes the text to this file" }],
-    says: "rewrites gates of three and more sources as trees of gates of two",
-    more: "Such a gate becomes a balanced tree: y = NAND(a, b, c, d) becomes y_1 = AND(a, b), y_2 = AND(c, d) and y = NAND(y_1, y_2). The gates that are made \
-           stand in lines before the gate's own and have names that the text does not have, of 16 letters at most. Every other name keeps its \
-           value under every pattern. Comments, blanks, line ends and all other lines stay as they are; only keywords in small letters are put in \
-           capitals, and BUF becomes BUFF.\n\n\
-           FILE may have 1 MiB. What is then no text that the other commands read is refused with line and column, or because it has more than \
-           32,768 bytes or 2,048 lines, and nothing is written.",
+    choices: &[Choice { name: "-o", value: Some("OUT"), says: "writes the text to OUT" }],
+    says: "rewrites gates of three and more sources as trees of gates of two, which the other commands read",
+    more: "\
+Such a gate becomes a balanced tree: y = NAND(a, b, c, d) becomes y_1 = AND(a, b), y_2 = AND(c, d) and y = NAND(y_1, y_2). The gates that are made
+stand in lines before the gate's own, and their names, of 16 letters at most, are no names of the text. Every name of the text keeps its value under
+every pattern, X's included. Comments, blanks, line ends and all other lines stay as they are; only keywords in small letters are put in capitals,
+and BUF becomes BUFF.
+
+FILE has at most 1 MiB. What is no text of the notation but for such gates and keywords is refused with line and column, and so is what then has more
+than 32,768 bytes or 2,048 lines; nothing is written then. A gate of one source is BUFF or NOT, and no AND or OR.",
     example: "ullimaqsu narrow examples/wide.bench",
     run,
 };
 
 fn run(words: &Words, out: &mut Out) -> Result<(), Problem> {
     let file = words.at(0);
-    let sources = [Source { path: file, called: "the text itself" }];
-    let place = words.value("-o").map(|path| Place::find(Path::new(path), &sources)).transpose()?;
     let text = files::read(file, MOST_BYTES + 1)?;
     if text.len() > MOST_BYTES {
         return Err(Problem::Stopped(format!("{} has more than {} MiB", shown(file), MOST_BYTES >> 20)));
     }
     let narrow = narrowed(&text).map_err(|says| Problem::Refused(format!("{}: {says}", shown(file))))?;
-    match place {
-        Some(place) => place.write(&narrow)?.take_place(),
+    match words.value("-o") {
+        Some(path) => Place::find(Path::new(path), &[Source { path: file, called: "the text itself" }])?.write(&narrow)?.take_place(),
         None => out.print_bytes(&narrow),
     }
 }

@@ -16,14 +16,13 @@ impl Fresh {
 
     /// A name with the next number that is free, cut where it would be too long.
     pub fn name(&mut self, of: &str) -> String {
-        for number in 1.. {
+        let numbered = |number: u32| {
             let end = format!("_{number}");
             let begin: String = of.chars().take(LONGEST_NAME - end.len()).collect();
-            let name = begin + &end;
-            if self.0.insert(name.clone()) {
-                return name;
-            }
-        }
-        unreachable!("a text has fewer names than there are numbers")
+            begin + &end
+        };
+        let name = (1..).map(numbered).find(|name| !self.0.contains(name)).expect("a text has fewer names than there are numbers");
+        self.0.insert(name.clone());
+        name
     }
 }

@@ -1,6 +1,7 @@
 //! The new file, until it takes its place.
 use super::Place;
-use crate::problem::{shown, Problem};
+use crate::files::why;
+use crate::problem::Problem;
 use std::collections::hash_map::RandomState;
 use std::fs::{self, File, OpenOptions};
 use std::hash::{BuildHasher, Hasher};
@@ -34,9 +35,10 @@ impl New {
     /// It takes its place, with the mode and as far as may be the owner of what stood there. What has become a directory meanwhile stays.
     pub fn take_place(mut self) -> Result<(), Problem> {
         if let Some(old) = &self.place.old {
-            // the mode last, as a change of owners takes some of its bits; not everybody may give files away
+            // not everybody may give files away, and where there are no modes nobody can set them: what is new is then the caller's own. The mode
+            // comes last, as a change of owners takes some of its bits
             let _ = chown(&self.path, Some(old.uid()), Some(old.gid()));
-            fs::set_permissions(&self.path, old.permissions()).map_err(|error| self.unwritten(error))?;
+            let _ = fs::set_permissions(&self.path, old.permissions());
         }
         fs::rename(&self.path, &self.place.path).map_err(|error| self.unwritten(error))?;
         self.placed = true;
@@ -44,7 +46,7 @@ impl New {
     }
 
     fn unwritten(&self, error: io::Error) -> Problem {
-        Problem::Stopped(format!("{} could not be written: {}", self.place.shown, shown(error.to_string())))
+        Problem::Stopped(format!("{} could not be written: {}", self.place.shown, why(&error)))
     }
 }
 

@@ -27,31 +27,13 @@ pub struct Place {
 }
 
 impl Place {
-    /// What stands there must be a file that the caller may write to, and its owner too: the mode is looked at since nothing keeps root from
-    /// writing.
     pub fn find(path: &Path, sources: &[Source]) -> Result<Place, Problem> {
-        let stop = |says: &str| Err(Problem::Stopped(format!("{} {says}", shown(path))));
-        let Ok(old) = path.metadata() else {
-            if path.is_symlink() {
-                return stop("is a link to nothing");
-            }
-            return Ok(Place { shown: shown(path), path: new_path(path)?, old: None });
+        let old = path.metadata().ok();
+        let real = match &old {
+            Some(old) => standing(path, old, sources),
+            None => absent(path),
         };
-        if old.is_dir() {
-            return stop("is a directory");
-        }
-        if let Some(source) = sources.iter().find(|source| source.path.metadata().is_ok_and(|of| same_file(&of, &old))) {
-            return stop(&format!("is {}", source.called));
-        }
-        let Some(real) = path.canonicalize().ok().filter(|_| old.is_file()) else { return stop("is no regular file") };
-        // what a link of the system leads to may be a file that has no name any more
-        if !real.metadata().is_ok_and(|of| same_file(&of, &old)) {
-            return stop("is no regular file");
-        }
-        if old.permissions().mode() & OWNER_WRITES == 0 || OpenOptions::new().write(true).open(&real).is_err() {
-            return stop("is write-protected");
-        }
-        Ok(Place { shown: shown(path), path: real, old: Some(old) })
+        Ok(Place { shown: shown(path), path: real.map_err(Problem::Stopped)?, old })
     }
 
     /// Makes the new file, and writes it.
@@ -60,22 +42,48 @@ impl Place {
     }
 }
 
-fn same_file(one: &Metadata, other: &Metadata) -> bool {
-    (one.dev(), one.ino()) == (other.dev(), other.ino())
+/// The real path of what stands there. It must be a file that the caller may write to, and its owner too: the mode is looked at since nothing keeps
+/// root from writing.
+fn standing(path: &Path, old: &Metadata, sources: &[Source]) -> Result<PathBuf, String> {
+    let stop = |says: &str| Err(format!("{} {says}", shown(path)));
+    if old.is_dir() {
+        return stop("is a directory");
+    }
+    if let Some(source) = sources.iter().find(|source| leads_to(source.path, old)) {
+        return stop(&format!("is {}", source.called));
+    }
+    // the real path leads elsewhere where the system has a link to a file that has lost its name
+    let real = match path.canonicalize() {
+        Ok(real) if old.is_file() && leads_to(&real, old) => real,
+        _ => return stop("is no regular file"),
+    };
+    let protected = old.permissions().mode() & OWNER_WRITES == 0 || OpenOptions::new().write(true).open(&real).is_err();
+    if protected {
+        return stop("is write-protected");
+    }
+    Ok(real)
 }
 
-/// The path of a file that is not there, in its directory, which must be. A name that ends like a directory's is none of a file.
-fn new_path(path: &Path) -> Result<PathBuf, Problem> {
+fn leads_to(path: &Path, file: &Metadata) -> bool {
+    path.metadata().is_ok_and(|of| (of.dev(), of.ino()) == (file.dev(), file.ino()))
+}
+
+/// The real path of a file that is not there, in a directory that is.
+fn absent(path: &Path) -> Result<PathBuf, String> {
+    if path.is_symlink() {
+        return Err(format!("{} is a link to nothing", shown(path)));
+    }
+    // by its bytes, since what ends in a slash or in dots names a directory, which is then missing
     let bytes = path.as_os_str().as_bytes();
     let (directory, name) = match bytes.iter().rposition(|&byte| byte == b'/') {
+        Some(slash) => bytes.split_at(slash + 1),
         None => (&b"."[..], bytes),
-        Some(slash) => (&bytes[..=slash], &bytes[slash + 1..]),
     };
-    if let (b"" | b"." | b"..", false) = (name, bytes.is_empty()) {
-        return Err(Problem::Stopped(format!("there is no directory {}", shown(path))));
+    if !bytes.is_empty() && matches!(name, b"" | b"." | b"..") {
+        return Err(format!("there is no directory {}", shown(path)));
     }
     match fs::canonicalize(OsStr::from_bytes(directory)) {
         Ok(directory) if directory.is_dir() && !name.is_empty() => Ok(directory.join(OsStr::from_bytes(name))),
-        _ => Err(Problem::Stopped(format!("the directory of {} is missing or can't be entered", shown(path)))),
+        _ => Err(format!("the directory of {} is missing or can't be entered", shown(path))),
     }
 }
