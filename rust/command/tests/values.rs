@@ -255,7 +255,9 @@ fn random_circuits() {
     let mut verdicts = HashMap::new();
     let mut look = |path: &Path, named: &Named| {
         // few are unknown, and each circuit is asked for one
-        let unknown = (0..30).map(|_| Case::drawn(&mut random, named)).find(|case| case.verdict().is_some_and(|verdict| verdict.starts_with("unknown")));
+        let unknown = (0..30)
+            .map(|_| Case::drawn(&mut random, named))
+            .find(|case| case.verdict().is_some_and(|verdict| verdict.starts_with("unknown")));
         let case = unknown.unwrap_or_else(|| Case::drawn(&mut random, named));
         compare(&directory, path, &case);
         *verdicts.entry(case.verdict().map(|verdict| verdict[..4].to_string())).or_insert(0) += 1;
