@@ -1,5 +1,5 @@
 //! `./ullimaqsu` and what it says.
-use crate::directory::root;
+use cases::directory::root;
 #[allow(unused_imports)] // not every test asks for all
 pub use cases::said::{run, said, Said};
 use std::ffi::OsStr;
