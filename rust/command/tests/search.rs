@@ -145,6 +145,16 @@ fn many_inputs() {
     assert!(said.ends_with("2 faults: 1 test, 0 redundant, 1 given up\n"), "{said}");
 }
 
+/// Without a budget the search looks at a million nodes, here of the 2^65 that it would need: a parity and its opposite are never both 1.
+#[test]
+fn the_budget_if_nothing_is_said() {
+    let directory = Directory::new("budget");
+    let never = [circuits::record(circuits::NOT, false, 126, 0), circuits::record(circuits::AND, true, 126, 127)].concat();
+    let path = directory.write("never.rec", [circuits::parity(), never].concat());
+    let said = printed(&["search", path.to_str().expect("text"), "128/0", "--csv"]);
+    assert!(said.ends_with(&format!("\n128/0,given up,1000000{}\n", ",".repeat(64))), "{said}");
+}
+
 /// Faults as words and as a file give the same; and each test, used as a pattern, fails its fault.
 #[test]
 fn tests_as_patterns() {

@@ -60,6 +60,7 @@ fn run(words: &Words, out: &mut Out) -> Result<(), Problem> {
     let faults = asked(words, &circuit)?;
     let mut printer = Printer::new(form, &circuit, &faults, budget);
     out.print(&printer.head())?;
+    out.flush()?;
     let found = search_all(&circuit, &faults, budget, |piece| {
         piece.iter().try_for_each(|found| out.print(&printer.line(found)))?;
         out.flush()
