@@ -246,10 +246,10 @@ uint32_t ullimaqsu_bench(const uint8_t *text, size_t text_len,
                          uint8_t *circuit, size_t circuit_len,
                          uint8_t *answer, size_t answer_len);
 
-/* The names of a bench text's lines. Refusals as of the bench reader: 14, 15, 16, then 1, 4, 5 on the records, then 10.
-   For each line of the records that ullimaqsu_bench writes of this text, in line order: the first byte, in the text, of the line's name where
-   the text defines it, in its INPUT or at the beginning of its equation. The name is the letters, digits and underscores from there on. There
-   are exactly 2,048 places, room for the largest circuit; those after the last line stay.
+/* The names of a bench text's lines. Refusals 14, 15, 16, then 1, 4, 5 on the records, then 10, as for the bench reader.
+   Writes a place for each line of the records that ullimaqsu_bench writes of this text, in line order: the first byte, in the text, of the
+   line's name where the text defines it, in its INPUT or at the beginning of its equation. The name is the letters, digits and underscores
+   from there on. There are exactly 2,048 places, room for the largest circuit; those that follow the last line's stay.
    Answer: the number of records. */
 uint32_t ullimaqsu_bench_names(const uint8_t *text, size_t text_len,
                                uint32_t *places, size_t places_len,

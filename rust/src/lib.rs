@@ -1,7 +1,8 @@
 //! Safe calls of Ullimaqsu, the proved test tools for combinational circuits and single stuck-at faults.
 //!
-//! Circuits are the bytes of their records, as `include/ullimaqsu.h` describes them; [`bench`] makes them of a text in the bench notation. Every call takes any bytes; what is wrong with them
-//! comes back as a [`Refusal`]. [`raw`] has the same entries with nothing interpreted.
+//! Circuits are the bytes of their records, as `include/ullimaqsu.h` describes them; [`bench`] makes them of a text in the bench notation, and
+//! [`bench_names`] says what the text calls their lines. Every call takes any bytes; what is wrong with them comes back as a [`Refusal`].
+//! [`raw`] has the same entries with nothing interpreted.
 //!
 //! On x86-64 the archive is linked. Elsewhere each thread that calls starts the bridge, an x86-64 program under the kit's emulator:
 //! right for tests, and slow.
@@ -273,9 +274,9 @@ pub fn bench(text: &[u8], circuit: &mut [u8]) -> Result<u64, Refusal> {
 /// The most lines that a circuit has, and the number of places that [`bench_names`] is lent.
 pub const MOST_LINES: usize = 2_048;
 
-/// The names of a text's lines: for each line of the circuit that [`bench`] writes of the text, in line order, the first byte of its name where
-/// the text defines it, and the number of lines. The name is the letters, digits and underscores from there on. What follows in the places
-/// stays. A refusal, which is the one that [`bench`] gives, writes nothing.
+/// The names of a text's lines: writes a place for each line of the circuit that [`bench`] writes of the text, the first byte of the line's
+/// name where the text defines it, and gives the number of lines. The name is the letters, digits and underscores from there on. What follows
+/// the last line's place stays. The refusals are those of [`bench`], and a refusal writes nothing.
 ///
 /// ```
 /// use ullimaqsu::{bench_names, MOST_LINES};

@@ -1,16 +1,19 @@
-//! Berkeley ABC's reading of the bench notation beside the library's: the records that the library makes of a text, written as BLIF, are
-//! equivalent to what ABC reads in the text itself. Where ABC is missing, this says so and compares nothing; `.ci/abc` installs it.
+//! Berkeley ABC's reading of the bench notation beside the library's: the records that the library makes of a text, written as BLIF with the
+//! names that it gives to the lines, are equivalent to what ABC reads in the text itself. Where ABC is missing, this says so and compares
+//! nothing; `.ci/abc` installs it.
 #[path = "harness/directory.rs"]
 mod directory;
+#[path = "harness/named.rs"]
+mod named;
 
 use cases::circuits::{circuit, INPUT};
 use cases::texts::{chain, dense, gate, input, output};
 use cases::{drawn, Random};
 use directory::{root, Directory};
-use second::bench::placed;
+use named::name_at;
 use std::fs;
 use std::process::Command;
-use ullimaqsu::LARGEST_CIRCUIT;
+use ullimaqsu::{LARGEST_CIRCUIT, MOST_LINES};
 
 const ABC: &str = "berkeley-abc";
 
@@ -36,9 +39,9 @@ fn verdict(directory: &Directory, text: &[u8], spoil: bool) -> String {
     let mut circuit = vec![0; LARGEST_CIRCUIT];
     let records = ullimaqsu::bench(text, &mut circuit).expect("sound");
     circuit.truncate(8 * records as usize);
-    let line_of = placed(text).expect("sound").line_of;
-    let mut names = vec![""; records as usize];
-    line_of.iter().for_each(|(name, &line)| names[line] = std::str::from_utf8(name).expect("letters"));
+    let mut places = vec![0; MOST_LINES];
+    assert_eq!(ullimaqsu::bench_names(text, &mut places), Ok(records));
+    let names: Vec<&str> = places[..records as usize].iter().map(|&place| name_at(text, place)).collect();
     if spoil {
         let last = circuit.chunks_exact_mut(8).rfind(|record| record[1] == 1 && record[0] != INPUT).expect("a gate");
         last[0] = if last[0] % 2 == 1 { last[0] + 1 } else { last[0] - 1 }; // the same gate negated

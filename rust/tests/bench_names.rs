@@ -2,6 +2,8 @@
 #[path = "wrong/answered.rs"]
 mod answered;
 mod harness;
+#[path = "harness/named.rs"]
+mod named;
 #[path = "harness/text_cases.rs"]
 mod text_cases;
 #[path = "wrong/bench_names.rs"]
@@ -9,6 +11,7 @@ mod wrong;
 
 use cases::Random;
 use harness::{wrong_programs_are_seen, BenchNames, Case};
+use named::name_at;
 use second::bench::Text;
 use second::circuit::{Circuit, Gate, Line};
 use second::entries::{self, Seen};
@@ -68,13 +71,6 @@ fn wrong_programs() {
     wrong_programs_are_seen(&text_cases::some_of_each_sort(), wrong::PROGRAMS);
 }
 
-/// The name that begins at this byte.
-fn name_at(text: &[u8], place: u32) -> &[u8] {
-    let rest = &text[place as usize..];
-    let len = rest.iter().take_while(|&&byte| byte.is_ascii_alphanumeric() || byte == b'_').count();
-    &rest[..len]
-}
-
 /// A gate over names, or an input, and whether it is an output.
 type Definition<'a> = (Gate<&'a [u8]>, bool);
 
@@ -95,7 +91,7 @@ fn lines_are_what_the_text_defines_at_their_names() {
         let records = ullimaqsu::bench(&text, &mut circuit).expect("sound");
         assert_eq!(ullimaqsu::bench_names(&text, &mut places), Ok(records), "{text:?}");
         let circuit = Circuit::read(&circuit[..8 * records as usize]).expect("accepted");
-        let said = |line: &Line| (line.gate.over(|_, source| name_at(&text, places[source])), line.output);
+        let said = |line: &Line| (line.gate.over(|_, source| name_at(&text, places[source]).as_bytes()), line.output);
         let lines: HashMap<u32, Definition> = places.iter().zip(&circuit.lines).map(|(&place, line)| (place, said(line))).collect();
         assert_eq!(lines, definitions(&Text::read(&text).expect("right in syntax")), "{text:?}");
     }

@@ -3,22 +3,19 @@
 mod command;
 #[path = "harness/directory.rs"]
 mod directory;
-#[path = "harness/unheard.rs"]
-mod unheard;
 #[path = "harness/x86.rs"]
 mod x86;
 
 use cases::circuits::{circuit, record, small, BUFFER};
 use cases::faults::{patterns, some};
 use cases::{damage, drawn, Random, Tally};
-use command::ullimaqsu;
+use command::{run, script, ullimaqsu};
 use directory::{root, Directory};
 use second::Files;
-use std::os::unix::fs::symlink;
 use std::path::Path;
+use std::process::Command;
 use std::time::Instant;
 use std::{fs, thread};
-use unheard::unheard;
 use x86::program;
 
 /// What the program prints in a directory.
@@ -145,41 +142,16 @@ fn examples() {
     }
 }
 
-/// What the command gives where it stops: status 2, and one line that says why.
-fn stopped(why: String) -> (Option<i32>, String, String) {
-    (Some(2), String::new(), format!("ullimaqsu: {why}\n"))
-}
-
-/// `./ullimaqsu dictionary`: what the program prints, the files that are not there, and status 2 where nothing can be read, run or printed.
+/// `./ullimaqsu dictionary` prints what the program prints, unless there is no standard output. All else that it says is held to the second
+/// program where the command is.
 #[test]
-fn commands() {
-    let dictionary = |directory| ullimaqsu(&[Path::new("dictionary"), directory]);
+fn command_line() {
     let c17 = root().join("examples/c17");
     let output = fs::read_to_string(c17.join("output")).expect("output");
-    assert_eq!(dictionary(&c17), (Some(0), output, String::new()));
-
-    let directory = Directory::new("no faults");
-    directory.write("circuit.rec", &fs::read(c17.join("circuit.rec")).expect("c17"));
-    let (status, printed, said) = dictionary(&directory.0);
-    assert_eq!((status, printed.as_str()), (Some(1), "refused 6 0\n"));
-    let path = |name| directory.0.join(name).display().to_string();
-    let absent = |name| format!("there is no file {}", path(name));
-    let about = [path("faults.rec: the faults"), absent("faults.rec"), absent("patterns.rec")];
-    assert_eq!(said.lines().count(), about.len());
-    assert!(said.lines().zip(&about).all(|(line, about)| line.starts_with(&format!("ullimaqsu: {about}"))), "{said}");
-
-    // nothing is run on a file that can't be read to its end: a directory, a device, and one whose reading fails
-    let patterns = directory.0.join("patterns.rec");
-    fs::create_dir(&patterns).expect("a directory");
-    assert_eq!(dictionary(&directory.0), stopped(path("patterns.rec is a directory")));
-    fs::remove_dir(&patterns).expect("the directory");
-    for (target, why) in [("/dev/zero", "patterns.rec is no regular file"), ("/proc/self/mem", "patterns.rec can't be read")] {
-        symlink(target, &patterns).expect("a link");
-        assert_eq!(dictionary(&directory.0), stopped(path(why)));
-        fs::remove_file(&patterns).expect("the link");
-    }
-
-    for said in unheard(&[Path::new("dictionary"), &c17]).into_iter().chain([dictionary(&directory.0.join("absent"))]) {
-        assert_eq!((said.0, said.1.as_str(), said.2.lines().count()), (Some(2), "", 1), "{said:?}");
-    }
+    let words = [Path::new("dictionary"), &c17];
+    assert_eq!(ullimaqsu(&words), (Some(0), output, String::new()));
+    let closed = "ullimaqsu: standard output is closed\n";
+    let mut shell = Command::new("sh");
+    shell.args(["-c", "exec \"$@\" >&-", "sh"]).arg(script()).args(words);
+    assert_eq!(run(&mut shell), (Some(2), String::new(), closed.to_string()));
 }

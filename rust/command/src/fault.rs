@@ -86,7 +86,7 @@ pub fn load(path: &Path, circuit: &Circuit) -> Result<Vec<Fault>, Problem> {
 }
 
 fn of_records(bytes: &[u8], circuit: &Circuit) -> Result<Vec<Fault>, String> {
-    if bytes.len() % 8 > 0 {
+    if !bytes.len().is_multiple_of(8) {
         return Err(format!("records of faults have 8 bytes each, and {} bytes are no multiple of that", bytes.len()));
     }
     let one = |(place, record)| Fault::of_record(record, circuit).ok_or_else(|| Refusal::new(7, place).to_string());

@@ -51,7 +51,7 @@ pub fn load(path: &Path, circuit: &Circuit) -> Result<Vec<Pattern>, Problem> {
 
 fn of_records(bytes: &[u8], circuit: &Circuit) -> Result<Vec<Pattern>, String> {
     let inputs = circuit.counts.inputs as usize;
-    if bytes.len() % inputs > 0 {
+    if !bytes.len().is_multiple_of(inputs) {
         return Err(format!("the circuit has {}, and {} bytes are no multiple of that", count(inputs, "input"), bytes.len()));
     }
     if let Some(place) = bytes.iter().position(|&byte| byte > 2) {

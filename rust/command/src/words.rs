@@ -74,5 +74,7 @@ impl Words {
 
 fn unknown(command: &Command, word: &OsStr) -> Problem {
     let (word, names) = (shown(word), command.choices.iter().map(|choice| choice.name));
-    command.misused(&format!("has no option `{word}`{}", offered(&word, names)))
+    // one letter is like any other
+    let near = if word.starts_with("--") { offered(&word, names) } else { String::new() };
+    command.misused(&format!("has no option `{word}`{near}"))
 }

@@ -4,11 +4,6 @@ use super::BenchNames;
 use second::bench::{Text, Word};
 use second::entries::{self, Seen};
 
-/// What the second program says of another text.
-fn of_text(case: &BenchNames, text: &[u8]) -> Seen {
-    entries::bench_names(text, &case.places, &case.answer)
-}
-
 /// What the second program says, where it accepts, with the places of all lines changed.
 fn with_all(case: &BenchNames, change: impl FnOnce(&Text, &mut [u32])) -> Seen {
     then(case, 0, |seen| {
@@ -69,10 +64,10 @@ pub const PROGRAMS: [Wrong; 21] = [
     ("looks for the letters of a name alone", |case| {
         with_each(case, |_, word| case.text.windows(word.name.len()).position(|bytes| bytes == word.name).expect("it is there"))
     }),
-    ("gives the line in which a name is defined", |case| {
+    ("counts lines of the text in place of bytes", |case| {
         with_each(case, |_, word| case.text[..word.at].iter().filter(|&&byte| byte == b'\n').count())
     }),
-    ("gives the beginning of that line", |case| with_each(case, |_, word| around(&case.text, word.at).0)),
+    ("gives the beginning of a name's line", |case| with_each(case, |_, word| around(&case.text, word.at).0)),
     ("gives the byte behind a name", |case| with_each(case, |_, word| word.at + word.name.len())),
     ("is one byte late", |case| with_each(case, |_, word| word.at + 1)),
     ("is one byte early", |case| with_each(case, |_, word| word.at.saturating_sub(1))),
@@ -91,7 +86,7 @@ pub const PROGRAMS: [Wrong; 21] = [
     }),
     ("answers the number of gates", |case| then(case, 0, |seen| set_number(seen, Text::read(&case.text).expect("sound").equations.len()))),
     ("takes the last definition of a name that has two", |case| {
-        then(case, 15, |seen| *seen = of_text(case, &last_definitions(&case.text)))
+        then(case, 15, |seen| *seen = entries::bench_names(&last_definitions(&case.text), &case.places, &case.answer))
     }),
     ("looks at the places before it looks at the text", |case| places_before(case, 14)),
     ("looks at the places before it looks at the circuit", |case| places_before(case, 5)),

@@ -49,11 +49,12 @@ impl Named {
         self.circuit.inputs().map(|line| self.names[line].as_str()).collect()
     }
 
-    /// So many faults and patterns, drawn.
+    /// So many faults and patterns, drawn, with few X or many.
     pub fn given(&self, random: &mut Random, fault_count: usize, pattern_count: usize) -> Given {
         let (all, inputs) = (self.faults(true), self.inputs().len());
         let faults = (0..fault_count).map(|_| all[random.below(all.len())]).collect();
-        let mut value = || random.pick(&[None, Some(false), Some(true), Some(false), Some(true)]);
+        let known = random.pick(&[1, 2, 8]);
+        let mut value = || if random.once_in(1 + known) { None } else { Some(random.once_in(2)) };
         let patterns = (0..pattern_count).map(|_| (0..inputs).map(|_| value()).collect()).collect();
         Given { circuit: self.circuit.clone(), faults, patterns }
     }

@@ -1,0 +1,182 @@
+//! `ullimaqsu dictionary` of a directory against the second program, byte for byte, and what it says of what is wrong.
+mod harness;
+
+use cases::circuits::{record, small, BUFFER};
+use cases::faults::{patterns, some};
+use cases::{circuits, damage, drawn, Random, Tally};
+use harness::{into_broken, into_full, printed, root, stopped, ullimaqsu, Directory, Said};
+use second::Files;
+use std::fs;
+use std::os::unix::fs::symlink;
+use std::path::Path;
+
+fn dictionary(directory: &Path) -> Said {
+    ullimaqsu(&[Path::new("dictionary"), directory])
+}
+
+/// A directory of these files.
+fn directory_of(name: &str, files: &Files) -> Directory {
+    let directory = Directory::new(name);
+    for (name, file) in [("circuit.rec", &files.circuit), ("faults.rec", &files.faults), ("patterns.rec", &files.patterns)] {
+        if let Some(bytes) = file {
+            directory.write(name, bytes);
+        }
+    }
+    directory
+}
+
+fn files(random: &mut Random, circuit: Vec<u8>, fault_count: usize, pattern_count: usize) -> Files {
+    let (faults, patterns) = (some(random, &circuit, fault_count), patterns(random, &circuit, pattern_count));
+    Files { circuit: Some(circuit), faults: Some(faults), patterns: Some(patterns) }
+}
+
+fn sound(random: &mut Random) -> Files {
+    let circuit = small(random);
+    let (fault_count, pattern_count) = (1 + random.below(12), 1 + random.below(12));
+    files(random, circuit, fault_count, pattern_count)
+}
+
+/// One thing or several are wrong: a file is absent, or damaged.
+fn damaged(random: &mut Random) -> Files {
+    let mut files = sound(random);
+    let lines = files.circuit.as_ref().map_or(0, |bytes| bytes.len() / 8);
+    damage::several(random, &mut files, |random, files| match (random.below(8), files) {
+        (0, files) => files.faults = None,
+        (1, files) => files.patterns = None,
+        (2..=3, Files { circuit: Some(bytes), .. }) => damage::circuit(random, bytes),
+        (4..=5, Files { faults: Some(bytes), .. }) => damage::faults(random, bytes, lines),
+        (_, Files { patterns: Some(bytes), .. }) => damage::patterns(random, bytes),
+        _ => (),
+    });
+    files
+}
+
+/// The sizes at which something changes.
+fn boundaries(random: &mut Random) -> Vec<Files> {
+    let mut all: Vec<_> = [(1, 1), (2, 1), (65, 64), (66, 65), (2048, 64), (2049, 64)]
+        .map(|(lines, inputs)| {
+            let circuit = circuits::circuit(random, lines, inputs);
+            files(random, circuit, 3, 3)
+        })
+        .into();
+    for (fault_count, pattern_count) in [(100, 256), (257, 20), (20, 257), (1, 256), (256, 1)] {
+        let circuit = circuits::circuit(random, 60, 12);
+        all.push(files(random, circuit, fault_count, pattern_count));
+    }
+    all.push(Files::default());
+    // a file that is too long is as good as cut one byte above its limit, whatever stands behind
+    let mut long = sound(random);
+    long.circuit = long.circuit.map(|bytes| [&bytes[..], &record(BUFFER, true, 0, 0).repeat(4000)].concat());
+    all.push(long);
+    all
+}
+
+/// Prints what the second program prints; a refusal has status 1, and as many lines on standard error as it must.
+fn compare(name: &str, cases: impl IntoIterator<Item = Files>) -> Tally {
+    let mut tally = Tally::default();
+    for files in cases {
+        let directory = directory_of(name, &files);
+        let (status, printed, said) = dictionary(&directory.0);
+        let right = second::program(&files);
+        assert_eq!(printed, right, "{files:?}");
+        let refusal = right
+            .strip_prefix("refused ")
+            .map_or(0, |rest| rest.split(' ').next().and_then(|number| number.parse().ok()).expect("a number"));
+        let absent = [&files.circuit, &files.faults, &files.patterns].iter().filter(|file| file.is_none()).count();
+        let lines = if refusal > 0 { 1 + absent } else { 0 };
+        assert_eq!((status, said.lines().count()), (Some(i32::from(refusal > 0)), lines), "{said}");
+        assert!(said.lines().all(|line| line.starts_with("ullimaqsu: ")), "{said}");
+        tally.count(refusal);
+    }
+    tally
+}
+
+#[test]
+fn sound_directories() {
+    assert_eq!(compare("sound", drawn(1, 120, sound)).seen(), [0]);
+}
+
+#[test]
+fn damaged_directories() {
+    assert_eq!(compare("damaged", drawn(2, 250, damaged)).seen(), [0, 1, 2, 5, 6, 7, 8, 9]);
+}
+
+#[test]
+fn sizes() {
+    assert_eq!(compare("sizes", boundaries(&mut Random::new(3))).seen(), [0, 1, 4, 6, 8]);
+}
+
+#[test]
+fn examples() {
+    for name in ["a", "c17"] {
+        let directory = root().join("examples").join(name);
+        let output = fs::read_to_string(directory.join("output")).expect("output");
+        assert_eq!(printed(&[Path::new("dictionary"), &directory]), output);
+    }
+}
+
+/// The words of a refusal, the file that it is about, and the files that are absent.
+#[test]
+fn words() {
+    let c17 = root().join("examples/c17");
+    let file = |name: &str| Some(fs::read(c17.join(name)).expect("c17"));
+    let whole = || Files { circuit: file("circuit.rec"), faults: file("faults.rec"), patterns: file("patterns.rec") };
+    let with = |mut files: Files, name: &str, at: usize, byte: u8| {
+        let part = match name {
+            "circuit" => &mut files.circuit,
+            "faults" => &mut files.faults,
+            _ => &mut files.patterns,
+        };
+        part.as_mut().expect("a file")[at] = byte;
+        files
+    };
+    let no_faults = "the faults are not a multiple of 8 bytes, empty, or above 256 records (search and clauses for one fault: not 8 bytes)";
+    let no_circuit = "the circuit is not a multiple of 8 bytes, empty, or above 2,048 records";
+    let cases = [
+        (Files::default(), "1 0", vec![("circuit.rec: ", no_circuit)]),
+        (Files { circuit: whole().circuit, ..Files::default() }, "6 0", vec![("faults.rec: ", no_faults)]),
+        (with(whole(), "circuit", 41, 2), "2 41", vec![("circuit.rec: ", "line 5, output (byte 41): 2 is neither 0 nor 1")]),
+        (with(whole(), "faults", 8, 77), "7 1", vec![("faults.rec: ", "a fault record breaks its layout or names no line (record 1)")]),
+        (with(whole(), "patterns", 6, 9), "9 6", vec![("patterns.rec: ", "a pattern byte is above 2 (byte 6)")]),
+    ];
+    for (files, refusal, lines) in cases {
+        let directory = directory_of("words", &files);
+        let path = |name: &str| directory.path(name).display().to_string();
+        let says = lines.iter().map(|(name, says)| format!("ullimaqsu: {}{says}\n", path(name)));
+        let parts = [("circuit.rec", &files.circuit), ("faults.rec", &files.faults), ("patterns.rec", &files.patterns)];
+        let absent =
+            parts.iter().filter(|(_, file)| file.is_none()).map(|(name, _)| format!("ullimaqsu: there is no file {}\n", path(name)));
+        assert_eq!(dictionary(&directory.0), (Some(1), format!("refused {refusal}\n"), says.chain(absent).collect()));
+    }
+}
+
+/// Nothing is made of a file that can't be read to its end: a directory, a device, and one whose reading fails.
+#[test]
+fn unread() {
+    let directory = Directory::new("unread parts");
+    directory.write("circuit.rec", fs::read(root().join("examples/c17/circuit.rec")).expect("c17"));
+    let patterns = directory.path("patterns.rec");
+    let about = |says: &str| stopped(&format!("{} {says}", patterns.display()));
+    fs::create_dir(&patterns).expect("a directory");
+    assert_eq!(dictionary(&directory.0), about("is a directory"));
+    fs::remove_dir(&patterns).expect("the directory");
+    for (target, why) in [("/dev/zero", "is no regular file"), ("/proc/self/mem", "can't be read: Input/output error")] {
+        symlink(target, &patterns).expect("a link");
+        assert_eq!(dictionary(&directory.0), about(why));
+        fs::remove_file(&patterns).expect("the link");
+    }
+    let absent = directory.path("absent");
+    assert_eq!(dictionary(&absent), stopped(&format!("there is no directory {}", absent.display())));
+    assert_eq!(dictionary(&directory.path("circuit.rec")).0, Some(2));
+    let form = "dictionary prints a directory in no other form; see ullimaqsu dictionary --help";
+    assert_eq!(ullimaqsu(&[Path::new("dictionary"), &directory.0, Path::new("--csv")]), stopped(form));
+}
+
+#[test]
+fn unheard() {
+    let c17 = root().join("examples/c17");
+    let words = [Path::new("dictionary"), &c17];
+    assert_eq!(into_broken(&words), (Some(141), String::new(), String::new()));
+    let (status, printed, said) = into_full(&words);
+    assert_eq!((status, printed.as_str(), said.lines().count()), (Some(2), "", 1));
+}

@@ -1,0 +1,137 @@
+//! Files of faults, of patterns and of marks: what is wrong in them, and where.
+mod harness;
+
+use cases::Directory;
+use harness::{example, refused, stopped, ullimaqsu, Said};
+use std::fs::File;
+use std::path::Path;
+
+/// A directory with faults and patterns of c17 that nothing is wrong with.
+struct Lists {
+    directory: Directory,
+}
+
+impl Lists {
+    fn new(name: &str) -> Lists {
+        let directory = Directory::new(name);
+        directory.write("faults", "22/0\n23/1\n");
+        directory.write("patterns", "00000\n10101\n");
+        directory.write("kept", "KK\n");
+        Lists { directory }
+    }
+
+    /// What the audit, which reads all of them, says with these bytes in place of one.
+    fn with(&self, name: &str, bytes: impl AsRef<[u8]>) -> Said {
+        let path = self.directory.write(&format!("other {name}"), bytes);
+        self.with_path(name, &path)
+    }
+
+    fn with_path(&self, name: &str, path: &Path) -> Said {
+        let of = |part: &str| if part == name { path.to_path_buf() } else { self.directory.path(part) };
+        ullimaqsu(&[Path::new("audit"), &example("c17"), &of("faults"), &of("patterns"), &of("kept")])
+    }
+
+    /// What it says of something at fault in that file.
+    fn about(&self, name: &str, says: &str) -> Said {
+        refused(&format!("{}{says}", self.directory.path(&format!("other {name}")).display()))
+    }
+}
+
+#[test]
+fn faults() {
+    let lists = Lists::new("lists of faults");
+    let cases = [
+        ("22/0\n\n  99/0\n", ": line 3, column 3: there is no line `99`; the nearest name is `19`"),
+        ("22/0\r\n\t109/0 # no such line\r\n", ": line 2, column 2: there is no line `109`; the nearest names are `10` and `19`"),
+        ("22/0 23/0", ": line 1, column 6: a line has one fault, and here follows `23/0`"),
+        (
+            "# 22/0\n22 / 0\n",
+            ": line 2, column 1: `22` is no fault: it is written NAME/0 or NAME/1, and at a pin of the gate NAME.1/0 or NAME.2/0",
+        ),
+        ("22/X", ": line 1, column 1: `22/X` is no fault: after `/` there must be 0 or 1, what the line is stuck at"),
+        ("22/0\n1.1/0", ": line 2, column 1: `1` has no pin `1`: it is INPUT with no pins"),
+        ("22/0\n22.3/0", ": line 2, column 1: `22` has no pin `3`: it is NAND with pins 1 and 2"),
+        ("", " has no fault"),
+        ("\n # nothing\r\n", " has no fault"),
+        ("\u{e9}/0", ": line 1, column 1: there is no line `\u{e9}`"),
+    ];
+    for (text, says) in cases {
+        assert_eq!(lists.with("faults", text), lists.about("faults", says), "{text:?}");
+    }
+    // bytes that are no text are shown as one line of text
+    assert_eq!(lists.with("faults", b"\xff\x1b/0"), lists.about("faults", ": line 1, column 1: there is no line `\u{fffd}?`"));
+}
+
+#[test]
+fn records_of_faults() {
+    let lists = Lists::new("records of faults");
+    let fine = [9, 0, 0, 0, 0, 0, 0, 0];
+    for (at, byte) in [(0, 11), (1, 1), (2, 3), (3, 2), (4, 1), (7, 255)] {
+        let mut wrong = fine;
+        wrong[at] = byte;
+        let says = ": refusal 7: a fault record breaks its layout or names no line (record 1)";
+        assert_eq!(lists.with("faults", [fine, wrong].concat()), lists.about("faults", says), "byte {at}");
+    }
+    // an input has no pins
+    let says = ": refusal 7: a fault record breaks its layout or names no line (record 0)";
+    assert_eq!(lists.with("faults", [4, 0, 1, 0, 0, 0, 0, 0]), lists.about("faults", says));
+    let says = ": records of faults have 8 bytes each, and 9 bytes are no multiple of that";
+    assert_eq!(lists.with("faults", [&fine[..], &[0]].concat()), lists.about("faults", says));
+}
+
+#[test]
+fn patterns() {
+    let lists = Lists::new("lists of patterns");
+    let cases = [
+        ("00000\n0 1X2x\n", ": line 2, column 5: `2` is none of 0, 1 and X"),
+        ("00000\n000000\n", ": line 2, column 6: this pattern has 6 values, and the circuit has 5 inputs"),
+        ("0 0 0 0 0 0 0", ": line 1, column 11: this pattern has 7 values, and the circuit has 5 inputs"),
+        ("\r\n 0x0 \r\n", ": line 2, column 5: this pattern has 3 values, and the circuit has 5 inputs"),
+        ("1", ": line 1, column 2: this pattern has 1 value, and the circuit has 5 inputs"),
+        ("0000#0", ": line 1, column 5: this pattern has 4 values, and the circuit has 5 inputs"),
+        ("00000,", ": line 1, column 6: `,` is none of 0, 1 and X"),
+        ("00\u{2028}", ": line 1, column 3: `\u{2028}` is none of 0, 1 and X"),
+        ("\n\n#\n", " has no pattern"),
+    ];
+    for (text, says) in cases {
+        assert_eq!(lists.with("patterns", text), lists.about("patterns", says), "{text:?}");
+    }
+    let says = ": refusal 9: a pattern byte is above 2 (byte 7)";
+    assert_eq!(lists.with("patterns", [0, 1, 2, 0, 1, 0, 0, 3, 0, 0]), lists.about("patterns", says));
+    let says = ": the circuit has 5 inputs, and 6 bytes are no multiple of that";
+    assert_eq!(lists.with("patterns", [0; 6]), lists.about("patterns", says));
+}
+
+#[test]
+fn marks() {
+    let lists = Lists::new("lists of marks");
+    let cases = [
+        ("K\n", ": there are 1 mark, and 2 patterns"),
+        ("", ": there are 0 marks, and 2 patterns"),
+        ("K D # K\nd", ": there are 3 marks, and 2 patterns"),
+        ("K\r\n  X", ": line 2, column 3: `X` is neither K nor D"),
+        ("11", ": line 1, column 1: `1` is neither K nor D"),
+    ];
+    for (text, says) in cases {
+        assert_eq!(lists.with("kept", text), lists.about("kept", says), "{text:?}");
+    }
+    assert_eq!(lists.with("kept", [1, 0, 1]), lists.about("kept", ": there are 3 marks, and 2 patterns"));
+}
+
+/// What can't be read, and what nobody needs to read to its end.
+#[test]
+fn unread() {
+    let lists = Lists::new("unread lists");
+    for name in ["faults", "patterns", "kept"] {
+        let absent = lists.directory.path("absent");
+        assert_eq!(lists.with_path(name, &absent), stopped(&format!("there is no file {}", absent.display())));
+        let directory = &lists.directory.0;
+        assert_eq!(lists.with_path(name, directory), stopped(&format!("{} is a directory", directory.display())));
+        let unreadable = Path::new("/proc/self/mem");
+        assert_eq!(lists.with_path(name, unreadable), stopped("/proc/self/mem can't be read: Input/output error"));
+        let long = lists.directory.path("long");
+        File::create(&long).and_then(|file| file.set_len((16 << 20) + 1)).expect("a file of nothing");
+        assert_eq!(lists.with_path(name, &long), stopped(&format!("{} has more than 16 MiB", long.display())));
+        assert_eq!(lists.with_path(name, Path::new("/dev/zero")), stopped("/dev/zero has more than 16 MiB"));
+    }
+}

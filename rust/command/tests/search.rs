@@ -1,0 +1,249 @@
+//! `ullimaqsu search` against the second program: every line that is printed, in every form.
+mod harness;
+
+use cases::{circuits, drawn, texts, Directory, Random};
+use harness::json::Json;
+use harness::named::{letters, Named};
+use harness::{example, into_broken, into_full, printed, refused, stopped, ullimaqsu};
+use second::search::{search_circuit, Outcome, Search};
+use second::Fault;
+use std::fs;
+use std::path::Path;
+
+/// What the second program finds for each fault.
+fn found(named: &Named, faults: &[Fault], budget: u64) -> Vec<Search> {
+    faults.iter().map(|&fault| search_circuit(&named.circuit, fault, budget)).collect()
+}
+
+fn word(outcome: Outcome) -> &'static str {
+    match outcome {
+        Outcome::Test => "test",
+        Outcome::Redundant => "redundant",
+        Outcome::GivenUp => "given up",
+    }
+}
+
+/// The test, or nothing.
+fn test(search: &Search) -> Option<String> {
+    search.last.as_ref().filter(|_| search.outcome == Outcome::Test).map(letters)
+}
+
+fn totals(found: &[Search]) -> [usize; 3] {
+    [Outcome::Test, Outcome::Redundant, Outcome::GivenUp].map(|of| found.iter().filter(|search| search.outcome == of).count())
+}
+
+/// The csv of what was found.
+fn csv(named: &Named, faults: &[Fault], found: &[Search]) -> String {
+    let head = ["fault", "outcome", "nodes"].into_iter().chain(named.inputs()).collect::<Vec<_>>().join(",");
+    let row = |(&fault, search): (&Fault, &Search)| {
+        let values = test(search).map_or(vec![String::new(); named.inputs().len()], |test| test.chars().map(String::from).collect());
+        format!("{},{},{},{}\n", named.word(fault), word(search.outcome), search.nodes, values.join(","))
+    };
+    format!("{head}\n{}", faults.iter().zip(found).map(row).collect::<String>())
+}
+
+/// The json of what was found, as values.
+fn json(named: &Named, faults: &[Fault], found: &[Search]) -> Json {
+    let text = |text: &str| Json::Text(text.to_string());
+    let pair = |key: &str, value: Json| (key.to_string(), value);
+    let one = |(&fault, search): (&Fault, &Search)| {
+        Json::Object(vec![
+            pair("fault", Json::Text(named.word(fault))),
+            pair("outcome", text(word(search.outcome))),
+            pair("nodes", Json::Number(search.nodes)),
+            pair("test", test(search).map_or(Json::Null, Json::Text)),
+        ])
+    };
+    let [tests, redundant, given_up] = totals(found).map(|count| Json::Number(count as u64));
+    Json::Object(vec![
+        pair("inputs", Json::List(named.inputs().into_iter().map(text).collect())),
+        pair("faults", Json::List(faults.iter().zip(found).map(one).collect())),
+        pair("tests", tests),
+        pair("redundant", redundant),
+        pair("given up", given_up),
+    ])
+}
+
+/// The words of a table's line, whatever stands between them.
+fn cells(line: &str) -> Vec<&str> {
+    line.split_whitespace().collect()
+}
+
+/// The table of what was found: a line for each fault, with every cell under the beginning of its column's name, or its end for numbers.
+fn is_table(table: &str, named: &Named, faults: &[Fault], found: &[Search]) {
+    let lines: Vec<&str> = table.lines().collect();
+    assert_eq!(cells(lines[0]), ["fault", "outcome", "nodes"].into_iter().chain(named.inputs()).collect::<Vec<_>>());
+    let column = lines[0].find("nodes").expect("nodes") + "nodes ".len();
+    for ((line, &fault), search) in lines[1..].iter().zip(faults).zip(found) {
+        let (fault, nodes) = (named.word(fault), search.nodes.to_string());
+        let test = test(search).unwrap_or_default();
+        let values: Vec<String> = test.chars().map(String::from).collect();
+        let outcome = word(search.outcome).split(' ');
+        let expected: Vec<&str> =
+            [fault.as_str()].into_iter().chain(outcome).chain([nodes.as_str()]).chain(values.iter().map(String::as_str)).collect();
+        assert_eq!(cells(line), expected, "{table}");
+        assert!(line[..column.min(line.len())].trim_end().ends_with(&nodes), "{table}");
+        let at = |input: usize| column + named.inputs()[..input].iter().map(|name| name.len() + 1).sum::<usize>();
+        assert!(values.iter().enumerate().all(|(input, value)| line[at(input)..].starts_with(value)), "{table}");
+    }
+    let ([tests, redundant, given_up], count) = (totals(found), faults.len());
+    let many = |count: usize| if count == 1 { "" } else { "s" };
+    let last = format!("{count} fault{}: {tests} test{}, {redundant} redundant, {given_up} given up", many(count), many(tests));
+    assert_eq!((lines.len(), lines[lines.len() - 1]), (count + 2, last.as_str()));
+}
+
+/// All forms of all faults of a circuit.
+fn compare(path: &Path, named: &Named, budget: u64) -> [usize; 3] {
+    let faults = named.faults(true);
+    let found = found(named, &faults, budget);
+    let budget = budget.to_string();
+    let search = |more: &[&str]| {
+        let words = ["search", path.to_str().expect("text"), "--all", "--budget", &budget];
+        printed(&[&words[..], more].concat())
+    };
+    is_table(&search(&[]), named, &faults, &found);
+    assert_eq!(search(&["--csv"]), csv(named, &faults, &found));
+    assert_eq!(Json::read(&search(&["--json"])), json(named, &faults, &found));
+    totals(&found)
+}
+
+/// Among them one with more faults than a call takes.
+#[test]
+fn examples() {
+    for (name, budget) in [("c17", 1_000_000), ("decoder4", 1_000_000), ("multiplier4", 300), ("parity16", 100), ("adder16", 40)] {
+        let named = Named::of_text(&fs::read(example(name)).expect("an example"));
+        let totals = compare(&example(name), &named, budget);
+        assert!(name != "multiplier4" || totals.iter().sum::<usize>() > 256, "{totals:?}");
+    }
+}
+
+#[test]
+fn random_circuits() {
+    let directory = Directory::new("search");
+    let mut seen = [0; 3];
+    let mut count = |totals: [usize; 3]| (0..3).for_each(|k| seen[k] += totals[k]);
+    let few = |text: &Vec<u8>| Named::of_text(text).inputs().len() < 8;
+    for (k, text) in drawn(1, 60, texts::small).filter(few).enumerate() {
+        count(compare(&directory.write("text", &text), &Named::of_text(&text), [3, 20, u64::MAX][k % 3]));
+    }
+    for (k, records) in drawn(2, 30, circuits::few_inputs).enumerate() {
+        count(compare(&directory.write("records", &records), &Named::of_records(&records), [0, 9, 1000][k % 3]));
+    }
+    assert!(seen.iter().all(|&times| times > 50), "{seen:?}");
+}
+
+/// 64 inputs: nothing is known of a parity before all of them are. The first vector is the 65th node, and a test for one of two faults.
+#[test]
+fn many_inputs() {
+    let directory = Directory::new("parity");
+    let path = directory.write("parity.rec", circuits::parity());
+    let said = printed(&["search", path.to_str().expect("text"), "126/0", "0/1", "--budget", "65"]);
+    let named = Named::of_records(&circuits::parity());
+    let faults: Vec<Fault> =
+        ["126/0", "0/1"].map(|word| named.faults(true).into_iter().find(|&fault| named.word(fault) == word).expect("a fault")).into();
+    is_table(&said, &named, &faults, &found(&named, &faults, 65));
+    assert!(said.ends_with("2 faults: 1 test, 0 redundant, 1 given up\n"), "{said}");
+}
+
+/// Faults as words and as a file give the same; and each test, used as a pattern, fails its fault.
+#[test]
+fn tests_as_patterns() {
+    let directory = Directory::new("tests");
+    let circuit = example("multiplier4");
+    let (circuit, list, out) = (circuit.to_str().expect("text"), directory.path("list"), directory.path("tests"));
+    let [list, out] = [&list, &out].map(|path| path.to_str().expect("text"));
+    printed(&["faults", circuit, "--pins", "-o", list]);
+    let table = printed(&["search", circuit, "--faults", list, "-o", out]);
+    assert_eq!(table, printed(&["search", circuit, "--all"]));
+    let faults = directory.read("list");
+    let words: Vec<&str> = ["search", circuit].into_iter().chain(faults.lines()).collect();
+    assert_eq!(printed(&words), table);
+
+    // each test stands beside its fault, and fails it
+    let tests = directory.read("tests");
+    let tested: Vec<&str> = tests.lines().map(|line| line.split_once(" # ").expect("a comment").1).collect();
+    let outcome = |fault: &&str| table.lines().any(|line| line.split_whitespace().take(2).eq([fault, "test"]));
+    assert_eq!(tested, faults.lines().filter(outcome).collect::<Vec<_>>());
+    directory.write("list", tested.join("\n"));
+    let dictionary = Json::read(&printed(&["dictionary", circuit, list, out, "--json"]));
+    let entries = dictionary.at("entries").texts();
+    assert!(entries.len() > 256 && entries.iter().enumerate().all(|(k, row)| row.as_bytes()[k] == b'F'));
+}
+
+/// A redundant fault has no test in the file.
+#[test]
+fn redundant() {
+    let directory = Directory::new("redundant");
+    let path = directory.write("always 0", circuits::always_0());
+    let out = directory.path("tests");
+    let words = ["search", path.to_str().expect("text"), "2/0", "2/1", "-o", out.to_str().expect("text")];
+    let table = "fault outcome   nodes 0\n2/0   redundant     3\n2/1   test          2 0\n2 faults: 1 test, 1 redundant, 0 given up\n";
+    assert_eq!(printed(&words), table);
+    assert_eq!(directory.read("tests"), "0 # 2/1\n");
+}
+
+#[test]
+fn what_is_wrong() {
+    let c17 = example("c17");
+    let search = |words: &[&str]| ullimaqsu(&[&["search", c17.to_str().expect("text")], words].concat());
+    let no_fault = |word| format!("`{word}` is no fault: it is written NAME/0 or NAME/1, and at a pin of the gate NAME.1/0 or NAME.2/0");
+    let no_value = |word| format!("`{word}` is no fault: after `/` there must be 0 or 1, what the line is stuck at");
+    let refusals = [
+        ("10", no_fault("10")),
+        ("", no_fault("")),
+        ("10/2", no_value("10/2")),
+        ("10/", no_value("10/")),
+        ("10/01", no_value("10/01")),
+        ("109/0", "there is no line `109`; the nearest names are `10` and `19`".to_string()),
+        ("12/0", "there is no line `12`; the nearest names are `1`, `2` and `10`".to_string()),
+        ("2x3/0", "there is no line `2x3`; the nearest name is `23`".to_string()),
+        ("nothing/0", "there is no line `nothing`".to_string()),
+        ("/1", "there is no line ``".to_string()),
+        ("10.3/0", "`10` has no pin `3`: it is NAND with pins 1 and 2".to_string()),
+        ("10.0/0", "`10` has no pin `0`: it is NAND with pins 1 and 2".to_string()),
+        ("10.1.1/0", "`10` has no pin `1.1`: it is NAND with pins 1 and 2".to_string()),
+        ("1.1/0", "`1` has no pin `1`: it is INPUT with no pins".to_string()),
+    ];
+    for (word, line) in refusals {
+        assert_eq!(search(&["22/0", word]), refused(&line), "{word}");
+    }
+    let wants = stopped("search wants a circuit and then faults, or --all, or --faults FILE; see ullimaqsu search --help");
+    for words in [&[][..], &["10/0", "--all"], &["--all", "--faults", "list"], &["10/0", "--faults", "list"]] {
+        assert_eq!(search(words), wants, "{words:?}");
+    }
+    for budget in ["x", "-1", "1.5", "18446744073709551616", ""] {
+        let line = format!("search wants a number of nodes after --budget, and `{budget}` is none; see ullimaqsu search --help");
+        assert_eq!(search(&["--all", "--budget", budget]), stopped(&line));
+    }
+    assert_eq!(search(&["--all", "--budget"]), stopped("search wants N after --budget; see ullimaqsu search --help"));
+    let both = "search prints --csv or --json, not both; see ullimaqsu search --help";
+    assert_eq!(search(&["--all", "--csv", "--json"]), stopped(both));
+    assert_eq!(search(&["--faults", "no such list"]), stopped("there is no file no such list"));
+}
+
+/// Who no longer reads is told nothing, and nothing is written where not all could be printed.
+#[test]
+fn nobody_reads() {
+    let directory = Directory::new("unread search");
+    let (circuit, out) = (example("c17"), directory.path("tests"));
+    let words = ["search", circuit.to_str().expect("text"), "--all", "-o", out.to_str().expect("text")];
+    assert_eq!(into_broken(&words), (Some(141), String::new(), String::new()));
+    let (status, _, said) = into_full(&words);
+    assert_eq!(
+        (status, said.as_str()),
+        (Some(2), "ullimaqsu: standard output could not be written: No space left on device (os error 28)\n")
+    );
+    assert_eq!(directory.names(), [""; 0]);
+}
+
+/// A large circuit, with a piece of its faults.
+#[test]
+fn the_largest() {
+    let directory = Directory::new("largest search");
+    let text = texts::largest(&mut Random::new(5), 2048, 64);
+    let (path, named) = (directory.write("largest.bench", &text), Named::of_text(&text));
+    let faults: Vec<Fault> = named.faults(true).into_iter().step_by(17).take(300).collect();
+    let list = directory.write("list", named.fault_lines(&faults));
+    let words = ["search", path.to_str().expect("text"), "--faults", list.to_str().expect("text"), "--budget", "3", "--csv"];
+    assert_eq!(printed(&words), csv(&named, &faults, &found(&named, &faults, 3)));
+}
