@@ -3,6 +3,7 @@
 #[derive(Clone, Debug, PartialEq)]
 pub enum Json {
     Null,
+    Truth(bool),
     Number(u64),
     Text(String),
     List(Vec<Json>),
@@ -85,6 +86,14 @@ impl<'a> Reader<'a> {
             }
             Some('"') => Json::Text(self.string()),
             Some('0'..='9') => Json::Number(self.digits().parse().expect("a number")),
+            Some('t') => {
+                self.needs("true");
+                Json::Truth(true)
+            }
+            Some('f') => {
+                self.needs("false");
+                Json::Truth(false)
+            }
             _ => {
                 self.needs("null");
                 Json::Null

@@ -1,0 +1,365 @@
+//! `ullimaqsu values` against the second program: every value in every form, and the picture.
+mod harness;
+#[path = "harness/xml.rs"]
+mod xml;
+
+use cases::{circuits, drawn, texts, Directory, Random};
+use harness::json::Json;
+use harness::named::{letters, Named};
+use harness::{example, examples, into_broken, into_full, printed, refused, stopped, ullimaqsu};
+use second::circuit::Gate;
+use second::{Entry, Fault, Pattern, Value};
+use std::collections::HashMap;
+use std::fs;
+use std::path::Path;
+use std::time::Instant;
+use xml::Element;
+
+/// A pattern and perhaps a fault of a circuit, with what the second program says of them.
+struct Case<'a> {
+    named: &'a Named,
+    pattern: Pattern,
+    fault: Option<Fault>,
+    good: Vec<Value>,
+    faulty: Option<Vec<Value>>,
+}
+
+impl Case<'_> {
+    fn of(named: &Named, pattern: Pattern, fault: Option<Fault>) -> Case<'_> {
+        let good = named.circuit.values(&pattern, None);
+        let faulty = fault.map(|fault| named.circuit.values(&pattern, Some(fault)));
+        Case { named, pattern, fault, good, faulty }
+    }
+
+    fn drawn<'a>(random: &mut Random, named: &'a Named) -> Case<'a> {
+        let mut given = named.given(random, 1, 1);
+        let fault = given.faults.pop().filter(|_| !random.once_in(4));
+        Case::of(named, given.patterns.pop().expect("a pattern"), fault)
+    }
+
+    fn lines(&self) -> usize {
+        self.good.len()
+    }
+
+    fn name(&self, line: usize) -> &str {
+        &self.named.names[line]
+    }
+
+    fn sources(&self, line: usize) -> Vec<&str> {
+        self.named.circuit.lines[line].gate.sources().into_iter().map(|source| self.name(source)).collect()
+    }
+
+    fn is_output(&self, line: usize) -> bool {
+        self.named.circuit.lines[line].output
+    }
+
+    fn kind(&self, line: usize) -> &'static str {
+        match self.named.circuit.lines[line].gate {
+            Gate::Input => "INPUT",
+            Gate::Buffer(_) => "BUFF",
+            Gate::Not(_) => "NOT",
+            Gate::And(..) => "AND",
+            Gate::Nand(..) => "NAND",
+            Gate::Or(..) => "OR",
+            Gate::Nor(..) => "NOR",
+            Gate::Xor(..) => "XOR",
+            Gate::Xnor(..) => "XNOR",
+        }
+    }
+
+    /// The mark of a line: both values are known and differ, or exactly one is X.
+    fn mark(&self, line: usize) -> &'static str {
+        match (self.good[line], self.faulty.as_ref().map_or(self.good[line], |faulty| faulty[line])) {
+            (Some(good), Some(faulty)) if good != faulty => "*",
+            (Some(_), None) | (None, Some(_)) => "?",
+            _ => "",
+        }
+    }
+
+    /// `1`, or with a fault `1/0`.
+    fn both(&self, line: usize) -> String {
+        let faulty = self.faulty.as_ref().map_or(String::new(), |faulty| format!("/{}", letter(faulty[line])));
+        format!("{}{faulty}", letter(self.good[line]))
+    }
+
+    /// What stands above the cells of a line, and the cells.
+    fn heads(&self) -> Vec<&'static str> {
+        let faulty: &[&str] = if self.fault.is_some() { &["faulty", "differs"] } else { &[] };
+        [&["line", "kind", "sources", "good"], faulty, &["output"]].concat()
+    }
+
+    fn cells(&self, line: usize) -> Vec<String> {
+        let mut cells =
+            vec![self.name(line).to_string(), self.kind(line).to_string(), self.sources(line).join(" "), letter(self.good[line])];
+        if let Some(faulty) = &self.faulty {
+            cells.extend([letter(faulty[line]), self.mark(line).to_string()]);
+        }
+        cells.push(if self.is_output(line) { "output" } else { "" }.to_string());
+        cells
+    }
+
+    /// The last line of the table.
+    fn verdict(&self) -> Option<String> {
+        let compared = (0..self.lines()).filter(|&line| self.is_output(line) && self.good[line].is_some());
+        let with = |mark: &str| compared.filter(|&line| self.mark(line) == mark).map(|line| self.name(line)).collect::<Vec<_>>().join(", ");
+        Some(match self.named.circuit.entry(&self.pattern, self.fault?) {
+            Entry::Pass => "pass: no output that is compared differs".to_string(),
+            Entry::Fail => format!("fail: seen at {}", with("*")),
+            Entry::Unknown => format!("unknown: the faulty value is X at {}", with("?")),
+        })
+    }
+
+    /// The words of the command, with some more.
+    fn words(&self, path: &Path, more: &[&str]) -> Vec<String> {
+        let fault = self.fault.map(|fault| self.named.word(fault));
+        let words = ["values".to_string(), path.to_str().expect("text").to_string(), letters(&self.pattern)];
+        words.into_iter().chain(fault).chain(more.iter().map(|word| word.to_string())).collect()
+    }
+}
+
+fn letter(value: Value) -> String {
+    letters(&vec![value])
+}
+
+/// Each cell stands under its head, and the last one ends its line.
+fn is_table(case: &Case, table: &str) {
+    let mut lines: Vec<&str> = table.lines().collect();
+    if let Some(verdict) = case.verdict() {
+        assert_eq!(lines.pop(), Some(verdict.as_str()));
+    }
+    let heads = case.heads();
+    assert_eq!(lines[0].split_whitespace().collect::<Vec<_>>(), heads);
+    let starts: Vec<usize> = heads.iter().map(|head| lines[0].find(head).expect("a head")).collect();
+    let cell = |text: &str, column: usize| {
+        let end = starts.get(column + 1).map_or(text.len(), |next| *next).min(text.len());
+        text.get(starts[column]..end).unwrap_or_default().trim_end().to_string()
+    };
+    let found: Vec<Vec<String>> = lines[1..].iter().map(|text| (0..heads.len()).map(|column| cell(text, column)).collect()).collect();
+    assert_eq!(found, (0..case.lines()).map(|line| case.cells(line)).collect::<Vec<_>>(), "{table}");
+    assert!(lines.iter().all(|text| text.trim_end() == *text), "{table}");
+}
+
+fn csv(case: &Case) -> String {
+    let rows = (0..case.lines()).map(|line| case.cells(line).join(",") + "\n");
+    case.heads().join(",") + "\n" + &rows.collect::<String>()
+}
+
+fn json(case: &Case) -> Json {
+    let text = |text: &str| Json::Text(text.to_string());
+    let pair = |key: &str, value: Json| (key.to_string(), value);
+    let line = |line: usize| {
+        let sources = case.sources(line).into_iter().map(text).collect();
+        let mut pairs =
+            vec![pair("line", text(case.name(line))), pair("kind", text(case.kind(line))), pair("sources", Json::List(sources))];
+        pairs.push(pair("good", text(&letter(case.good[line]))));
+        if let Some(faulty) = &case.faulty {
+            pairs.extend([pair("faulty", text(&letter(faulty[line]))), pair("differs", text(case.mark(line)))]);
+        }
+        pairs.push(pair("output", Json::Truth(case.is_output(line))));
+        Json::Object(pairs)
+    };
+    let mut pairs = vec![pair("pattern", text(&letters(&case.pattern)))];
+    if let Some(fault) = case.fault {
+        let entry = match case.named.circuit.entry(&case.pattern, fault) {
+            Entry::Pass => "P",
+            Entry::Fail => "F",
+            Entry::Unknown => "U",
+        };
+        pairs.extend([pair("fault", text(&case.named.word(fault))), pair("entry", text(entry))]);
+    }
+    pairs.push(pair("lines", Json::List((0..case.lines()).map(line).collect())));
+    Json::Object(pairs)
+}
+
+/// The place of a group.
+fn place(group: &Element) -> (f64, f64) {
+    let numbers = group.needs("transform").strip_prefix("translate(").and_then(|rest| rest.strip_suffix(')')).expect("a place");
+    let (x, y) = numbers.split_once(' ').expect("two numbers");
+    (x.parse().expect("a number"), y.parse().expect("a number"))
+}
+
+/// The picture shows each line once, with its name and values, at its place; the outputs; the fault; and what differs, by its colour.
+fn is_picture(case: &Case, file: &str, picture: &str) {
+    let root = Element::read(picture);
+    let all = root.all();
+    assert!(all.iter().all(|element| ["svg", "title", "style", "rect", "g", "path", "circle", "text"].contains(&element.name.as_str())));
+    assert!(!picture.contains("url(") && !picture.contains("href") && !picture.contains("@import"), "nothing is fetched");
+    let groups: HashMap<&str, &Element> =
+        all.iter().filter(|element| element.name == "g").map(|group| (group.needs("id"), *group)).collect();
+    let ports = (0..case.lines()).filter(|&line| case.is_output(line)).count();
+    assert_eq!(groups.len(), case.lines() + ports + usize::from(case.fault.is_some()), "no group twice, and no other");
+
+    let wires: Vec<&str> = all.iter().filter_map(|element| element.attribute("class")).filter(|class| class.starts_with("wire ")).collect();
+    let mut places = vec![];
+    for line in 0..case.lines() {
+        let group = groups[format!("line-{}", case.name(line)).as_str()];
+        assert_eq!((group.texts("name"), group.texts("value")), (vec![case.name(line)], vec![case.both(line).as_str()]));
+        if case.kind(line) != "INPUT" {
+            assert_eq!(group.texts("kind"), [case.kind(line)]);
+        }
+        let value = case.good[line].map_or("x", |value| if value { "one" } else { "zero" });
+        let difference =
+            [("*", " differs"), ("?", " perhaps"), ("", "")].into_iter().find(|(mark, _)| *mark == case.mark(line)).expect("a mark").1;
+        assert_eq!(wires[line], format!("wire {value}{difference}"), "{}", case.name(line));
+        places.push(place(group));
+        if case.is_output(line) {
+            let port = groups[format!("output-{}", case.name(line)).as_str()];
+            assert_eq!((port.texts("name"), port.texts("value")), (vec![case.name(line)], vec![case.both(line).as_str()]));
+            assert!(place(port).0 > places[line].0, "outputs are at the right");
+        }
+    }
+    let size = |name: &str| root.needs(name).parse::<f64>().expect("a number");
+    assert!(groups.values().map(|group| place(group)).all(|(x, y)| x > 0.0 && y > 0.0 && x < size("width") && y < size("height")));
+    for (line, &(x, y)) in places.iter().enumerate() {
+        let sources = case.named.circuit.lines[line].gate.sources();
+        assert!(sources.into_iter().all(|source| places[source].0 + 100.0 < x), "{} is behind its sources", case.name(line));
+        assert!(places[..line].iter().all(|(other, height)| (other - x).abs() > 100.0 || (height - y).abs() > 60.0), "nothing overlaps");
+    }
+
+    let fault = case.fault.map(|fault| case.named.word(fault));
+    let title = fault.as_ref().map_or(String::new(), |fault| format!(", fault {fault}"));
+    let title = format!("{file}, pattern {}{title}", letters(&case.pattern));
+    assert_eq!((root.children[0].name.as_str(), &root.children[0].text), ("title", &title));
+    assert_eq!((root.texts("title"), root.texts("verdict")), (vec![title.as_str()], vec![case.verdict().unwrap_or_default().as_str()]));
+    if let Some(fault) = fault {
+        assert_eq!(groups["fault"].texts("stuck"), [fault]);
+        let stuck = groups[format!("line-{}", case.name(case.fault.expect("a fault").line)).as_str()];
+        assert_eq!(place(groups["fault"]), place(stuck));
+    }
+}
+
+/// Every form of a case.
+fn compare(directory: &Directory, path: &Path, case: &Case) {
+    is_table(case, &printed(&case.words(path, &[])));
+    assert_eq!(printed(&case.words(path, &["--csv"])), csv(case));
+    let picture = directory.path("picture.svg");
+    let said = printed(&case.words(path, &["--json", "--svg", picture.to_str().expect("text")]));
+    assert_eq!(Json::read(&said), json(case));
+    is_picture(case, &path.display().to_string(), &directory.read("picture.svg"));
+}
+
+#[test]
+fn all_examples() {
+    let (directory, mut random) = (Directory::new("values of examples"), Random::new(1));
+    for path in examples() {
+        let named = Named::of_text(&fs::read(&path).expect("an example"));
+        for _ in 0..6 {
+            compare(&directory, &path, &Case::drawn(&mut random, &named));
+        }
+    }
+}
+
+#[test]
+fn random_circuits() {
+    let (directory, mut random) = (Directory::new("values"), Random::new(2));
+    let mut verdicts = HashMap::new();
+    let mut look = |path: &Path, named: &Named| {
+        // few are unknown, and each circuit is asked for one
+        let unknown = (0..30)
+            .map(|_| Case::drawn(&mut random, named))
+            .find(|case| case.verdict().is_some_and(|verdict| verdict.starts_with("unknown")));
+        let case = unknown.unwrap_or_else(|| Case::drawn(&mut random, named));
+        compare(&directory, path, &case);
+        *verdicts.entry(case.verdict().map(|verdict| verdict[..4].to_string())).or_insert(0) += 1;
+    };
+    for text in drawn(3, 150, texts::small) {
+        look(&directory.write("text", &text), &Named::of_text(&text));
+    }
+    for records in drawn(4, 150, circuits::small) {
+        look(&directory.write("records", &records), &Named::of_records(&records));
+    }
+    println!("values: {verdicts:?}");
+    assert_eq!(verdicts.len(), 4, "no fault, fail, pass and unknown");
+}
+
+/// The largest circuits, deep ones and broad ones, are drawn at once, and always in the same way.
+#[test]
+fn largest_pictures() {
+    let (directory, mut random) = (Directory::new("large pictures"), Random::new(5));
+    for _ in 0..4 {
+        let records = circuits::circuit(&mut random, 2048, 64);
+        let (path, named) = (directory.write("records", &records), Named::of_records(&records));
+        let case = Case::drawn(&mut random, &named);
+        let draw = |name: &str| {
+            let began = Instant::now();
+            printed(&case.words(&path, &["--svg", directory.path(name).to_str().expect("text")]));
+            assert!(began.elapsed().as_secs_f64() < 2.0, "{:?}", began.elapsed());
+            directory.read(name)
+        };
+        let picture = draw("one");
+        assert_eq!(picture, draw("other"));
+        is_picture(&case, &path.display().to_string(), &picture);
+    }
+}
+
+/// A line that is read too far behind is named at the pin that reads it, and its wire is not drawn.
+#[test]
+fn long_wires() {
+    let directory = Directory::new("long wires");
+    let chain = |length: usize| {
+        let buffers: String =
+            (1..length).map(|k| format!("n{k} = BUFF({})\n", if k == 1 { "far".to_string() } else { format!("n{}", k - 1) })).collect();
+        format!("INPUT(far)\nOUTPUT(y)\n{buffers}y = AND(n{}, far)\n", length - 1)
+    };
+    for (length, labels) in [(41, vec![]), (42, vec!["far"])] {
+        let path = directory.write("chain", chain(length));
+        let picture = directory.path("chain.svg");
+        printed(&[Path::new("values"), &path, Path::new("1"), Path::new("--svg"), &picture]);
+        assert_eq!(Element::read(&directory.read("chain.svg")).texts("label"), labels, "{length}");
+    }
+}
+
+/// Names of files may have any letters; the picture says them, and a browser reads it.
+#[test]
+fn names_of_files() {
+    let directory = Directory::new("names of files");
+    let text = fs::read(example("c17")).expect("c17");
+    let named = Named::of_text(&text);
+    for name in ["<b>&amp;\"'.bench", "]]>", "-->", "ä\u{1F600}"] {
+        let (path, case) = (directory.write(name, &text), Case::of(&named, vec![None; 5], None));
+        compare(&directory, &path, &case);
+    }
+    // what XML has no letter for is shown as `?`, as everywhere
+    let path = directory.write("a\u{1}\nb\u{ffff}", &text);
+    let picture = directory.path("picture.svg");
+    printed(&[Path::new("values"), &path, Path::new("00000"), Path::new("--svg"), &picture]);
+    let title = Element::read(&directory.read("picture.svg")).children[0].text.clone();
+    assert!(title.ends_with("/a??b?, pattern 00000"), "{title}");
+}
+
+#[test]
+fn what_is_refused() {
+    let directory = Directory::new("no values");
+    let path = directory.write("c17.bench", fs::read(example("c17")).expect("c17"));
+    let picture = directory.path("picture.svg");
+    let values = |more: &[&str]| {
+        let words = ["values", path.to_str().expect("text"), "--svg", picture.to_str().expect("text")];
+        ullimaqsu(&[&words[..], more].concat())
+    };
+    let cases: [(&[&str], &str); 6] = [
+        (&["0000"], "pattern `0000`, column 5: this pattern has 4 values, and the circuit has 5 inputs"),
+        (&["00 0000"], "pattern `00 0000`, column 7: this pattern has 6 values, and the circuit has 5 inputs"),
+        (&["0ä2"], "pattern `0ä2`, column 2: `ä` is none of 0, 1 and X"),
+        (&["00020"], "pattern `00020`, column 4: `2` is none of 0, 1 and X"),
+        (&["00000", "99/0"], "there is no line `99`; the nearest name is `19`"),
+        (&["00000", "1.1/0"], "`1` has no pin `1`: it is INPUT with no pins"),
+    ];
+    for (words, says) in cases {
+        assert_eq!(values(words), refused(says), "{words:?}");
+    }
+    assert_eq!(
+        values(&["00000", "1/0", "2/0"]),
+        stopped("values wants a circuit, a pattern and perhaps a fault; see ullimaqsu values --help")
+    );
+    assert_eq!(values(&["00000", "--csv", "--json"]), stopped("values prints --csv or --json, not both; see ullimaqsu values --help"));
+    assert_eq!(directory.names(), ["c17.bench"], "nothing is drawn where something is refused");
+
+    // small letters and blanks are read
+    assert_eq!(values(&[" 0 x\t1X0 "]).0, Some(0));
+    let (status, _, said) = ullimaqsu(&[Path::new("values"), &path, Path::new("00000"), Path::new("--svg"), &path]);
+    assert_eq!((status, said.lines().count()), (Some(2), 1), "{said}");
+    assert_eq!(fs::read(&path).expect("c17"), fs::read(example("c17")).expect("c17"));
+    let words = ["values", path.to_str().expect("text"), "00000"];
+    assert_eq!(into_full(&words).0, Some(2));
+    assert_eq!(into_broken(&words).1, "");
+}
