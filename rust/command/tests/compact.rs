@@ -247,10 +247,15 @@ fn limits_and_files() {
     let patterns = case.directory.path("patterns");
     let line = format!("{} is one of the files that are read", patterns.display());
     for option in ["-o", "--marks"] {
-        let (status, _, said) = case.run("compact", &[Path::new(option), &patterns]);
-        assert_eq!((status, said), (Some(2), format!("ullimaqsu: {line}\n")));
+        assert_eq!(case.run("compact", &[Path::new(option), &patterns]), stopped(&line));
     }
-    assert_eq!(case.directory.read("patterns"), before);
+    // both files are written, or none
+    let [to, word] = [case.directory.path("to"), "-o".into()];
+    assert_eq!(case.run("compact", &[&word, &to, Path::new("--marks"), &patterns]), stopped(&line));
+    assert_eq!(
+        (case.directory.read("patterns"), case.directory.names()),
+        (before, ["circuit", "faults", "patterns"].map(String::from).into())
+    );
     let both = case.run("compact", &[Path::new("-o"), Path::new("one"), Path::new("--marks"), Path::new("one")]);
     assert_eq!(both, stopped("compact writes the patterns and their marks to two files, not to one; see ullimaqsu compact --help"));
 }
