@@ -35,6 +35,7 @@ is `test`; `redundant` where no pattern at all detects the fault; or `given up` 
     run,
 };
 
+/// The budget if nothing is said, as the help has it.
 const BUDGET: u64 = 1_000_000;
 
 fn run(words: &Words, out: &mut Out) -> Result<(), Problem> {

@@ -1,7 +1,7 @@
 //! The search for any number of faults, by pieces that the library takes: none depends on another.
 use crate::bar::Bar;
 use crate::circuit::Circuit;
-use crate::fault::Fault;
+use crate::fault::{self, Fault};
 use crate::pattern::Pattern;
 use crate::problem::Problem;
 use crate::table::MOST;
@@ -43,7 +43,7 @@ pub fn search_all(
 /// Of at most 256 faults.
 fn search_piece(circuit: &Circuit, faults: &[Fault], budget: u64) -> Vec<Found> {
     let inputs = circuit.counts.inputs as usize;
-    let records: Vec<u8> = faults.iter().flat_map(|fault| fault.record()).collect();
+    let records = fault::records(faults);
     let (budgets, mut tests, mut work) = (vec![budget; faults.len()], vec![0; faults.len() * inputs], vec![0; 2 * circuit.size()]);
     let searches = ullimaqsu::search_all(&circuit.records, &records, &budgets, &mut tests, &mut work)
         .expect("a circuit and faults that were read, and memory of its exact size, are never refused");
