@@ -1,15 +1,13 @@
 //! Berkeley ABC's reading of the bench notation beside the library's: the records that the library makes of a text, written as BLIF with the
 //! names that it gives to the lines, are equivalent to what ABC reads in the text itself. Where ABC is missing, this says so and compares
 //! nothing; `.ci/abc` installs it.
-#[path = "harness/directory.rs"]
-mod directory;
 #[path = "harness/named.rs"]
 mod named;
 
 use cases::circuits::{circuit, INPUT};
+use cases::directory::{root, Directory};
 use cases::texts::{chain, dense, gate, input, output};
 use cases::{drawn, Random};
-use directory::{root, Directory};
 use named::name_at;
 use std::fs;
 use std::process::Command;

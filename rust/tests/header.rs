@@ -2,14 +2,12 @@
 //! the docs.
 #[path = "harness/command.rs"]
 mod command;
-#[path = "harness/directory.rs"]
-mod directory;
 #[path = "harness/x86.rs"]
 mod x86;
 
 use cases::circuits::{self, example_a, record, INPUT};
+use cases::directory::{root, Directory};
 use command::{run, ullimaqsu};
-use directory::{root, Directory};
 use second::{program, Entry, Files, Finding};
 use std::collections::{BTreeMap, BTreeSet};
 use std::fs;

@@ -36,3 +36,15 @@ fn drawn(done: usize, total: usize) -> String {
     let filled = WIDTH * done / total.max(1);
     format!("[{}{}] {done} of {total} faults", "#".repeat(filled), ".".repeat(WIDTH - filled))
 }
+
+#[cfg(test)]
+mod tests {
+    use super::drawn;
+
+    #[test]
+    fn as_full_as_done() {
+        assert_eq!(drawn(0, 3), format!("[{}] 0 of 3 faults", ".".repeat(40)));
+        assert_eq!(drawn(1, 3), format!("[{}{}] 1 of 3 faults", "#".repeat(13), ".".repeat(27)));
+        assert_eq!(drawn(3, 3), format!("[{}] 3 of 3 faults", "#".repeat(40)));
+    }
+}

@@ -5,13 +5,10 @@ use crate::kind::Kind;
 use crate::problem::{shown, Problem};
 use std::collections::HashMap;
 use std::path::Path;
-use ullimaqsu::{Counts, Refusal, LARGEST_CIRCUIT};
+use ullimaqsu::{Counts, Refusal, LARGEST_CIRCUIT, MOST_LINES};
 
 /// The most bytes of a text, and one more: what is longer is refused by the same number, whatever follows.
 const MOST: usize = 32_769;
-
-/// The most lines of a circuit.
-const MOST_LINES: usize = LARGEST_CIRCUIT / 8;
 
 #[derive(Debug)]
 pub struct Circuit {

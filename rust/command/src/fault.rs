@@ -1,9 +1,8 @@
 //! Faults, by the names of their lines.
 use crate::circuit::Circuit;
-use crate::files::{is_records, read_list};
-use crate::lines::{lines, place, words};
+use crate::lists::{self, lines, place, words};
 use crate::nearest::offered;
-use crate::problem::{shown, Problem};
+use crate::problem::Problem;
 use std::path::Path;
 use ullimaqsu::Refusal;
 
@@ -76,13 +75,7 @@ fn read_pin(pin: &str, line: usize, circuit: &Circuit) -> Result<usize, String> 
 
 /// The faults of a file.
 pub fn load(path: &Path, circuit: &Circuit) -> Result<Vec<Fault>, Problem> {
-    let bytes = read_list(path)?;
-    let faults = if is_records(&bytes) { of_records(&bytes, circuit) } else { of_text(&bytes, circuit) };
-    match faults {
-        Ok(faults) if faults.is_empty() => Err(Problem::Refused(format!("{} has no fault", shown(path)))),
-        Ok(faults) => Ok(faults),
-        Err(says) => Err(Problem::Refused(format!("{}: {says}", shown(path)))),
-    }
+    lists::load(path, "fault", |text| of_text(text, circuit), |records| of_records(records, circuit))
 }
 
 fn of_records(bytes: &[u8], circuit: &Circuit) -> Result<Vec<Fault>, String> {
@@ -111,4 +104,9 @@ pub fn all(circuit: &Circuit, pins: bool) -> Vec<Fault> {
     let sites = |line| 0..=if pins { circuit.kind(line).pins() } else { 0 };
     let places = (0..circuit.size()).flat_map(|line| sites(line).map(move |site| (line, site)));
     places.flat_map(|(line, site)| [false, true].map(|value| Fault { line, site, value })).collect()
+}
+
+/// Faults as the library reads them, one after the other.
+pub fn records(faults: &[Fault]) -> Vec<u8> {
+    faults.iter().flat_map(|fault| fault.record()).collect()
 }

@@ -4,9 +4,6 @@ use std::fs::File;
 use std::io::{self, ErrorKind, Read};
 use std::path::Path;
 
-/// The most bytes of a file of faults, of patterns or of marks.
-const MOST: usize = 16 << 20;
-
 /// The first bytes of a file, at most so many: who asks for one more than a limit sees that the file goes on.
 pub fn read(path: &Path, most: usize) -> Result<Vec<u8>, Problem> {
     let unread = |error| unreadable(path, error);
@@ -17,20 +14,6 @@ pub fn read(path: &Path, most: usize) -> Result<Vec<u8>, Problem> {
     let mut bytes = Vec::new();
     file.take(most as u64).read_to_end(&mut bytes).map_err(unread)?;
     Ok(bytes)
-}
-
-/// A whole list, unless it is longer than anyone's.
-pub fn read_list(path: &Path) -> Result<Vec<u8>, Problem> {
-    let bytes = read(path, MOST + 1)?;
-    if bytes.len() > MOST {
-        return Err(Problem::Stopped(format!("{} has more than {} MiB", shown(path), MOST >> 20)));
-    }
-    Ok(bytes)
-}
-
-/// Texts have no byte below 9, which is a tab; records always do.
-pub fn is_records(bytes: &[u8]) -> bool {
-    bytes.iter().any(|&byte| byte < 9)
 }
 
 fn unreadable(path: &Path, error: io::Error) -> Problem {

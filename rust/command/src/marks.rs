@@ -1,7 +1,6 @@
 //! Marks of patterns: K kept, D dropped.
-use crate::files::{is_records, read_list};
 use crate::form::count;
-use crate::lines::{is_blank, lines, place};
+use crate::lists::{self, is_blank, lines, place};
 use crate::problem::{shown, Problem};
 use std::path::Path;
 
@@ -14,14 +13,15 @@ pub fn letter(mark: u8) -> char {
     }
 }
 
-/// The marks of so many patterns: letters, or the library's bytes, among which the audit looks for bad ones.
+/// The marks of so many patterns: letters, or the library's bytes, of which the audit says whether they are marks.
 pub fn load(path: &Path, patterns: usize) -> Result<Vec<u8>, Problem> {
-    let bytes = read_list(path)?;
-    let refused = |says| Problem::Refused(format!("{}: {says}", shown(path)));
-    let marks = if is_records(&bytes) { bytes } else { of_text(&bytes).map_err(refused)? };
+    let marks = lists::load(path, "mark", of_text, |bytes| Ok(bytes.to_vec()))?;
     match marks.len() == patterns {
         true => Ok(marks),
-        false => Err(refused(format!("there are {}, and {}", count(marks.len(), "mark"), count(patterns, "pattern")))),
+        false => {
+            let (marks, patterns) = (count(marks.len(), "mark"), count(patterns, "pattern"));
+            Err(Problem::Refused(format!("{} has {marks} for {patterns}", shown(path))))
+        }
     }
 }
 

@@ -3,7 +3,10 @@
 //! Which texts are accepted the library alone decides. This reading is for what it does not give: words for a refusal, and texts with gates of
 //! three and more sources, which it refuses.
 mod brackets;
+mod place;
 mod reader;
+
+pub use place::{at_place, line_begin, line_of};
 
 use crate::kind::Kind;
 use std::fmt;
@@ -112,19 +115,4 @@ pub fn word_at(text: &[u8], at: usize) -> Word<'_> {
     let rest = text.get(at..).unwrap_or_default();
     let len = rest.iter().take_while(|&&byte| is_of_a_name(byte)).count();
     Word { at, name: &rest[..len] }
-}
-
-/// The line of a byte, from 1.
-pub fn line_of(text: &[u8], at: usize) -> usize {
-    1 + text.iter().take(at).filter(|&&byte| byte == b'\n').count()
-}
-
-/// The first byte of the line of a byte.
-pub fn line_begin(text: &[u8], at: usize) -> usize {
-    text.iter().take(at).rposition(|&byte| byte == b'\n').map_or(0, |feed| feed + 1)
-}
-
-/// What there is to say of a byte, after where it stands.
-pub fn at_place(text: &[u8], at: usize, says: &str) -> String {
-    format!("line {}, column {} (byte {at}): {says}", line_of(text, at), at - line_begin(text, at) + 1)
 }

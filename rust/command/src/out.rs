@@ -1,4 +1,5 @@
 //! Standard output, where every write may fail.
+use crate::files::why;
 use crate::problem::Problem;
 use std::io::{self, BufWriter, ErrorKind, StdoutLock, Write};
 
@@ -26,6 +27,6 @@ impl Out {
 fn unwritten(error: io::Error) -> Problem {
     match error.kind() {
         ErrorKind::BrokenPipe => Problem::Unheard,
-        _ => Problem::Stopped(format!("standard output could not be written: {error}")),
+        _ => Problem::Stopped(format!("standard output could not be written: {}", why(&error))),
     }
 }

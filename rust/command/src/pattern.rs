@@ -1,9 +1,8 @@
 //! Patterns, a value for each input.
 use crate::circuit::Circuit;
-use crate::files::{is_records, read_list};
 use crate::form::count;
-use crate::lines::{is_blank, lines, place};
-use crate::problem::{shown, Problem};
+use crate::lists::{self, is_blank, lines, place};
+use crate::problem::Problem;
 use std::path::Path;
 use ullimaqsu::Refusal;
 
@@ -40,13 +39,7 @@ fn value(letter: char) -> Option<u8> {
 
 /// The patterns of a file.
 pub fn load(path: &Path, circuit: &Circuit) -> Result<Vec<Pattern>, Problem> {
-    let bytes = read_list(path)?;
-    let patterns = if is_records(&bytes) { of_records(&bytes, circuit) } else { of_text(&bytes, circuit) };
-    match patterns {
-        Ok(patterns) if patterns.is_empty() => Err(Problem::Refused(format!("{} has no pattern", shown(path)))),
-        Ok(patterns) => Ok(patterns),
-        Err(says) => Err(Problem::Refused(format!("{}: {says}", shown(path)))),
-    }
+    lists::load(path, "pattern", |text| of_text(text, circuit), |records| of_records(records, circuit))
 }
 
 fn of_records(bytes: &[u8], circuit: &Circuit) -> Result<Vec<Pattern>, String> {

@@ -13,6 +13,11 @@ use std::path::Path;
 
 /// Writes a whole file: new, or over a regular file that is not write-protected, or over what a link leads to; never over one of the sources.
 pub fn replace(path: &Path, bytes: &[u8], sources: &[&Path]) -> Result<(), Problem> {
+    find(path, sources)?.write(bytes)?.take_place()
+}
+
+/// The place of a file that is written later, if it may be: none of the sources.
+pub fn find(path: &Path, sources: &[&Path]) -> Result<Place, Problem> {
     let sources: Vec<Source> = sources.iter().map(|&path| Source { path, called: "one of the files that are read" }).collect();
-    Place::find(path, &sources)?.write(bytes)?.take_place()
+    Place::find(path, &sources)
 }

@@ -1,6 +1,6 @@
 //! The dictionary of any number of faults and patterns, by pieces that the library takes: no entry depends on another.
 use crate::circuit::Circuit;
-use crate::fault::Fault;
+use crate::fault::{self, Fault};
 use crate::pattern::Pattern;
 
 /// The most faults and the most patterns of a call.
@@ -20,7 +20,7 @@ pub fn letter(entry: u8) -> char {
 
 /// The library's table of at most 256 faults and 256 patterns: a row for each pattern, and in it an entry for each fault.
 pub fn entries(circuit: &Circuit, faults: &[Fault], patterns: &[Pattern]) -> Vec<u8> {
-    let records: Vec<u8> = faults.iter().flat_map(|fault| fault.record()).collect();
+    let records = fault::records(faults);
     let values: Vec<u8> = patterns.iter().flat_map(|pattern| pattern.0.iter().copied()).collect();
     let (mut table, mut work) = (vec![0; faults.len() * patterns.len()], vec![0; 4 * circuit.size()]);
     ullimaqsu::dictionary_lanes(&circuit.records, &records, &values, &mut table, &mut work)

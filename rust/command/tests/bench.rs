@@ -356,7 +356,7 @@ fn signals() {
 fn the_new_file() {
     let directory = Directory::new("new");
     let (file, out) = (directory.write("text.bench", c17()), directory.write("out", OLD));
-    let mut names = vec![];
+    let mut numbers = vec![];
     for _ in 0..2 {
         let (mut reads, writes) = full_pipe();
         let mut process = Command::new(COMMAND).args(words(&[&file, &out])).stdout(writes).spawn().expect("it starts");
@@ -369,16 +369,16 @@ fn the_new_file() {
         };
         assert_eq!((mode(&directory.0.join(&new)), fs::read(&out).expect("a file")), (0o600, OLD.to_vec()));
         assert!(has_records(&directory.0.join(&new)));
-        let random = new.rsplit('.').next().expect("an end").to_string();
-        assert!(random.len() >= 10 && random != process.id().to_string(), "{new}");
-        names.push(new);
+        let number = new.strip_prefix(".ullimaqsu.").filter(|number| number.len() == 16).expect("16 digits");
+        numbers.push(u64::from_str_radix(number, 16).expect("a number"));
         let mut printed = vec![];
         reads.read_to_end(&mut printed).expect("a pipe");
         assert!(printed.ends_with(COUNTS.as_bytes()));
         assert!(end_of(&mut process).success() && has_records(&out));
         fs::write(&out, OLD).expect("a file");
     }
-    assert_ne!(names[0], names[1]);
+    // what counts, such as the time or the number of a process, has the same upper half twice
+    assert_ne!(numbers[0] >> 32, numbers[1] >> 32);
     assert_eq!(directory.names(), ["out", "text.bench"]);
 }
 

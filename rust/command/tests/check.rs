@@ -5,7 +5,8 @@ use cases::circuits::{self, record, BUFFER, INPUT};
 use cases::{damage, drawn, texts, Directory, Random};
 use harness::named::Named;
 use harness::{examples, printed, refused, stopped, ullimaqsu};
-use std::fs;
+use std::fs::{self, Permissions};
+use std::os::unix::fs::PermissionsExt;
 use std::path::Path;
 
 fn check(path: &Path) -> harness::Said {
@@ -115,6 +116,7 @@ fn wrong_records() {
     };
     let cases = [
         (one[..15].to_vec(), "refusal 1: the circuit is not a multiple of 8 bytes, empty, or above 2,048 records"),
+        (with(0, 9), "refusal 2: line 0, kind (byte 0): 9 is no kind"),
         (with(8, 9), "refusal 2: line 1, kind (byte 8): 9 is no kind"),
         (with(9, 2), "refusal 2: line 1, output (byte 9): 2 is neither 0 nor 1"),
         (with(11, 1), "refusal 2: line 1, first source (byte 10): 256 is not lower than the line"),
@@ -137,6 +139,12 @@ fn files_that_can_not_be_read() {
     let below = directory.write("file", "").join("below");
     assert_eq!(check(&below), stopped(&format!("{} can't be read: Not a directory", below.display())));
     assert_eq!(check(Path::new("/proc/self/mem")), stopped("/proc/self/mem can't be read: Input/output error"));
+    // root may read everything
+    let locked = directory.write("locked", "INPUT(a)\nOUTPUT(a)\n");
+    fs::set_permissions(&locked, Permissions::from_mode(0)).expect("a mode");
+    let denied = stopped(&format!("{} can't be read: Permission denied", locked.display()));
+    let said = check(&locked);
+    assert!(said == denied || said == fine("lines 1, inputs 1, outputs 1\n".to_string()), "{said:?}");
     // a name is shown on one line whatever it is
     assert_eq!(check(Path::new("no\nsuch\u{1b}file")), stopped("there is no file no?such?file"));
 }

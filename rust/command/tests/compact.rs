@@ -4,7 +4,7 @@ mod harness;
 use cases::{circuits, tables, texts, Directory, Random};
 use harness::json::Json;
 use harness::named::{letters, pattern_lines, Named};
-use harness::{example, printed, refused, stopped, ullimaqsu, Said};
+use harness::{example, into_broken, into_full, printed, refused, stopped, ullimaqsu, Said};
 use second::compact::{needs, Need, Row};
 use second::{Finding, Given};
 use std::collections::BTreeMap;
@@ -224,6 +224,12 @@ fn lost() {
     assert_eq!(audit("K D D"), said("lost fault: 22/1 is failed by pattern 1, and by no kept one"));
     assert_eq!(audit("D K K"), said("lost pair: 22/0 and 23/0 are told apart by pattern 0, and by no kept one"));
     assert_eq!(audit("K K K").0, Some(0));
+
+    // a finding that nobody reads, or that can't be printed, is no answer
+    let words = [Path::new("audit"), &example("c17"), &faults, &patterns, &directory.write("kept", "DDD")];
+    assert_eq!(into_broken(&words), (Some(141), String::new(), String::new()));
+    let (status, _, said) = into_full(&words);
+    assert_eq!((status, said.as_str()), (Some(2), "ullimaqsu: standard output could not be written: No space left on device\n"));
 }
 
 /// More than the library takes is refused by name, and so is what is written over what is read.
@@ -247,10 +253,15 @@ fn limits_and_files() {
     let patterns = case.directory.path("patterns");
     let line = format!("{} is one of the files that are read", patterns.display());
     for option in ["-o", "--marks"] {
-        let (status, _, said) = case.run("compact", &[Path::new(option), &patterns]);
-        assert_eq!((status, said), (Some(2), format!("ullimaqsu: {line}\n")));
+        assert_eq!(case.run("compact", &[Path::new(option), &patterns]), stopped(&line));
     }
-    assert_eq!(case.directory.read("patterns"), before);
+    // both files are written, or none
+    let [to, word] = [case.directory.path("to"), "-o".into()];
+    assert_eq!(case.run("compact", &[&word, &to, Path::new("--marks"), &patterns]), stopped(&line));
+    assert_eq!(
+        (case.directory.read("patterns"), case.directory.names()),
+        (before, ["circuit", "faults", "patterns"].map(String::from).into())
+    );
     let both = case.run("compact", &[Path::new("-o"), Path::new("one"), Path::new("--marks"), Path::new("one")]);
     assert_eq!(both, stopped("compact writes the patterns and their marks to two files, not to one; see ullimaqsu compact --help"));
 }

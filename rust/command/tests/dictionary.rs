@@ -4,10 +4,12 @@ mod harness;
 use cases::{circuits, drawn, texts, Directory, Random};
 use harness::json::Json;
 use harness::named::{letters, pattern_lines, Named};
-use harness::{example, into_broken, printed, stopped, ullimaqsu};
+use harness::{example, into_broken, printed, said, stopped, ullimaqsu, COMMAND};
 use second::{Entry, Given};
 use std::fs;
+use std::io::{BufRead, BufReader, Write};
 use std::path::Path;
+use std::process::{Command, Stdio};
 
 /// The letters of each fault, one for each pattern.
 fn entries(given: &Given) -> Vec<String> {
@@ -159,4 +161,33 @@ fn words_and_pipes() {
     let whole = [Path::new("dictionary"), &c17, &faults, &patterns];
     assert_eq!(printed(&whole), "fault 0\n22/0  P\n1 fault, 1 pattern: 0 detected\n");
     assert_eq!(into_broken(&whole), (Some(141), String::new(), String::new()));
+
+    // who has read enough goes in the middle of it
+    let faults = directory.write("faults", "22/0\n".repeat(100_000));
+    let mut process = Command::new(COMMAND);
+    let process = process.args([Path::new("dictionary"), &c17, &faults, &patterns]).stdout(Stdio::piped()).stderr(Stdio::piped());
+    let mut process = process.spawn().expect("it starts");
+    let mut line = String::new();
+    BufReader::new(process.stdout.take().expect("piped")).read_line(&mut line).expect("a line");
+    let (status, _, told) = said(process.wait_with_output().expect("it ends"));
+    assert_eq!((line.as_str(), status, told.as_str()), ("fault 0\n", Some(141), ""));
+}
+
+/// Each file may come through a pipe.
+#[test]
+fn from_pipes() {
+    let directory = Directory::new("dictionary from pipes");
+    let c17 = fs::read(example("c17")).expect("c17");
+    let parts = [("circuit", c17.as_slice()), ("faults", b"22/0\n"), ("patterns", b"10000\n")];
+    let paths = parts.map(|(name, bytes)| directory.write(name, bytes));
+    for (part, (_, bytes)) in parts.iter().enumerate() {
+        let mut words = paths.clone();
+        words[part] = "/dev/stdin".into();
+        let mut process = Command::new(COMMAND);
+        let process = process.arg("dictionary").args(words).stdin(Stdio::piped()).stdout(Stdio::piped()).stderr(Stdio::piped());
+        let mut process = process.spawn().expect("it starts");
+        process.stdin.take().expect("piped").write_all(bytes).expect("it reads");
+        let said = said(process.wait_with_output().expect("it ends"));
+        assert_eq!(said, (Some(0), "fault 0\n22/0  P\n1 fault, 1 pattern: 0 detected\n".to_string(), String::new()));
+    }
 }

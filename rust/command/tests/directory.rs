@@ -1,9 +1,10 @@
 //! `ullimaqsu dictionary` of a directory against the second program, byte for byte, and what it says of what is wrong.
+#[path = "../../tests/harness/directories.rs"]
+mod directories;
 mod harness;
 
-use cases::circuits::{record, small, BUFFER};
-use cases::faults::{patterns, some};
-use cases::{circuits, damage, drawn, Random, Tally};
+use cases::{drawn, Random, Tally};
+use directories::{boundaries, damaged, directory_of, sound};
 use harness::{into_broken, into_full, printed, root, stopped, ullimaqsu, Directory, Said};
 use second::Files;
 use std::fs;
@@ -12,63 +13,6 @@ use std::path::Path;
 
 fn dictionary(directory: &Path) -> Said {
     ullimaqsu(&[Path::new("dictionary"), directory])
-}
-
-/// A directory of these files.
-fn directory_of(name: &str, files: &Files) -> Directory {
-    let directory = Directory::new(name);
-    for (name, file) in [("circuit.rec", &files.circuit), ("faults.rec", &files.faults), ("patterns.rec", &files.patterns)] {
-        if let Some(bytes) = file {
-            directory.write(name, bytes);
-        }
-    }
-    directory
-}
-
-fn files(random: &mut Random, circuit: Vec<u8>, fault_count: usize, pattern_count: usize) -> Files {
-    let (faults, patterns) = (some(random, &circuit, fault_count), patterns(random, &circuit, pattern_count));
-    Files { circuit: Some(circuit), faults: Some(faults), patterns: Some(patterns) }
-}
-
-fn sound(random: &mut Random) -> Files {
-    let circuit = small(random);
-    let (fault_count, pattern_count) = (1 + random.below(12), 1 + random.below(12));
-    files(random, circuit, fault_count, pattern_count)
-}
-
-/// One thing or several are wrong: a file is absent, or damaged.
-fn damaged(random: &mut Random) -> Files {
-    let mut files = sound(random);
-    let lines = files.circuit.as_ref().map_or(0, |bytes| bytes.len() / 8);
-    damage::several(random, &mut files, |random, files| match (random.below(8), files) {
-        (0, files) => files.faults = None,
-        (1, files) => files.patterns = None,
-        (2..=3, Files { circuit: Some(bytes), .. }) => damage::circuit(random, bytes),
-        (4..=5, Files { faults: Some(bytes), .. }) => damage::faults(random, bytes, lines),
-        (_, Files { patterns: Some(bytes), .. }) => damage::patterns(random, bytes),
-        _ => (),
-    });
-    files
-}
-
-/// The sizes at which something changes.
-fn boundaries(random: &mut Random) -> Vec<Files> {
-    let mut all: Vec<_> = [(1, 1), (2, 1), (65, 64), (66, 65), (2048, 64), (2049, 64)]
-        .map(|(lines, inputs)| {
-            let circuit = circuits::circuit(random, lines, inputs);
-            files(random, circuit, 3, 3)
-        })
-        .into();
-    for (fault_count, pattern_count) in [(100, 256), (257, 20), (20, 257), (1, 256), (256, 1)] {
-        let circuit = circuits::circuit(random, 60, 12);
-        all.push(files(random, circuit, fault_count, pattern_count));
-    }
-    all.push(Files::default());
-    // a file that is too long is as good as cut one byte above its limit, whatever stands behind
-    let mut long = sound(random);
-    long.circuit = long.circuit.map(|bytes| [&bytes[..], &record(BUFFER, true, 0, 0).repeat(4000)].concat());
-    all.push(long);
-    all
 }
 
 /// Prints what the second program prints; a refusal has status 1, and as many lines on standard error as it must.

@@ -182,6 +182,9 @@ fn into_a_file() {
     assert_eq!(directory.read("list"), faults(&circuit, &[]));
     assert_eq!(words(&circuit), stopped(&format!("{} is one of the files that are read", circuit.display())));
     assert_eq!(directory.read("c17.bench"), fs::read_to_string(example("c17")).expect("c17"));
+    // of two places the last
+    let words_twice = [Path::new("faults"), &circuit, Path::new("-o"), &directory.path("first"), Path::new("-o"), &out];
+    assert_eq!(printed(&words_twice), "");
     let missing = directory.path("missing/list");
     assert_eq!(words(&missing).0, Some(2));
     assert_eq!(directory.names(), ["c17.bench", "list"]);

@@ -106,16 +106,16 @@ fn patterns() {
 fn marks() {
     let lists = Lists::new("lists of marks");
     let cases = [
-        ("K\n", ": there are 1 mark, and 2 patterns"),
-        ("", ": there are 0 marks, and 2 patterns"),
-        ("K D # K\nd", ": there are 3 marks, and 2 patterns"),
+        ("K\n", " has 1 mark for 2 patterns"),
+        ("# K K", " has no mark"),
+        ("K D # K\nd", " has 3 marks for 2 patterns"),
         ("K\r\n  X", ": line 2, column 3: `X` is neither K nor D"),
         ("11", ": line 1, column 1: `1` is neither K nor D"),
     ];
     for (text, says) in cases {
         assert_eq!(lists.with("kept", text), lists.about("kept", says), "{text:?}");
     }
-    assert_eq!(lists.with("kept", [1, 0, 1]), lists.about("kept", ": there are 3 marks, and 2 patterns"));
+    assert_eq!(lists.with("kept", [1, 0, 1]), lists.about("kept", " has 3 marks for 2 patterns"));
 }
 
 /// What can't be read, and what nobody needs to read to its end.

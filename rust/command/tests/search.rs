@@ -145,6 +145,16 @@ fn many_inputs() {
     assert!(said.ends_with("2 faults: 1 test, 0 redundant, 1 given up\n"), "{said}");
 }
 
+/// Without a budget the search looks at a million nodes, here of the 2^65 that it would need: a parity and its opposite are never both 1.
+#[test]
+fn the_budget_if_nothing_is_said() {
+    let directory = Directory::new("budget");
+    let never = [circuits::record(circuits::NOT, false, 126, 0), circuits::record(circuits::AND, true, 126, 127)].concat();
+    let path = directory.write("never.rec", [circuits::parity(), never].concat());
+    let said = printed(&["search", path.to_str().expect("text"), "128/0", "--csv"]);
+    assert!(said.ends_with(&format!("\n128/0,given up,1000000{}\n", ",".repeat(64))), "{said}");
+}
+
 /// Faults as words and as a file give the same; and each test, used as a pattern, fails its fault.
 #[test]
 fn tests_as_patterns() {
@@ -229,11 +239,22 @@ fn nobody_reads() {
     let words = ["search", circuit.to_str().expect("text"), "--all", "-o", out.to_str().expect("text")];
     assert_eq!(into_broken(&words), (Some(141), String::new(), String::new()));
     let (status, _, said) = into_full(&words);
-    assert_eq!(
-        (status, said.as_str()),
-        (Some(2), "ullimaqsu: standard output could not be written: No space left on device (os error 28)\n")
-    );
+    assert_eq!((status, said.as_str()), (Some(2), "ullimaqsu: standard output could not be written: No space left on device\n"));
     assert_eq!(directory.names(), [""; 0]);
+}
+
+/// That the tests can't be written is said before anything is searched, and nothing is written over what is read.
+#[test]
+fn places() {
+    let directory = Directory::new("places");
+    let (circuit, list) = (directory.write("c17.bench", fs::read(example("c17")).expect("c17")), directory.write("list", "22/0\n"));
+    let search = |to: &Path| ullimaqsu(&[Path::new("search"), &circuit, Path::new("--faults"), &list, Path::new("-o"), to]);
+    for source in [&circuit, &list] {
+        assert_eq!(search(source), stopped(&format!("{} is one of the files that are read", source.display())));
+    }
+    let missing = directory.path("missing/tests");
+    assert_eq!(search(&missing), stopped(&format!("the directory of {} is missing or can't be entered", missing.display())));
+    assert_eq!((directory.read("list").as_str(), directory.names()), ("22/0\n", vec!["c17.bench".to_string(), "list".to_string()]));
 }
 
 /// A large circuit, with a piece of its faults.

@@ -1,7 +1,7 @@
 //! `./ullimaqsu` and what it says.
-use crate::directory::root;
-#[allow(unused_imports)] // not every test asks for all
-pub use cases::said::{run, said, Said};
+use cases::directory::root;
+pub use cases::said::run;
+use cases::said::Said;
 use std::ffi::OsStr;
 use std::path::PathBuf;
 use std::process::Command;

@@ -32,6 +32,8 @@ fn run(words: &Words, out: &mut Out) -> Result<(), Problem> {
     let finding = ullimaqsu::audit(listed.faults.len() as u64, listed.patterns.len() as u64, &listed.table, &marks)
         .expect("the table of a dictionary and a mark for each pattern are never refused");
     out.print(&Found::of(finding, &listed, &marks).printed(form))?;
+    // a finding that can't be printed is no answer
+    out.flush()?;
     match finding {
         Finding::Sound => Ok(()),
         _ => Err(Problem::Printed),

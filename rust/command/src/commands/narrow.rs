@@ -24,8 +24,8 @@ stand in lines before the gate's own, and their names, of 16 letters at most, ar
 every pattern, X's included. Comments, blanks, line ends and all other lines stay as they are; only keywords in small letters are put in capitals,
 and BUF becomes BUFF.
 
-FILE has at most 1 MiB. What is no text of the notation but for such gates and keywords is refused with line and column, and so is what then has more
-than 32,768 bytes or 2,048 lines; nothing is written then. A gate of one source is BUFF or NOT, and no AND or OR.",
+FILE has at most 1 MiB. What is no text of the notation but for such gates and keywords is refused with line and column, as is an AND or OR of one
+source. What then has more than 32,768 bytes or 2,048 lines is refused too. Of what is refused nothing is written.",
     example: "ullimaqsu narrow examples/wide.bench",
     run,
 };

@@ -150,7 +150,8 @@ impl<'a> Reader<'a> {
 
     fn no_bracket(&self, of: Word, brackets: Brackets, count: usize) -> Stuck {
         let mut stuck = self.must(&format!("after {} {of}", brackets.called(count)), brackets.then(count));
-        if brackets == Brackets::TwoSources && count == 2 && self.ahead() == Some(b',') {
+        // a comma is in order after the first source
+        if brackets == Brackets::TwoSources && self.ahead() == Some(b',') {
             stuck.says += "; `./ullimaqsu narrow` rewrites gates of three and more sources";
         }
         stuck

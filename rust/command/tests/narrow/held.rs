@@ -8,6 +8,11 @@ fn lines(text: &[u8]) -> Vec<&[u8]> {
     text.split_inclusive(|&byte| byte == b'\n').collect()
 }
 
+/// How a line ends, if it does.
+fn end(line: &[u8]) -> Option<&'static [u8]> {
+    [&b"\r\n"[..], b"\n"].into_iter().find(|end| line.ends_with(end))
+}
+
 fn ensure(holds: bool, says: &str) -> Result<(), String> {
     holds.then_some(()).ok_or_else(|| says.to_string())
 }
@@ -35,23 +40,14 @@ fn names(wide: &[u8], narrow: &[u8]) -> Result<(), String> {
 /// Every line stands there, with keywords put right. Before the line of a gate of n sources are n - 2 new ones, which end as it does, and in it
 /// nothing but the sources is new.
 fn same_lines(wide: &[u8], narrow: &[u8]) -> Result<(), String> {
-    let newline = if lines(wide)[0].ends_with(b"\r\n") { &b"\r\n"[..] } else { b"\n" };
+    let first = end(lines(wide)[0]).unwrap_or(b"\n");
     let mut after = lines(narrow).into_iter();
     for line in lines(wide) {
         let made = words(line).len().saturating_sub(4);
-        let end = if line.ends_with(b"\r\n") {
-            b"\r\n"
-        } else if line.ends_with(b"\n") {
-            b"\n"
-        } else {
-            newline
-        };
         for _ in 0..made {
-            let new = after.next().ok_or("a line is missing")?;
-            ensure(
-                words(new).len() == 4 && new.ends_with(end) && end.len() == new.len() - new.trim_ascii_end().len(),
-                "a made gate, or its end",
-            )?;
+            let new =
+                after.next().and_then(|new| new.strip_suffix(end(line).unwrap_or(first))).ok_or("a line is missing, or ends otherwise")?;
+            ensure(words(new).len() == 4 && new.ends_with(b")"), "a line is no gate of two sources")?;
         }
         let (was, is) = (spelled(line), after.next().ok_or("a line is missing")?.to_vec());
         let same = if made == 0 { was == is } else { without_sources(&was) == without_sources(&is) };

@@ -39,7 +39,7 @@ pub fn run(directory: &Path, out: &mut Out) -> Result<(), Problem> {
     ];
     match listing(&parts) {
         Ok(listing) => out.print(&listing),
-        Err(refusal) => Err(refused(&parts, refusal, out)?),
+        Err(refusal) => refuse(&parts, refusal, out),
     }
 }
 
@@ -59,7 +59,7 @@ fn listing([circuit, faults, patterns]: &[Part; 3]) -> Result<String, Refusal> {
 }
 
 /// Prints the refusal, and says what it means, of which file, and which files are absent.
-fn refused(parts: &[Part; 3], refusal: Refusal, out: &mut Out) -> Result<Problem, Problem> {
+fn refuse(parts: &[Part; 3], refusal: Refusal, out: &mut Out) -> Result<(), Problem> {
     out.print(&format!("refused {} {}\n", refusal.number, refusal.place))?;
     out.flush()?;
     let of = match refusal.number {
@@ -73,5 +73,5 @@ fn refused(parts: &[Part; 3], refusal: Refusal, out: &mut Out) -> Result<Problem
     let mut lines: Vec<String> = [format!("{}: {says}", shown(&of.path))].into_iter().chain(absent).collect();
     let last = lines.pop().expect("one line at least");
     lines.into_iter().for_each(|line| Problem::Refused(line).tell());
-    Ok(Problem::Refused(last))
+    Err(Problem::Refused(last))
 }

@@ -1,0 +1,76 @@
+//! What a search has found, in words.
+use super::pieces::Found;
+use crate::circuit::Circuit;
+use crate::columns::{widest, Columns};
+use crate::fault::Fault;
+use crate::form::{count, csv_row, list, quoted, Form};
+use crate::pattern::Pattern;
+use ullimaqsu::Outcome;
+
+pub struct Printer<'a> {
+    form: Form,
+    circuit: &'a Circuit,
+    inputs: Vec<&'a str>,
+    columns: Columns,
+    /// How wide a number of nodes is.
+    nodes: usize,
+    /// Nothing was printed of the list.
+    first: bool,
+}
+
+impl Printer<'_> {
+    pub fn new<'a>(form: Form, circuit: &'a Circuit, faults: &[Fault], budget: u64) -> Printer<'a> {
+        let inputs: Vec<&str> = circuit.inputs().into_iter().map(|line| circuit.name(line)).collect();
+        // a search looks at no more nodes than its budget, and there are no more than those of the whole tree
+        let tree = 2_u64.checked_pow(inputs.len() as u32 + 1).map_or(u64::MAX, |nodes| nodes - 1);
+        let nodes = budget.min(tree).to_string().len().max("nodes".len());
+        let names = widest(faults.iter().map(|fault| fault.named(circuit))).max("fault".len());
+        let columns = Columns::new([names, "redundant".len(), nodes].into_iter().chain(inputs.iter().map(|name| name.len())));
+        Printer { form, circuit, inputs, columns, nodes, first: true }
+    }
+
+    pub fn head(&self) -> String {
+        match self.form {
+            Form::Table => self.columns.row(["fault", "outcome", &format!("{:>1$}", "nodes", self.nodes)].iter().chain(&self.inputs)),
+            Form::Csv => csv_row(["fault", "outcome", "nodes"].iter().chain(&self.inputs)),
+            Form::Json => format!("{{\"inputs\": {},\n\"faults\": [", list(&self.inputs)),
+        }
+    }
+
+    pub fn line(&mut self, found: &Found) -> String {
+        let (fault, outcome) = (found.fault.named(self.circuit), word(found.search.outcome));
+        let (nodes, letters) = (found.search.nodes.to_string(), found.test.as_ref().map(Pattern::letters));
+        let values = || match &letters {
+            Some(letters) => letters.chars().map(String::from).collect(),
+            None => vec![String::new(); self.inputs.len()],
+        };
+        match self.form {
+            Form::Table => self.columns.row([fault, outcome.to_string(), format!("{nodes:>0$}", self.nodes)].into_iter().chain(values())),
+            Form::Csv => csv_row([fault, outcome.to_string(), nodes].into_iter().chain(values())),
+            Form::Json => {
+                let (comma, test) = (if std::mem::take(&mut self.first) { "" } else { "," }, letters.map_or("null".to_string(), quoted));
+                format!("{comma}\n{{\"fault\": \"{fault}\", \"outcome\": \"{outcome}\", \"nodes\": {nodes}, \"test\": {test}}}")
+            }
+        }
+    }
+
+    pub fn foot(&self, all: &[Found]) -> String {
+        let [tests, redundant, given_up] = [Outcome::Test, Outcome::Redundant, Outcome::GivenUp]
+            .map(|outcome| all.iter().filter(|found| found.search.outcome == outcome).count());
+        match self.form {
+            Form::Table => {
+                format!("{}: {}, {redundant} redundant, {given_up} given up\n", count(all.len(), "fault"), count(tests, "test"))
+            }
+            Form::Csv => String::new(),
+            Form::Json => format!("\n],\n\"tests\": {tests}, \"redundant\": {redundant}, \"given up\": {given_up}}}\n"),
+        }
+    }
+}
+
+fn word(outcome: Outcome) -> &'static str {
+    match outcome {
+        Outcome::Test => "test",
+        Outcome::Redundant => "redundant",
+        Outcome::GivenUp => "given up",
+    }
+}
