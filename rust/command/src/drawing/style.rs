@@ -1,4 +1,5 @@
 //! Colours and strokes, and the legend that says what they mean.
+use super::nodes::cross;
 use super::svg::{Anchor, Svg};
 
 /// Names and values have letters of one width. Texts have a white rim, so that they can be read where they lie on a wire.
@@ -40,7 +41,7 @@ pub fn legend(svg: &mut Svg, left: f64, y: f64, fault: bool) {
         x = entry(svg, x + PIECE, y, says);
     }
     if fault {
-        svg.path("cross", &super::cross(x + 7.0, y));
+        svg.path("cross", &cross(x + 7.0, y));
         x = entry(svg, x + 14.0, y, "stuck here");
         entry(svg, x - 6.0, y, "1/0: good/faulty");
     }
