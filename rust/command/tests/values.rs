@@ -228,6 +228,69 @@ fn is_picture(case: &Case, file: &str, picture: &str) {
     }
 }
 
+type Point = (f64, f64);
+
+/// Where the pieces of a path begin and end: it goes somewhere (M), then along a curve (C) or level (H).
+fn pieces(path: &str) -> Vec<(Point, Point)> {
+    let piece = |piece: &str| {
+        let mut steps = piece.split_inclusive(|letter: char| letter.is_ascii_alphabetic()).collect::<Vec<_>>();
+        let first = steps.remove(0);
+        let numbers = |text: &str| -> Vec<f64> {
+            let digits = text.trim_end_matches(|letter: char| letter.is_ascii_alphabetic());
+            digits.split(' ').map(|number| number.parse().expect("a number")).collect()
+        };
+        let begin = (numbers(first)[0], numbers(first)[1]);
+        let mut letter = first.chars().last().expect("a letter");
+        let mut end = begin;
+        for step in steps {
+            end = match (letter, numbers(step).as_slice()) {
+                ('H', [x]) => (*x, end.1),
+                ('C', [_, _, _, _, x, y]) => (*x, *y),
+                other => panic!("{other:?} in {path}"),
+            };
+            letter = step.chars().last().expect("a letter");
+        }
+        (begin, end)
+    };
+    path.split('M').skip(1).map(piece).collect()
+}
+
+/// Each wire begins at its gate and ends at the pins that read it and at its output, and nowhere else; its pieces hang together.
+fn are_wires(case: &Case, root: &Element) {
+    let all = root.all();
+    let place_of = |id: String| place(all.iter().find(|element| element.attribute("id") == Some(&id)).expect("a group"));
+    let places: Vec<Point> = (0..case.lines()).map(|line| place_of(format!("line-{}", case.name(line)))).collect();
+    let mut right: Vec<Vec<Point>> = vec![vec![]; case.lines()];
+    for (reader, &(x, y)) in places.iter().enumerate() {
+        let gate = case.named.circuit.lines[reader].gate;
+        let left = if matches!(gate, Gate::Or(..) | Gate::Nor(..) | Gate::Xor(..) | Gate::Xnor(..)) { 23.5 } else { 28.0 };
+        let heights: &[f64] = if gate.sources().len() == 2 { &[-11.0, 11.0] } else { &[0.0] };
+        gate.sources().into_iter().zip(heights).for_each(|(source, height)| right[source].push((x - left, y + height)));
+        if case.is_output(reader) {
+            let (x, y) = place_of(format!("output-{}", case.name(reader)));
+            right[reader].push((x - 28.0, y));
+        }
+    }
+    let is_wire = |element: &&&Element| element.attribute("class").is_some_and(|class| class.starts_with("wire "));
+    for (line, wire) in all.iter().filter(is_wire).take(case.lines()).enumerate() {
+        let pieces = pieces(wire.needs("d"));
+        let inverts = matches!(case.kind(line), "NOT" | "NAND" | "NOR" | "XNOR");
+        let gate = (places[line].0 + if inverts { 36.0 } else { 28.0 }, places[line].1);
+        assert_eq!(pieces.iter().filter(|(begin, _)| *begin == gate).count(), 1, "{} leaves its gate", case.name(line));
+        let mut ends: Vec<Point> = pieces.iter().map(|(_, end)| *end).filter(|end| !pieces.iter().any(|(begin, _)| begin == end)).collect();
+        let hangs = |begin: Point| begin == gate || pieces.iter().any(|(_, end)| *end == begin);
+        assert!(pieces.iter().all(|(begin, _)| hangs(*begin)), "{} hangs together", case.name(line));
+        if right[line].is_empty() {
+            // a line that nobody reads ends behind its gate
+            assert_eq!((pieces.len(), ends.pop().map(|end| end.1)), (1, Some(gate.1)));
+        }
+        let sorted = |points: &mut Vec<Point>| points.sort_by(|one, other| one.0.total_cmp(&other.0).then(one.1.total_cmp(&other.1)));
+        sorted(&mut ends);
+        sorted(&mut right[line]);
+        assert_eq!(ends, right[line], "{} is read where its wire ends", case.name(line));
+    }
+}
+
 /// Every form of a case.
 fn compare(directory: &Directory, path: &Path, case: &Case) {
     is_table(case, &printed(&case.words(path, &[])));
@@ -235,7 +298,9 @@ fn compare(directory: &Directory, path: &Path, case: &Case) {
     let picture = directory.path("picture.svg");
     let said = printed(&case.words(path, &["--json", "--svg", picture.to_str().expect("text")]));
     assert_eq!(Json::read(&said), json(case));
-    is_picture(case, &path.display().to_string(), &directory.read("picture.svg"));
+    let picture = directory.read("picture.svg");
+    is_picture(case, &path.display().to_string(), &picture);
+    are_wires(case, &Element::read(&picture));
 }
 
 #[test]
@@ -306,6 +371,25 @@ fn long_wires() {
         let picture = directory.path("chain.svg");
         printed(&[Path::new("values"), &path, Path::new("1"), Path::new("--svg"), &picture]);
         assert_eq!(Element::read(&directory.read("chain.svg")).texts("label"), labels, "{length}");
+    }
+}
+
+/// Inputs stand as the pattern has them, and gates so that wires need not cross.
+#[test]
+fn straight_wires() {
+    let directory = Directory::new("straight wires");
+    let names = ["a", "b", "c", "d", "e", "f"];
+    let inputs: String = names.iter().map(|name| format!("INPUT({name})\nOUTPUT(n{name})\n")).collect();
+    let gates: String = names.iter().rev().map(|name| format!("n{name} = BUFF(m{name})\nm{name} = NOT({name})\n")).collect();
+    let path = directory.write("backwards", inputs + &gates);
+    let picture = directory.path("backwards.svg");
+    printed(&[Path::new("values"), &path, Path::new("000000"), Path::new("--svg"), &picture]);
+    let root = Element::read(&directory.read("backwards.svg"));
+    let height = |id: String| place(root.all().iter().find(|element| element.attribute("id") == Some(&id)).expect("a group")).1;
+    let heights: Vec<f64> = names.iter().map(|name| height(format!("line-{name}"))).collect();
+    assert!(heights.windows(2).all(|pair| pair[0] < pair[1]), "{heights:?}");
+    for (name, right) in names.iter().zip(heights) {
+        assert_eq!(["line-m", "line-n", "output-n"].map(|id| height(format!("{id}{name}"))), [right; 3], "{name}");
     }
 }
 
