@@ -137,6 +137,11 @@ fn what_is_newer() {
     assert_eq!(repository.called().1, ALL);
     fs::remove_file(new).expect("a file");
     assert_eq!(repository.called().1, ALL);
+    // another library was put there by hand, or the same once more
+    repository.0.write("build/native/libentries.a", "another library");
+    assert_eq!(repository.called().1, ALL);
+    repository.0.write("build/native/libentries.a", "library\n");
+    assert_eq!(repository.called(), (ran(BUILDING), vec![ALL[2].to_string()]));
     // what was made is gone
     fs::remove_file(repository.0.path("build/native/libentries.a")).expect("a file");
     assert_eq!(repository.called().1, ALL);
