@@ -365,6 +365,7 @@ fn the_new_file() {
                 Some(new) if fs::read(directory.0.join(&new)).is_ok_and(|bytes| !bytes.is_empty()) => break new,
                 _ => assert_eq!(process.try_wait().expect("a process"), None, "it ended and waited for nobody"),
             }
+            assert_eq!(fs::read(&out).expect("a file"), OLD, "nobody has read the report yet");
             thread::sleep(Duration::from_millis(5));
         };
         assert_eq!((mode(&directory.0.join(&new)), fs::read(&out).expect("a file")), (0o600, OLD.to_vec()));

@@ -141,7 +141,7 @@ fn files_that_can_not_be_read() {
     assert_eq!(check(Path::new("/proc/self/mem")), stopped("/proc/self/mem can't be read: Input/output error"));
     // root may read everything
     let locked = directory.write("locked", "INPUT(a)\nOUTPUT(a)\n");
-    fs::set_permissions(&locked, Permissions::from_mode(0)).expect("a mode");
+    fs::set_permissions(&locked, Permissions::from_mode(0o000)).expect("a mode");
     let denied = stopped(&format!("{} can't be read: Permission denied", locked.display()));
     let said = check(&locked);
     assert!(said == denied || said == fine("lines 1, inputs 1, outputs 1\n".to_string()), "{said:?}");
