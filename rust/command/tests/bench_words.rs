@@ -203,23 +203,47 @@ fn every_beginning() {
     check_all("beginnings", cut.flat_map(some).collect());
 }
 
+/// What is said of a text, after its place.
+fn words(directory: &Directory, bytes: &[u8]) -> String {
+    let output = Command::new(COMMAND).arg("bench").arg(directory.write("text.bench", bytes)).output().expect("it starts");
+    text(&output.stderr).trim_end().split_once("): ").expect("a place").1.to_string()
+}
+
 /// A third source is where `narrow` helps, in each kind that has two, and nowhere else.
 #[test]
 fn wide_gates() {
     let directory = Directory::new("wide");
-    let words = |statement: &str| {
-        let file = directory.write("text.bench", format!("INPUT(a)\nOUTPUT(a)\n{statement}").as_bytes());
-        let output = Command::new(COMMAND).arg("bench").arg(&file).output().expect("it starts");
-        text(&output.stderr).split_once("): ").expect("a place").1.to_string()
-    };
+    let words = |statement: &str| words(&directory, format!("INPUT(a)\nOUTPUT(a)\n{statement}").as_bytes());
     for kind in ["AND", "NAND", "OR", "NOR", "XOR", "XNOR"] {
         let says = format!("after the second of the two sources of `{kind}` there must be `)`, and here is `,`");
-        assert_eq!(words(&format!("y={kind}(a,a ,a)")), format!("{says}; `./ullimaqsu narrow` rewrites gates of three and more sources\n"));
-        assert_eq!(words(&format!("y={kind}(a,a=")), format!("{}\n", says.replace("`,`", "`=`")));
+        assert_eq!(words(&format!("y={kind}(a,a ,a)")), format!("{says}; `./ullimaqsu narrow` rewrites gates of three and more sources"));
+        assert_eq!(words(&format!("y={kind}(a,a=")), says.replace("`,`", "`=`"));
     }
     for other in ["y=NOT(a,a)", "y=BUFF(a,a,a)", "INPUT(a,a,a)", "y=and(a,a,a)", "y=AND(a,,a)", "y=AND(a,a),"] {
         assert!(!words(other).contains("narrow"), "{other}");
     }
+}
+
+/// A loop of eight gates is shown whole, and of a longer one the beginning and the end.
+#[test]
+fn loops() {
+    let directory = Directory::new("loops");
+    let ring = |len: usize| (0..len).map(|k| format!("g{k}=NOT(g{})\n", (k + 1) % len)).collect::<String>();
+    let words = |len: usize| words(&directory, format!("y=NOT(g0)\n{}OUTPUT(y)", ring(len)).as_bytes());
+    let before = "gate 0, `y`, can't be placed: it needs `g0` (line 2), which depends on itself: `g0` reads ";
+    assert_eq!(words(1), format!("{before}`g0`"));
+    let six = "`g1`, which reads `g2`, which reads `g3`, which reads `g4`, which reads `g5`, which reads `g6`";
+    assert_eq!(words(8), format!("{before}{six}, which reads `g7`, which reads `g0`"));
+    assert_eq!(words(9), format!("{before}{six}, and so on, 9 gates in all, of which the last reads `g0`"));
+}
+
+/// A text that ends early at the last byte that it may have does not go on.
+#[test]
+fn the_last_byte() {
+    let directory = Directory::new("last");
+    let full = [&b"#".repeat(texts::MOST - 8), &b"\nINPUT(a"[..]].concat();
+    assert_eq!(words(&directory, &full), "after the name in `INPUT` there must be `)`, and here the text ends");
+    assert_eq!(words(&directory, &[&full[..], b")"].concat()), "a text has at most 32,768 bytes, and this one goes on");
 }
 
 #[test]
