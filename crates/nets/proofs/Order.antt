@@ -1,10 +1,12 @@
 -- What the order of a net and its records ask for, and refusal 1 of one with too many lines.
 -- Assumes nothing.
 use mathlib.Core.Path.{_≡_, sym, ap, _∙_}
+use mathlib.Core.Logic.{⊎-elim}
 use mathlib.Core.List.{List}
 use Prim.Native.Nat.{ℕ, _*_, _≤_, _<_}
 use native.Mathlib.Omega.{arith}
 use lib.ListN.{length}
+use Rattle.ground.proofs.Tests.{either}
 use Rattle.answers.specs.declared.Ruling.{Ruling}
 use Rattle.answers.specs.declared.Ruling.the-variants.{Fine}
 use Rattle.answers.specs.Rules.{refusal}
@@ -20,7 +22,7 @@ use Rattle.nets.specs.declared.Read.{Read}
 use Rattle.nets.specs.declared.Read.the-variants.{Refused}
 use Rattle.nets.specs.Rules.{bufferRules, recordRules, netRules}
 use Rattle.nets.specs.Owed.{ReadDone, RecordsDone, NetDone, ReadNetReady, ReadOrderReady}
-use Rattle.answers.proofs.Rules.{both-fine}
+use Rattle.answers.proofs.Rules.{both-fine, not-fine}
 use Rattle.answers.proofs.Answer.{first-refused, first-fine}
 
 pub ordered : {net : Net} {order : List ℕ} {r : Ruling} → ReadNetReady net → ArrangeDone (net .firsts) (net .seconds) order r → r ≡ Fine → ReadOrderReady net order
@@ -55,6 +57,14 @@ module _ {net : Net} (p : ReadNetReady net) {order : List ℕ} {v : Ruling} (q :
 
 -- ---- more lines than a circuit may have
 
+refused-lines : (net : Net) → 2048 < netSize net → refusal (circuitRules (recordsOf net)) ≡ Ruling.Refused 1 0
+refused-lines net l = sealed.too-many (recordsOf net) (omega (arith, records-length net (netSize net)))
+
 pub too-many : (net : Net) {c : List ℕ} → 2048 < netSize net → ReadDone (recordRules (recordsOf net) (length c)) (recordsOf net) c c (Refused 1 0)
-too-many net {c} l =
-    first-refused (circuitRules (recordsOf net)) (bufferRules (length c)) (sealed.too-many (recordsOf net) (omega (arith, records-length net (netSize net))))
+too-many net {c} l = first-refused (circuitRules (recordsOf net)) (bufferRules (length c)) (refused-lines net l)
+
+-- so what is not refused has no more
+pub few-lines : (net : Net) (room : ℕ) → refusal (netRules net room) ≡ Fine → netSize net ≤ 2048
+few-lines net room e =
+    let checked = both-fine (circuitRules (recordsOf net)) _ (both-fine (cycleRules (net .firsts) (net .seconds)) _ e .1) .0 in
+    ⊎-elim (λ l. absurd (not-fine (sym checked ∙ refused-lines net l))) (λ l. l) (either 2048 (netSize net))
