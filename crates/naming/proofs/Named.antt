@@ -19,13 +19,17 @@ use Rattle.simulate.specs.Boolean.{good, truthAt}
 use Rattle.records.specs.Net.{netSize}
 use Rattle.nets.specs.declared.Read.the-variants.{Records, Refused}
 use Rattle.nets.specs.Rules.{bufferBytes}
-use Rattle.bench.specs.Text.{netIn, placeOn, placesIn}
+use Rattle.words.specs.Words.{wordsIn, endsIn}
+use Rattle.statements.specs.Tables.{definedAt}
+use Rattle.bench.specs.Text.{formsIn, netIn, placeOn, placesIn}
 use Rattle.bench.specs.Promise.{benchRules, recordsIn, Reads}
 use Rattle.bench.proofs.Says.{ruled}
-use Rattle.equations.specs.Meaning.{Solves}
+use Rattle.equations.specs.Meaning.{nameOn, Solves}
+use Rattle.equations.specs.Right.{Defines, NamesRight}
 use Rattle.equations.specs.Numbers.{lineFor}
 use Rattle.equations.specs.Computes.{sizeIn, Computes}
 use Rattle.equations.proofs.RightNet.{size-is}
+use Rattle.equations.proofs.Names.{names-right}
 use Rattle.equations.proofs.Parts.{parts}
 use Rattle.equations.proofs.Computes.{parts-right, computes}
 use Rattle.equations.proofs.Read.{lines-are, read-computes}
@@ -55,6 +59,21 @@ module _ {t c : List ℕ} (d : Computes t c) (fine : refusal (benchRules t buffe
         values = λ q. follows (λ i. getD (goodOf c q (sizeIn t)) i 0) (d .values q .solves) n;
         truths = λ x. follows (truthAt good c x (sizeIn t)) (d .truths x .solves) n;
       }
+
+-- ---- a line has one place only: a name is defined once, and two lines have not one name
+
+module _ {t c : List ℕ} (d : Computes t c) (right : NamesRight t) {k a b : ℕ} (m : OwnName t c k a) (n : OwnName t c k b) where
+  defined : {e : ℕ} (o : OwnName t c k e) → Defines t (o .line) (nameOn t (o .line))
+  defined o = record { line = o .says; is = refl }
+
+  same-name : nameOn t (m .line) ≡ nameOn t (n .line)
+  same-name = d .lines .apart _ _ (m .line, defined m) (n .line, defined n) (m .own ∙ sym (n .own))
+
+  same-line : m .line ≡ n .line
+  same-line = right .once (m .line) (n .line) _ (defined m) (record { line = n .says; is = sym same-name })
+
+  one-place : a ≡ b
+  one-place = m .begins ∙ ap (definedAt (wordsIn t) (endsIn t) (formsIn t)) same-line ∙ sym (n .begins)
 
 -- ---- of what is written
 
@@ -88,6 +107,11 @@ module _ {t p p′ : List ℕ} {n : ℕ} (names : Names t p p′ (Records n)) wh
     count-is,
     λ k l. rw (place-is k l) (own-name (computes t bufferBytes text-fine) text-fine k (omega (arith, count-is))),
   )
+
+  -- no other byte is the place of its name
+  pub names-only : (k : ℕ) → k < n → (place : ℕ) → OwnName t (recordsIn t) k place → place ≡ getD p′ k 0
+  names-only k l place o =
+      one-place (computes t bufferBytes text-fine) (names-right t (parts t bufferBytes text-fine .names)) o (names-own .1 k l)
 
   -- and in those that the reader wrote of the same text
   pub names-read : {c c′ : List ℕ} {m : ℕ} → Reads t c c′ (Records m) → (m ≡ n) × ((k : ℕ) → k < n → OwnName t (take (8 * n) c′) k (getD p′ k 0))
