@@ -2,3 +2,4 @@ pub mod Answer
 pub mod Numbers
 pub mod Steps
 pub mod Says
+pub mod Places

@@ -1,16 +1,23 @@
 -- The tables of a text, with names: all that the look-up of names asks of them.
 -- Assumes nothing.
 use mathlib.Core.Path.{_≡_, refl, sym, _∙_}
-use mathlib.Core.Bool.{Bool, true, false, _||_, false≢true}
+use mathlib.Core.Logic.{⊎-elim}
+use mathlib.Core.Bool.{Bool, true, false, _||_, or-true, false≢true}
 use mathlib.Core.List.{List}
-use Prim.Native.Nat.{ℕ, _+_, _≤_, _<_}
+use Prim.Native.Nat.{ℕ, _+_, _-_, _≤_, _<_}
 use native.Mathlib.Omega.{arith}
 use lib.ListN.{length, getD}
+use borrow.Author.Tests.{eqb-true, lt-leb}
 use Rattle.ground.specs.Choose.{choose}
-use Rattle.ground.proofs.Counting.{count-below}
-use Rattle.ground.proofs.Collect.{collect-below}
+use Rattle.ground.specs.Below.{countBelow}
+use Rattle.ground.specs.Lists.{elem}
+use Rattle.ground.proofs.Tests.{either}
+use Rattle.ground.proofs.Elem.{elem-at}
+use Rattle.ground.proofs.Lists.{collect-length}
+use Rattle.ground.proofs.Counting.{count-below, nth}
+use Rattle.ground.proofs.Collect.{collect-get, collect-below}
 use Rattle.words.specs.Words.{wordsIn, endsIn}
-use Rattle.forms.specs.Forms.{saysInput, saysGate, inputsTo, gatesTo, inputsIn, gatesIn}
+use Rattle.forms.specs.Forms.{saysInput, saysGate, defines, inputsTo, gatesTo, inputsIn, gatesIn}
 use Rattle.statements.specs.Tables.{numberAt, defNumbersOf}
 use Rattle.statements.proofs.Lengths.{defs-split, defs-length, same-lengths, outs-length, firsts-length, seconds-length, kinds-length}
 use Rattle.statements.proofs.Sizes.{few-defs, few-outs, few-gates, defs-within, outs-within, firsts-within, seconds-within}
@@ -19,7 +26,7 @@ use Rattle.bench.specs.Text.{formsIn}
 use Rattle.bench.specs.Owed.{namedIn}
 
 -- the number of a definition is that of a gate or an input
-numbers-below : (fs : List ℕ) (j : ℕ) → j < length (defNumbersOf fs) → getD (defNumbersOf fs) j 0 < inputsIn fs + gatesIn fs
+pub numbers-below : (fs : List ℕ) (j : ℕ) → j < length (defNumbersOf fs) → getD (defNumbersOf fs) j 0 < inputsIn fs + gatesIn fs
 unfolding defNumbersOf numberAt
 numbers-below fs j l = collect-below _ _ (length fs) _ (λ k m e. go k m (saysGate fs k) refl (saysInput fs k) refl e) j l
   where
@@ -28,6 +35,27 @@ numbers-below fs j l = collect-below _ _ (length fs) _ (λ k m e. go k m (saysGa
     go k m true p i q e = let h = count-below (saysGate fs) k (length fs) m p in omega arith
     go k m false p false q e = absurd (false≢true e)
     go k m false p true q e = let h = count-below (saysInput fs) k (length fs) m q in omega arith
+
+-- and each such number is a definition's
+pub each-number : (fs : List ℕ) (x : ℕ) → x < inputsIn fs + gatesIn fs → elem (defNumbersOf fs) x ≡ true
+unfolding defNumbersOf numberAt
+each-number fs x l = ⊎-elim gate input (either x (gatesIn fs))
+  where
+    defined : (k : ℕ) → k < length fs → defines fs k ≡ true → numberAt fs k ≡ x → elem (defNumbersOf fs) x ≡ true
+    defined k h d e =
+        let place = collect-get (defines fs) (numberAt fs) (length fs) k h d in
+        let inside : countBelow k (defines fs) < length (defNumbersOf fs) = omega (arith, count-below (defines fs) k (length fs) h d, collect-length (defines fs) (numberAt fs) (length fs)) in
+        rw (← e, ← place) (elem-at (defNumbersOf fs) (countBelow k (defines fs)) inside)
+
+    gate : x < gatesIn fs → elem (defNumbersOf fs) x ≡ true
+    gate h = let n = nth (saysGate fs) (length fs) x h in defined (n .place) (n .below) (rw (n .passes, or-true)) (rw (n .passes) (n .before))
+
+    input : gatesIn fs ≤ x → elem (defNumbersOf fs) x ≡ true
+    input h =
+        let n = nth (saysInput fs) (length fs) (x - gatesIn fs) (omega arith) in
+        let e = eqb-true (getD fs (n .place) 0) 1 (n .passes) in
+        let no-gate : saysGate fs (n .place) ≡ false = lt-leb 3 (getD fs (n .place) 0) (omega arith) in
+        defined (n .place) (n .below) (rw (n .passes)) (rw no-gate (omega (arith, n .before)))
 
 pub named-ready : (t : List ℕ) → length t ≤ 32768 → ReadNamesReady t (namedIn t)
 named-ready t s =

@@ -17,7 +17,7 @@ use Rattle.statements.proofs.Sizes.{few-defs, few-outs, few-gates}
 use Rattle.nets.specs.declared.Read.{Read}
 use Rattle.nets.specs.Owed.{NamedNet, namedOf, NamesDone, ReadNamesReady}
 use Rattle.bench.specs.Text.{formsIn, defsIn, outsIn, firstsIn, secondsIn, netIn}
-use Rattle.bench.specs.Owed.{TextDone, namedIn, ReadLinesReady, ReadDefsReady, ReadUsesReady}
+use Rattle.bench.specs.Owed.{UsesDone, namedIn, ReadLinesReady, ReadDefsReady, ReadUsesReady}
 use Rattle.bench.proofs.Numbers.{named-ready}
 
 -- ---- words, forms
@@ -108,6 +108,6 @@ module _ {t ws es fs : List ℕ} {inputs : ℕ} {defs numbers : List ℕ} (d : R
   ready = rw used-are (named-ready t (d .told .lined .short))
 
   -- the text's net has numbers for these names
-  pub read-text : {c c′ : List ℕ} {r : Read} → NamesDone t used c c′ r → TextDone t c c′ r
+  pub read-used : {order c c′ : List ℕ} {r : Read} → NamesDone t used order c c′ r → UsesDone t order c c′ r
   unfolding netIn
-  read-text {c} {c′} {r} q = subst (λ (n : NamedNet). NamesDone t n c c′ r) used-are q
+  read-used {order} {c} {c′} {r} q = subst (λ (n : NamedNet). NamesDone t n order c c′ r) used-are q

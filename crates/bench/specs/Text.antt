@@ -1,13 +1,15 @@
--- What a text of the bench notation says: its names, and its net.
+-- What a text of the bench notation says: its names, its net, and where the names of the records' lines begin.
 -- Assumes nothing.
 use mathlib.Core.List.{List, _++_, map}
 use Prim.Native.Nat.{ℕ}
+use lib.ListN.{getD}
+use Rattle.ground.specs.Lists.{indexIn, table}
 use Rattle.words.specs.Words.{wordsIn, endsIn}
 use Rattle.forms.specs.Lines.{formsOf}
 use Rattle.forms.specs.Forms.{inputsIn}
 use Rattle.statements.specs.Tables as tables
 use Rattle.names.specs.Names.{nameNumber}
-use Rattle.records.specs.Net.{Net}
+use Rattle.records.specs.Net.{Net, netSize, numberOn}
 
 -- each line's form
 abbrev pub formsIn : List ℕ → List ℕ
@@ -42,3 +44,11 @@ netIn t = record {
   seconds = map (numberIn t) (secondsIn t);
   outputs = map (numberIn t) (outsIn t);
 }
+
+-- the first byte of the name that stands on line k of the records, where the text defines it
+unfoldable pub placeOn : List ℕ → ℕ → ℕ
+placeOn t k = getD (defsIn t) (indexIn (tables.defNumbersOf (formsIn t)) (numberOn (netIn t) k)) 0
+
+-- of all lines
+unfoldable pub placesIn : List ℕ → List ℕ
+placesIn t = table (placeOn t) (netSize (netIn t))

@@ -3,6 +3,7 @@ use answers::Ruling;
 use forms::put_forms;
 use nets::Read;
 use nets::read_names;
+use places::put_places;
 use statements::put_defs;
 use statements::put_kinds;
 use statements::put_outs;
@@ -14,8 +15,8 @@ ghost use Prim.Native.Nat.{_-_, _≤_};
 ghost use lib.ListN.{length};
 ghost use Rattle.words.specs.Owed.{CutRoom};
 ghost use Rattle.forms.specs.Forms.{gatesIn};
-ghost use Rattle.bench.specs.Promise.{Reads};
-ghost use Rattle.bench.specs.Owed.{TextDone, ReadUsesReady, ReadDefsReady, ReadLinesReady};
+ghost use Rattle.bench.specs.Promise.{benchRules, Reads};
+ghost use Rattle.bench.specs.Owed.{PlacesDone, TextDone, UsesDone, ReadOrderReady, ReadDefsReady, ReadLinesReady};
 
 // ---- from the text to its tables. A step that needs memory makes it, and lends it to the function of the same name with `_in`
 
@@ -32,11 +33,12 @@ fn read_uses_in(
     firsts: &mut [u16],
     seconds: &mut [u16],
     outs: &mut [u16],
+    order: &mut [u16],
     circuit: &mut [u8],
 ) -> Read
-    requires { ⌜ ReadUsesReady (now text) (now words) (now ends) (now forms) (length (now defs) - gates) (now defs) (now numbers) × (gates ≡ gatesIn (now forms)) ⌝ }
+    requires { ⌜ ReadOrderReady (now text) (now words) (now ends) (now forms) gates (now defs) (now numbers) (now order) ⌝ }
     requires { ⌜ (length (now kinds) ≡ 8193) × (length (now firsts) ≡ 8193) × (length (now seconds) ≡ 8193) × (length (now outs) ≡ 8193) ⌝ }
-    ensures { λ r. ⌜ TextDone (now (text .entry)) (now (circuit .entry)) (now (circuit .exit)) r ⌝ }
+    ensures { λ r. ⌜ UsesDone (now (text .entry)) (now (order .exit)) (now (circuit .entry)) (now (circuit .exit)) r ⌝ }
 {
     put_kinds(text, words, ends, forms, kinds);
     put_sources(words, ends, forms, firsts, seconds);
@@ -51,6 +53,7 @@ fn read_uses_in(
         &firsts[..gates],
         &seconds[..gates],
         &outs[..u],
+        order,
         circuit,
     )
 }
@@ -63,10 +66,11 @@ fn read_uses(
     gates: usize,
     defs: &[u16],
     numbers: &[u16],
+    order: &mut [u16],
     circuit: &mut [u8],
 ) -> Read
-    requires { ⌜ ReadUsesReady (now text) (now words) (now ends) (now forms) (length (now defs) - gates) (now defs) (now numbers) × (gates ≡ gatesIn (now forms)) ⌝ }
-    ensures { λ r. ⌜ TextDone (now (text .entry)) (now (circuit .entry)) (now (circuit .exit)) r ⌝ }
+    requires { ⌜ ReadOrderReady (now text) (now words) (now ends) (now forms) gates (now defs) (now numbers) (now order) ⌝ }
+    ensures { λ r. ⌜ UsesDone (now (text .entry)) (now (order .exit)) (now (circuit .entry)) (now (circuit .exit)) r ⌝ }
 {
     let mut kinds = [0u8; 8193];
     let mut firsts = [0u16; 8193];
@@ -84,8 +88,46 @@ fn read_uses(
         &mut firsts,
         &mut seconds,
         &mut outs,
+        order,
         circuit,
     )
+}
+
+// The places of the names. The gates have their order by then.
+fn read_placed(
+    text: &[u8],
+    words: &[u16],
+    ends: &[u16],
+    forms: &[u8],
+    gates: usize,
+    defs: &[u16],
+    numbers: &[u16],
+    order: &mut [u16],
+    places: &mut [u16],
+    circuit: &mut [u8],
+) -> Read
+    requires { ⌜ ReadOrderReady (now text) (now words) (now ends) (now forms) gates (now defs) (now numbers) (now order) ⌝ }
+    requires { ⌜ length (now places) ≡ 2048 ⌝ }
+    ensures { λ r. ⌜ TextDone (now (text .entry)) (now (places .entry)) (now (places .exit)) (now (circuit .entry)) (now (circuit .exit)) r ⌝ }
+{
+    let v = read_uses(
+        text,
+        words,
+        ends,
+        forms,
+        gates,
+        defs,
+        numbers,
+        order,
+        circuit,
+    );
+    match v {
+        Read::Refused(number, place) => Read::Refused(number, place),
+        Read::Records(n) => {
+            put_places(defs, numbers, order, places);
+            Read::Records(n)
+        }
+    }
 }
 
 // The names that are defined.
@@ -97,14 +139,16 @@ fn read_defs_in(
     gates: usize,
     defs: &mut [u16],
     numbers: &mut [u16],
+    order: &mut [u16],
+    places: &mut [u16],
     circuit: &mut [u8],
 ) -> Read
     requires { ⌜ ReadDefsReady (now text) (now words) (now ends) (now forms) × (gates ≡ gatesIn (now forms)) ⌝ }
-    requires { ⌜ (length (now defs) ≡ 8193) × (length (now numbers) ≡ 8193) ⌝ }
-    ensures { λ r. ⌜ TextDone (now (text .entry)) (now (circuit .entry)) (now (circuit .exit)) r ⌝ }
+    requires { ⌜ (length (now defs) ≡ 8193) × (length (now numbers) ≡ 8193) × (length (now order) ≡ gates) × (length (now places) ≡ 2048) ⌝ }
+    ensures { λ r. ⌜ TextDone (now (text .entry)) (now (places .entry)) (now (places .exit)) (now (circuit .entry)) (now (circuit .exit)) r ⌝ }
 {
     let d = put_defs(words, ends, forms, gates, defs, numbers);
-    read_uses(
+    read_placed(
         text,
         words,
         ends,
@@ -112,6 +156,8 @@ fn read_defs_in(
         gates,
         &defs[..d],
         &numbers[..d],
+        order,
+        places,
         circuit,
     )
 }
@@ -122,13 +168,16 @@ fn read_defs(
     ends: &[u16],
     forms: &[u8],
     gates: usize,
+    places: &mut [u16],
     circuit: &mut [u8],
 ) -> Read
     requires { ⌜ ReadDefsReady (now text) (now words) (now ends) (now forms) × (gates ≡ gatesIn (now forms)) ⌝ }
-    ensures { λ r. ⌜ TextDone (now (text .entry)) (now (circuit .entry)) (now (circuit .exit)) r ⌝ }
+    requires { ⌜ length (now places) ≡ 2048 ⌝ }
+    ensures { λ r. ⌜ TextDone (now (text .entry)) (now (places .entry)) (now (places .exit)) (now (circuit .entry)) (now (circuit .exit)) r ⌝ }
 {
     let mut defs = [0u16; 8193];
     let mut numbers = [0u16; 8193];
+    let mut order = [0u16; 8192];
     read_defs_in(
         text,
         words,
@@ -137,6 +186,8 @@ fn read_defs(
         gates,
         &mut defs,
         &mut numbers,
+        &mut order[..gates],
+        places,
         circuit,
     )
 }
@@ -147,49 +198,80 @@ fn read_lines_in(
     words: &[u16],
     ends: &[u16],
     forms: &mut [u8],
+    places: &mut [u16],
     circuit: &mut [u8],
 ) -> Read
     requires { ⌜ ReadLinesReady (now text) (now words) (now ends) × (length (now forms) ≡ length (now ends)) × (length (now ends) ≤ 32769) ⌝ }
-    ensures { λ r. ⌜ TextDone (now (text .entry)) (now (circuit .entry)) (now (circuit .exit)) r ⌝ }
+    requires { ⌜ length (now places) ≡ 2048 ⌝ }
+    ensures { λ r. ⌜ TextDone (now (text .entry)) (now (places .entry)) (now (places .exit)) (now (circuit .entry)) (now (circuit .exit)) r ⌝ }
 {
     let gates = put_forms(text, words, ends, forms);
-    read_defs(text, words, ends, forms, gates, circuit)
+    read_defs(text, words, ends, forms, gates, places, circuit)
 }
 
-fn read_lines(text: &[u8], words: &[u16], ends: &[u16], circuit: &mut [u8]) -> Read
+fn read_lines(
+    text: &[u8],
+    words: &[u16],
+    ends: &[u16],
+    places: &mut [u16],
+    circuit: &mut [u8],
+) -> Read
     requires { ⌜ ReadLinesReady (now text) (now words) (now ends) × (length (now ends) ≤ 32769) ⌝ }
-    ensures { λ r. ⌜ TextDone (now (text .entry)) (now (circuit .entry)) (now (circuit .exit)) r ⌝ }
+    requires { ⌜ length (now places) ≡ 2048 ⌝ }
+    ensures { λ r. ⌜ TextDone (now (text .entry)) (now (places .entry)) (now (places .exit)) (now (circuit .entry)) (now (circuit .exit)) r ⌝ }
 {
     let mut forms = [0u8; 32769];
     let lines = ends.len();
-    read_lines_in(text, words, ends, &mut forms[..lines], circuit)
+    read_lines_in(text, words, ends, &mut forms[..lines], places, circuit)
 }
 
 // The words.
-fn read_words_in(text: &[u8], words: &mut [u16], ends: &mut [u16], circuit: &mut [u8]) -> Read
-    requires { ⌜ CutRoom (now text) (now words) (now ends) ⌝ }
-    ensures { λ r. ⌜ TextDone (now (text .entry)) (now (circuit .entry)) (now (circuit .exit)) r ⌝ }
+fn read_words_in(
+    text: &[u8],
+    words: &mut [u16],
+    ends: &mut [u16],
+    places: &mut [u16],
+    circuit: &mut [u8],
+) -> Read
+    requires { ⌜ CutRoom (now text) (now words) (now ends) × (length (now places) ≡ 2048) ⌝ }
+    ensures { λ r. ⌜ TextDone (now (text .entry)) (now (places .entry)) (now (places .exit)) (now (circuit .entry)) (now (circuit .exit)) r ⌝ }
 {
     let found = cut(text, words, ends);
-    read_lines(text, &words[..found.words], &ends[..found.lines], circuit)
+    read_lines(
+        text,
+        &words[..found.words],
+        &ends[..found.lines],
+        places,
+        circuit,
+    )
 }
 
-fn read_words(text: &[u8], circuit: &mut [u8]) -> Read
-    requires { ⌜ length (now text) ≤ 32768 ⌝ }
-    ensures { λ r. ⌜ TextDone (now (text .entry)) (now (circuit .entry)) (now (circuit .exit)) r ⌝ }
+fn read_words(text: &[u8], places: &mut [u16], circuit: &mut [u8]) -> Read
+    requires { ⌜ (length (now text) ≤ 32768) × (length (now places) ≡ 2048) ⌝ }
+    ensures { λ r. ⌜ TextDone (now (text .entry)) (now (places .entry)) (now (places .exit)) (now (circuit .entry)) (now (circuit .exit)) r ⌝ }
 {
     let mut words = [0u16; 16385];
     let mut ends = [0u16; 32769];
-    read_words_in(text, &mut words, &mut ends, circuit)
+    read_words_in(text, &mut words, &mut ends, places, circuit)
+}
+
+// The reader, with the places of the names for whoever asks for them.
+pub fn read_text(text: &[u8], places: &mut [u16], circuit: &mut [u8]) -> Read
+    requires { ⌜ length (now places) ≡ 2048 ⌝ }
+    ensures { λ r. ⌜ PlacesDone (benchRules (now (text .entry)) (length (now (circuit .entry)))) (now (text .entry))
+        (now (places .entry)) (now (places .exit)) (now (circuit .entry)) (now (circuit .exit)) r ⌝ }
+{
+    let v = check_text(text);
+    match v {
+        Ruling::Refused(number, place) => Read::Refused(number, place),
+        Ruling::Fine => read_words(text, places, circuit),
+    }
 }
 
 // The reader: how many records it wrote, or the first refusal.
 pub fn bench(text: &[u8], circuit: &mut [u8]) -> Read
     ensures { λ r. ⌜ Reads (now (text .entry)) (now (circuit .entry)) (now (circuit .exit)) r ⌝ }
 {
-    let v = check_text(text);
-    match v {
-        Ruling::Refused(number, place) => Read::Refused(number, place),
-        Ruling::Fine => read_words(text, circuit),
-    }
+    let mut places = [0u16; 2048];
+    read_text(text, &mut places, circuit)
 }

@@ -5,7 +5,7 @@ use mathlib.Core.List.{List}
 use Prim.Native.Nat.{ℕ}
 use lib.IntN.{ℤ}
 use Rattle.replies.proofs.Entered.{one-return}
-use Rattle.entries.specs.Entries.{EngineEntered, CompactEntered, SearchEntered, SearchAllEntered, ClausesEntered, BenchEntered}
+use Rattle.entries.specs.Entries.{EngineEntered, CompactEntered, SearchEntered, SearchAllEntered, ClausesEntered, BenchEntered, BenchNamesEntered}
 
 -- of either engine
 module _ {places : ℕ} {left c fs ps t w a : List ℕ} {r s : ℕ} {t₁ w₁ a₁ t₂ w₂ a₂ : List ℕ} where
@@ -46,3 +46,7 @@ module _ {c f : List ℕ} {w : List ℤ} {a : List ℕ} {r s : ℕ} {w₁ w₂ :
 module _ {t c a : List ℕ} {r s : ℕ} {c₁ a₁ c₂ a₂ : List ℕ} where
   pub one-taken : BenchEntered t c a r c₁ a₁ → BenchEntered t c a s c₂ a₂ → (r ≡ s) × (c₁ ≡ c₂) × (a₁ ≡ a₂)
   one-taken p q = let o = one-return (p .answer) (q .answer) in (o .0, p .circuit ∙ sym (q .circuit), o .1)
+
+module _ {t p a : List ℕ} {r s : ℕ} {p₁ a₁ p₂ a₂ : List ℕ} where
+  pub one-named : BenchNamesEntered t p a r p₁ a₁ → BenchNamesEntered t p a s p₂ a₂ → (r ≡ s) × (p₁ ≡ p₂) × (a₁ ≡ a₂)
+  one-named p q = let o = one-return (p .answer) (q .answer) in (o .0, p .places ∙ sym (q .places), o .1)

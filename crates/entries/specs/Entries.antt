@@ -22,7 +22,9 @@ use Rattle.search.specs.Promise.{searchRules, verdictFor, testFor, workFor, ver
 use Rattle.list_search.specs.Works.{worksFor}
 use Rattle.search_all.specs.Promise.{outcomesFor, countsFor, testsFor, searchAllRules}
 use Rattle.line_clauses.specs.Clauses.{variablesOf}
+use Rattle.bench.specs.Text.{placesIn}
 use Rattle.bench.specs.Promise.{benchRules, recordsIn}
+use Rattle.bench_names.specs.Promise.{placeRules}
 use Rattle.ground.specs.Put.{laidOn}
 use Rattle.clauses.specs.Promise.{clauseRules, clausesFor, wordsFor}
 
@@ -81,3 +83,8 @@ pub record ClausesEntered (c f : List ℕ) (w : List ℤ) (a : List ℕ) (r : �
 pub record BenchEntered (t c a : List ℕ) (r : ℕ) (c′ a′ : List ℕ) : Type 0 where
   pub answer : Entered a (told (refusal (benchRules t (length c))) (success (linesOf (recordsIn t)) 0 0)) r a′
   pub circuit : c′ ≡ entered a c (unless (refusal (benchRules t (length c))) c (laidOn c (recordsIn t)))
+
+-- the names of a text's lines: records; the places p, lent with the answer area a, become p′
+pub record BenchNamesEntered (t p a : List ℕ) (r : ℕ) (p′ a′ : List ℕ) : Type 0 where
+  pub answer : Entered a (told (refusal (placeRules t (length p))) (success (linesOf (recordsIn t)) 0 0)) r a′
+  pub places : p′ ≡ entered a p (unless (refusal (placeRules t (length p))) p (laidOn p (placesIn t)))

@@ -2,6 +2,7 @@
 // answer area first: with one of another size nothing is written at all.
 use audit::audit;
 use bench::bench;
+use bench_names::bench_names;
 use circuit::check;
 use clauses::clauses;
 use compact::compact;
@@ -19,7 +20,7 @@ use replies::report;
 use search::search;
 use search_all::search_all;
 ghost use Rattle.answers.specs.Area.{Entered};
-ghost use Rattle.entries.specs.Entries.{checkNumbers, auditNumbers, DictionaryEntered, DictionaryLanesEntered, CompactEntered, SearchEntered, SearchAllEntered, ClausesEntered, BenchEntered};
+ghost use Rattle.entries.specs.Entries.{checkNumbers, auditNumbers, DictionaryEntered, DictionaryLanesEntered, CompactEntered, SearchEntered, SearchAllEntered, ClausesEntered, BenchEntered, BenchNamesEntered};
 
 #[no_mangle]
 pub extern "C" fn ullimaqsu_check(circuit: &[u8], answer: &mut [u8]) -> u32
@@ -167,5 +168,17 @@ pub extern "C" fn ullimaqsu_bench(text: &[u8], circuit: &mut [u8], answer: &mut 
         return OTHER_SIZE;
     }
     let v = bench(text, circuit);
+    report(of_read(v), answer)
+}
+
+#[no_mangle]
+pub extern "C" fn ullimaqsu_bench_names(text: &[u8], places: &mut [u32], answer: &mut [u8]) -> u32
+    ensures { λ r. ⌜ BenchNamesEntered (now (text .entry)) (now (places .entry)) (now (answer .entry))
+        r (now (places .exit)) (now (answer .exit)) ⌝ }
+{
+    if answer.len() != AREA {
+        return OTHER_SIZE;
+    }
+    let v = bench_names(text, places);
     report(of_read(v), answer)
 }

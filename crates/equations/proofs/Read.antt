@@ -27,7 +27,7 @@ use Rattle.equations.proofs.Computes.{computes}
 use Rattle.equations.proofs.Accepted.{accepted}
 use Rattle.equations.proofs.Sixteen.{sixteen, sixteen-place}
 
-lines-are : (t : List ℕ) → linesOf (recordsIn t) ≡ sizeIn t
+pub lines-are : (t : List ℕ) → linesOf (recordsIn t) ≡ sizeIn t
 lines-are t = net-lines (netIn t) ∙ size-is t
 
 -- the answer by the ruling

@@ -20,8 +20,10 @@ use Rattle.names.proofs.OneDefinition.{used-defined}
 use Rattle.records.specs.Net.{Net}
 use Rattle.records.specs.Owed.{netOf, NumbersBelow}
 use Rattle.nets.specs.declared.Read.{Read}
+use Rattle.nets.specs.declared.Read.the-variants.{Refused}
 use Rattle.nets.specs.Owed.{NetDone, ReadNetReady, NamedNet, usesOf, numbered, NamesDone, ReadNamesReady}
-use Rattle.answers.proofs.Answer.{first-fine}
+use Rattle.answers.proofs.Rules.{both-fine, not-fine}
+use Rattle.answers.proofs.Answer.{first-refused, first-fine}
 
 within-both : (t l m : List ℕ) → Within t l → Within t m → Within t (l ++ m)
 within-both t l m p q k h = ⊎-elim first second (either k (length l))
@@ -82,14 +84,29 @@ module _ {t : List ℕ} {n : NamedNet} (p : ReadNamesReady t n) where
           output-numbers = outs-below;
         }
 
-  -- ---- the names were looked up, and none is wrong
+  -- ---- the names were looked up
 
-  module _ {o a b : List ℕ} {v : Ruling} (q : ResolveDone t (n .defs) (n .numbers) (n .outs) (n .firsts) (n .seconds) o a b v) (fine : v ≡ Fine) where
-    numbers-are : netOf (n .inputs) (n .kinds) a b o ≡ numbered t n
-    numbers-are = rw (q .firsts-are, q .seconds-are, q .outs-are)
+  module _ {o a b : List ℕ} {v : Ruling} (q : ResolveDone t (n .defs) (n .numbers) (n .outs) (n .firsts) (n .seconds) o a b v) where
+    pub firsts-long : length a ≡ length (n .firsts)
+    firsts-long = ap length (q .firsts-are) ∙ length-map (n .firsts) (nameNumber t (n .defs) (n .numbers))
 
-    pub resolved : ReadNetReady (netOf (n .inputs) (n .kinds) a b o)
-    resolved = rw numbers-are (numbers-ready (sym (q .ruling) ∙ fine))
+    -- one is wrong, and nothing finds its order
+    pub unnamed : {order c : List ℕ} {number place : ℕ} → v ≡ Ruling.Refused number place → NamesDone t n order c c (Refused number place)
+    unnamed e =
+        let names = nameRules t (n .defs) (usesOf n) in
+        let refused = sym (q .ruling) ∙ e in
+        record { done = first-refused names _ refused; order-is = λ f. absurd (not-fine (sym (both-fine names _ f .0) ∙ refused)) }
 
-    pub read-numbers : {c c′ : List ℕ} {r : Read} → NetDone (netOf (n .inputs) (n .kinds) a b o) c c′ r → NamesDone t n c c′ r
-    read-numbers {c} {c′} {r} d = first-fine _ _ (sym (q .ruling) ∙ fine) (subst (λ (m : Net). NetDone m c c′ r) numbers-are d)
+    -- none is
+    module _ (fine : v ≡ Fine) where
+      numbers-are : netOf (n .inputs) (n .kinds) a b o ≡ numbered t n
+      numbers-are = rw (q .firsts-are, q .seconds-are, q .outs-are)
+
+      pub resolved : ReadNetReady (netOf (n .inputs) (n .kinds) a b o)
+      resolved = rw numbers-are (numbers-ready (sym (q .ruling) ∙ fine))
+
+      pub read-numbers : {order c c′ : List ℕ} {r : Read} → NetDone (netOf (n .inputs) (n .kinds) a b o) order c c′ r → NamesDone t n order c c′ r
+      read-numbers {order} {c} {c′} {r} d =
+          let names = nameRules t (n .defs) (usesOf n) in
+          let net = subst (λ (m : Net). NetDone m order c c′ r) numbers-are d in
+          record { done = first-fine names _ (sym (q .ruling) ∙ fine) (net .done); order-is = λ e. net .order-is (both-fine names _ e .1) }

@@ -6,7 +6,8 @@ use Prim.Native.Nat.{ℕ, _+_, _≤_}
 use lib.ListN.{length}
 use Rattle.ground.specs.Put.{laidOn}
 use Rattle.answers.specs.Owed.{RulesDone}
-use Rattle.answers.specs.Rules.{Rule}
+use Rattle.answers.specs.declared.Ruling.the-variants.{Fine}
+use Rattle.answers.specs.Rules.{Rule, refusal}
 use Rattle.circuit.specs.Record.{linesOf}
 use Rattle.names.specs.Names.{nameRules, nameNumber}
 use Rattle.names.specs.Owed.{Within}
@@ -20,12 +21,17 @@ use Rattle.nets.specs.Rules.{recordRules, netRules}
 abbrev pub ReadDone : List Rule → List ℕ → List ℕ → List ℕ → Read → Type 0
 ReadDone rules records c c′ r = RulesDone Refused rules (Records (linesOf records)) c (laidOn c records) r c′
 
--- of records, and of a net
+-- of records
 abbrev pub RecordsDone : List ℕ → List ℕ → List ℕ → Read → Type 0
 RecordsDone records c c′ r = ReadDone (recordRules records (length c)) records c c′ r
 
-abbrev pub NetDone : Net → List ℕ → List ℕ → Read → Type 0
-NetDone net c c′ r = ReadDone (netRules net (length c)) (recordsOf net) c c′ r
+-- and of a net whose gates find their order: where none of the rules refuses, it is the order
+pub record OrderDone (rules : List Rule) (net : Net) (order c c′ : List ℕ) (r : Read) : Type 0 where
+  pub done : ReadDone rules (recordsOf net) c c′ r
+  pub order-is : refusal rules ≡ Fine → order ≡ placedOf net
+
+abbrev pub NetDone : Net → List ℕ → List ℕ → List ℕ → Read → Type 0
+NetDone net order c c′ r = OrderDone (netRules net (length c)) net order c c′ r
 
 -- so many records, no more than a circuit may have
 pub record LayRoom (records : List ℕ) (n : ℕ) : Type 0 where
@@ -80,8 +86,8 @@ numbered t n =
     let number = nameNumber t (n .defs) (n .numbers) in
     netOf (n .inputs) (n .kinds) (map number (n .firsts)) (map number (n .seconds)) (map number (n .outs))
 
-abbrev pub NamesDone : List ℕ → NamedNet → List ℕ → List ℕ → Read → Type 0
-NamesDone t n c c′ r = ReadDone (nameRules t (n .defs) (usesOf n) ++ netRules (numbered t n) (length c)) (recordsOf (numbered t n)) c c′ r
+abbrev pub NamesDone : List ℕ → NamedNet → List ℕ → List ℕ → List ℕ → Read → Type 0
+NamesDone t n order c c′ r = OrderDone (nameRules t (n .defs) (usesOf n) ++ netRules (numbered t n) (length c)) (numbered t n) order c c′ r
 
 -- few of each, names in the text, tables of one length, and numbers that are those of gates and inputs
 pub record ReadNamesReady (t : List ℕ) (n : NamedNet) : Type 0 where

@@ -96,8 +96,8 @@ fn read_order(
     )
 }
 
-// The order of the gates, in lent memory.
-fn read_net_in(
+// A net whose numbers are those of gates and inputs. The order of its gates comes back too, for whoever has their names.
+fn read_net(
     inputs: usize,
     kinds: &[u8],
     firsts: &[u16],
@@ -107,38 +107,13 @@ fn read_net_in(
     circuit: &mut [u8],
 ) -> Read
     requires { ⌜ ReadNetReady (netOf inputs (now kinds) (now firsts) (now seconds) (now outs)) × (length (now order) ≡ length (now firsts)) ⌝ }
-    ensures { λ r. ⌜ NetDone (netOf inputs (now (kinds .entry)) (now (firsts .entry)) (now (seconds .entry)) (now (outs .entry))) (now (circuit .entry)) (now (circuit .exit)) r ⌝ }
+    ensures { λ r. ⌜ NetDone (netOf inputs (now (kinds .entry)) (now (firsts .entry)) (now (seconds .entry)) (now (outs .entry))) (now (order .exit)) (now (circuit .entry)) (now (circuit .exit)) r ⌝ }
 {
     let v = arrange(firsts, seconds, order);
     match v {
         Ruling::Refused(number, place) => Read::Refused(number, place),
         Ruling::Fine => read_order(inputs, kinds, firsts, seconds, outs, order, circuit),
     }
-}
-
-// A net whose numbers are those of gates and inputs.
-fn read_net(
-    inputs: usize,
-    kinds: &[u8],
-    firsts: &[u16],
-    seconds: &[u16],
-    outs: &[u16],
-    circuit: &mut [u8],
-) -> Read
-    requires { ⌜ ReadNetReady (netOf inputs (now kinds) (now firsts) (now seconds) (now outs)) ⌝ }
-    ensures { λ r. ⌜ NetDone (netOf inputs (now (kinds .entry)) (now (firsts .entry)) (now (seconds .entry)) (now (outs .entry))) (now (circuit .entry)) (now (circuit .exit)) r ⌝ }
-{
-    let mut order = [0u16; 8192];
-    let gates = firsts.len();
-    read_net_in(
-        inputs,
-        kinds,
-        firsts,
-        seconds,
-        outs,
-        &mut order[..gates],
-        circuit,
-    )
 }
 
 // ---- from names to numbers
@@ -156,18 +131,19 @@ fn read_names_in(
     a: &mut [u16],
     b: &mut [u16],
     o: &mut [u16],
+    order: &mut [u16],
     circuit: &mut [u8],
 ) -> Read
     requires { ⌜ ReadNamesReady (now text) (namedOf (now defs) (now numbers) inputs (now kinds) (now firsts) (now seconds) (now outs)) ⌝ }
-    requires { ⌜ (length (now a) ≡ length (now firsts)) × (length (now b) ≡ length (now seconds)) × (length (now o) ≡ length (now outs)) ⌝ }
+    requires { ⌜ (length (now a) ≡ length (now firsts)) × (length (now b) ≡ length (now seconds)) × (length (now o) ≡ length (now outs)) × (length (now order) ≡ length (now firsts)) ⌝ }
     ensures { λ r. ⌜ NamesDone (now (text .entry))
         (namedOf (now (defs .entry)) (now (numbers .entry)) inputs (now (kinds .entry)) (now (firsts .entry)) (now (seconds .entry)) (now (outs .entry)))
-        (now (circuit .entry)) (now (circuit .exit)) r ⌝ }
+        (now (order .exit)) (now (circuit .entry)) (now (circuit .exit)) r ⌝ }
 {
     let v = resolve(text, defs, numbers, outs, firsts, seconds, o, a, b);
     match v {
         Ruling::Refused(number, place) => Read::Refused(number, place),
-        Ruling::Fine => read_net(inputs, kinds, a, b, o, circuit),
+        Ruling::Fine => read_net(inputs, kinds, a, b, o, order, circuit),
     }
 }
 
@@ -181,12 +157,14 @@ pub fn read_names(
     firsts: &[u16],
     seconds: &[u16],
     outs: &[u16],
+    order: &mut [u16],
     circuit: &mut [u8],
 ) -> Read
     requires { ⌜ ReadNamesReady (now text) (namedOf (now defs) (now numbers) inputs (now kinds) (now firsts) (now seconds) (now outs)) ⌝ }
+    requires { ⌜ length (now order) ≡ length (now firsts) ⌝ }
     ensures { λ r. ⌜ NamesDone (now (text .entry))
         (namedOf (now (defs .entry)) (now (numbers .entry)) inputs (now (kinds .entry)) (now (firsts .entry)) (now (seconds .entry)) (now (outs .entry)))
-        (now (circuit .entry)) (now (circuit .exit)) r ⌝ }
+        (now (order .exit)) (now (circuit .entry)) (now (circuit .exit)) r ⌝ }
 {
     let mut a = [0u16; 8192];
     let mut b = [0u16; 8192];
@@ -205,6 +183,7 @@ pub fn read_names(
         &mut a[..g],
         &mut b[..g],
         &mut o[..u],
+        order,
         circuit,
     )
 }

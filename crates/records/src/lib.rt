@@ -16,7 +16,7 @@ ghost use Rattle.records.specs.Owed.{MarkOutputsReady, MarkOutputsDone, 
 // ---- the line of each gate, and a flag for each number
 
 // From the last gate down, so that a gate's first place counts.
-fn number_lines(order: &[u16], inputs: usize, line: &mut [u16])
+pub fn number_lines(order: &[u16], inputs: usize, line: &mut [u16])
     requires { ⌜ NumberLinesReady (now order) inputs (now line) ⌝ }
     ensures { λ _. ⌜ NumberLinesDone (now (order .entry)) inputs (now (line .exit)) ⌝ }
 {

@@ -1,34 +1,26 @@
--- `bench::bench` meets its contract: refusal 14, or what the words say.
+-- `bench::bench` meets its contract: room for the places of the names is lent, and then forgotten.
 -- Assumes nothing.
-use Rattle.answers.proofs.Answer.{first-refused, first-fine}
+use Rattle.ground.proofs.Filled.{filled-length}
 use Rattle.bench.proofs.Answer.{reads}
-use Rattle.syntax.proofs.Says.{right-text}
-use mathlib.Core.Path.{sym, _∙_}
+use mathlib.Core.Path.{sym}
 use borrow.Author.Needs.{needs}
 use Rattle.bench.proofs.bench.Statement.{statement}
 use Rattle.bench.proofs.bench.Tie as tie
 
-read-words-requires : tie.Need-read-words-requires
-read-words-requires c κs = right-text _ (sym (c .before .before .before .check-text .ensures) ∙ c .before .enum-told .given .1) .room
+slice-aggregate-read-text : tie.Need-slice-aggregate-read-text
+slice-aggregate-read-text c = sym (filled-length 2048 0)
+
+read-text-requires : tie.Need-read-text-requires
+read-text-requires c κs = filled-length 2048 0
 
 returns : tie.Need-returns
-returns c = reads (first-refused _ _ (sym (c .before .before .before .check-text .ensures) ∙ c .before .v .given .1))
-
-returns-2 : tie.Need-returns-2
-returns-2 c =
-    let at-enum-told = c .before .before .before .before in
-    reads
-    (first-fine _ _ (sym (at-enum-told .before .before .check-text .ensures) ∙ at-enum-told .enum-told .given .1)
-    (c .before .before .read-words .ensures))
+returns c = reads (c .before .before .before .read-text .ensures .done)
 
 pub bench-spec : {M : Type 1} → statement M
 bench-spec =
     tie.close
     (tie.spec
-    (λ c κs. search needs)
+    slice-aggregate-read-text
+    read-text-requires
     (λ c. search needs)
-    (λ c. search needs)
-    read-words-requires
-    returns
-    (λ c. search needs)
-    returns-2)
+    returns)

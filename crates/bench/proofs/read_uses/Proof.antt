@@ -19,7 +19,7 @@ slice-aggregate-read-uses-in-4 : tie.Need-slice-aggregate-read-uses-in-4
 slice-aggregate-read-uses-in-4 c = sym (filled-length 8193 0)
 
 read-uses-in-requires : tie.Need-read-uses-in-requires
-read-uses-in-requires c κs = let room = filled-length 8193 0 in (c .before .before .before .before .before .before .before .before .before .before .before .before .pre, (room, room, room, room))
+read-uses-in-requires c κs = let room = filled-length 8193 0 in (c .before .before .before .before .before .before .before .before .before .before .before .before .before .before .pre, (room, room, room, room))
 
 pub read-uses-spec : {M : Type 1} → statement M
 read-uses-spec =
@@ -30,5 +30,6 @@ read-uses-spec =
     slice-aggregate-read-uses-in-3
     slice-aggregate-read-uses-in-4
     read-uses-in-requires
+    (λ c. search needs)
     (λ c. search needs)
     (λ c. search needs))

@@ -13,11 +13,9 @@ slice-aggregate-read-words-in-2 : tie.Need-slice-aggregate-read-words-in-2
 slice-aggregate-read-words-in-2 c = sym (filled-length 32769 0)
 
 read-words-in-requires : tie.Need-read-words-in-requires
-read-words-in-requires c κs = record {
-  short = c .before .before .before .before .before .pre;
-  for-words = filled-length 16385 0;
-  for-ends = filled-length 32769 0;
-}
+read-words-in-requires c κs =
+    let p = c .before .before .before .before .before .before .before .pre in
+    (record { short = p .0; for-words = filled-length 16385 0; for-ends = filled-length 32769 0 }, p .1)
 
 pub read-words-spec : {M : Type 1} → statement M
 read-words-spec =
@@ -26,5 +24,6 @@ read-words-spec =
     slice-aggregate-read-words-in
     slice-aggregate-read-words-in-2
     read-words-in-requires
+    (λ c. search needs)
     (λ c. search needs)
     (λ c. search needs))

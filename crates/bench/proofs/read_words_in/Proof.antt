@@ -10,22 +10,23 @@ use Rattle.bench.proofs.read_words_in.Tie as tie
 
 -- the entry of the place behind the cut into words
 abbrev entry : tie.After-cut → tie.Start
-entry c = c .before .before .before .before .before .before .before
+entry c = c .before .before .before .before .before .before .before .before
 
 slice-aggregate-read-lines : tie.Need-slice-aggregate-read-lines
 slice-aggregate-read-lines c =
     let cut = c .before .before .before .before .before in
-    sym (length-take-le _ _ (omega (arith, cut .cut .ensures .most-words, entry cut .pre .for-words)))
+    sym (length-take-le _ _ (omega (arith, cut .cut .ensures .most-words, entry cut .pre .0 .for-words)))
 
 slice-aggregate-read-lines-2 : tie.Need-slice-aggregate-read-lines-2
 slice-aggregate-read-lines-2 c =
     let cut = c .before .before .before .before .before .before in
-    sym (length-take-le _ _ (omega (arith, cut .cut .ensures .most-lines, entry cut .pre .for-ends)))
+    sym (length-take-le _ _ (omega (arith, cut .cut .ensures .most-lines, entry cut .pre .0 .for-ends)))
 
 read-lines-requires : tie.Need-read-lines-requires
 read-lines-requires c κs =
-    let cut = c .before .before .before .before .before .before .before in
-    (lined (entry cut .pre .short) (cut .cut .ensures), few-lines _ _ (cut .cut .ensures .most-lines))
+    let cut = c .before .before .before .before .before .before .before .before in
+    let p = entry cut .pre in
+    ((lined (p .0 .short) (cut .cut .ensures), few-lines _ _ (cut .cut .ensures .most-lines)), p .1)
 
 pub read-words-in-spec : {M : Type 1} → statement M
 read-words-in-spec =
@@ -37,6 +38,7 @@ read-words-in-spec =
     (λ c. search needs)
     slice-aggregate-read-lines-2
     read-lines-requires
+    (λ c. search needs)
     (λ c. search needs)
     (λ c. search needs)
     (λ c. search needs)

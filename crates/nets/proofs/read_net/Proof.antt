@@ -1,24 +1,33 @@
--- `nets::read_net` meets its contract: room for the order of the gates is lent.
+-- `nets::read_net` meets its contract: refusal 16, or the records in the order of the gates.
 -- Assumes nothing.
-use Rattle.ground.proofs.Filled.{front-length}
-use mathlib.Core.Path.{sym}
-use native.Mathlib.Omega.{arith}
+use Rattle.nets.proofs.Order.{ordered, unordered, read-ordered}
 use borrow.Author.Needs.{needs}
 use Rattle.nets.proofs.read_net.Statement.{statement}
 use Rattle.nets.proofs.read_net.Tie as tie
 
-slice-aggregate-read-net-in : tie.Need-slice-aggregate-read-net-in
-slice-aggregate-read-net-in c = sym (front-length 8192 0 _ (omega arith))
+read-order-requires : tie.Need-read-order-requires
+read-order-requires c κs =
+    ordered (c .before .before .before .before .before .before .before .before .before .before .before .before .before .before .pre .0)
+    (c .before .before .before .before .before .before .arrange .ensures) (c .before .before .enum-told .given .1)
 
-read-net-in-requires : tie.Need-read-net-in-requires
-read-net-in-requires c κs = let s = c .before .before .before .before .before .before .before in (s .pre, front-length 8192 0 _ (s .pre .few))
+returns : tie.Need-returns
+returns c = unordered (c .before .before .before .before .before .before .before .before .before .before .before .before .before .pre .0) (c .before .before .before .before .before .arrange .ensures) (c .before .v .given .1)
+
+returns-2 : tie.Need-returns-2
+returns-2 c =
+    read-ordered (c .before .before .before .before .before .before .before .before .before .before .before .before .before .before .before .before .before .pre .0) (c .before .before .before .before .before .before .before .before .before .arrange .ensures)
+    (c .before .before .before .before .before .enum-told .given .1) (c .before .before .read-order .ensures)
 
 pub read-net-spec : {M : Type 1} → statement M
 read-net-spec =
     tie.close
     (tie.spec
+    (λ c κs. search needs)
     (λ c. search needs)
-    slice-aggregate-read-net-in
-    read-net-in-requires
     (λ c. search needs)
-    (λ c. search needs))
+    read-order-requires
+    (λ c. search needs)
+    returns
+    (λ c. search needs)
+    (λ c. search needs)
+    returns-2)

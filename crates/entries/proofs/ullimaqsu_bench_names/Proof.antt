@@ -1,0 +1,36 @@
+-- `entries::ullimaqsu_bench_names` meets its contract: an area of another size first, else the answer and the places of the part.
+-- Assumes nothing.
+use borrow.Author.Tests.{eq-eqb, ne-eqb}
+use borrow.Author.Needs.{needs}
+use Rattle.replies.proofs.Entered.{other-size, stays, reported, becomes}
+use Rattle.entries.proofs.ullimaqsu_bench_names.Statement.{statement}
+use Rattle.entries.proofs.ullimaqsu_bench_names.Tie as tie
+
+returns : tie.Need-returns
+returns c = let other = ne-eqb _ _ (c .if1 .taken) in record { answer = other-size _ other; places = stays _ other }
+
+-- the places, the last first: the report, the answer in numbers, the part, the test of the size
+returns-2 : tie.Need-returns-2
+returns-2 c =
+    let told = c .before .before in
+    let reply = told .before .before in
+    let called = reply .before .before .before in
+    let sized = called .before .before in
+    let right = eq-eqb _ _ (sized .if1 .left) in
+    let done = called .bench-names .ensures in
+    record {
+      answer = reported (told .report .ensures) (reply .of-read .ensures) (done .numbers);
+      places = becomes _ right (done .places);
+    }
+
+pub ullimaqsu-bench-names-spec : {M : Type 1} → statement M
+ullimaqsu-bench-names-spec =
+    tie.close
+    (tie.spec
+    returns
+    (λ c κs. search needs)
+    (λ c κs. search needs)
+    (λ c κs. search needs)
+    (λ c. search needs)
+    (λ c. search needs)
+    returns-2)

@@ -1,0 +1,1 @@
+// What the places of the names say, in words over the text; there is no code here.
