@@ -28,10 +28,10 @@ use Rattle.bench.specs.Owed.{textRules, TextDone, UsesDone, ReadUsesRead
 use Rattle.bench.proofs.Numbers.{numbers-below, each-number}
 use Rattle.bench.proofs.Says.{rulingOf, ruled}
 
--- there are as many definitions as lines
-size-is : (t : List ℕ) → inputsIn (formsIn t) + gatesIn (formsIn t) ≡ netSize (netIn t)
+-- there are as many lines as inputs and gates
+pub size-is : (t : List ℕ) → netSize (netIn t) ≡ inputsIn (formsIn t) + gatesIn (formsIn t)
 unfolding netIn
-size-is t = rw (length-map (firstsIn t) (numberIn t)) (rw (firsts-length (wordsIn t) (endsIn t) (formsIn t)))
+size-is t = rw (length-map (firstsIn t) (numberIn t), firsts-length (wordsIn t) (endsIn t) (formsIn t))
 
 module _ {t ws es fs defs numbers : List ℕ} {inputs : ℕ} (u : ReadUsesReady t ws es fs inputs defs numbers) {order c c′ : List ℕ} {r : Read}
     (o : UsesDone t order c c′ r) {n : ℕ} (e : r ≡ Records n) where
@@ -48,10 +48,10 @@ module _ {t ws es fs defs numbers : List ℕ} {inputs : ℕ} (u : ReadUsesReady 
       ap length (o .order-is fine) ∙ full-order firsts seconds (both-fine (cycleRules firsts seconds) _ net-fine .0)
 
   numbers-long : length numbers ≡ netSize (netIn t)
-  numbers-long = ap length (u .numbers-are) ∙ numbers-length (formsIn t) ∙ size-is t
+  numbers-long = ap length (u .numbers-are) ∙ numbers-length (formsIn t) ∙ sym (size-is t)
 
   defs-long : length defs ≡ netSize (netIn t)
-  defs-long = ap length (u .defs-are) ∙ defs-length (wordsIn t) (endsIn t) (formsIn t) ∙ size-is t
+  defs-long = ap length (u .defs-are) ∙ defs-length (wordsIn t) (endsIn t) (formsIn t) ∙ sym (size-is t)
 
   gate-below : (i : ℕ) → i < length order → getD order i 0 < length defs
   gate-below i l =

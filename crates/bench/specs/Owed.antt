@@ -56,11 +56,7 @@ pub record ReadUsesReady (t ws es fs : List ℕ) (inputs : ℕ) (defs numbers : 
   pub numbers-are : numbers ≡ defNumbersOf (formsIn t)
 
 -- and memory for the order of the gates
-pub record ReadOrderReady (t ws es fs : List ℕ) (gates : ℕ) (defs numbers order : List ℕ) : Type 0 where
+pub record ReadPlacedReady (t ws es fs : List ℕ) (gates : ℕ) (defs numbers order : List ℕ) : Type 0 where
   pub defined : ReadUsesReady t ws es fs (length defs - gates) defs numbers
   pub gates-are : gates ≡ gatesIn fs
   pub for-order : length order ≡ gates
-
--- memory for the place of each line
-abbrev pub placesRoom : ℕ
-placesRoom = 2048

@@ -16,7 +16,7 @@ ghost use lib.ListN.{length};
 ghost use Rattle.words.specs.Owed.{CutRoom};
 ghost use Rattle.forms.specs.Forms.{gatesIn};
 ghost use Rattle.bench.specs.Promise.{benchRules, Reads};
-ghost use Rattle.bench.specs.Owed.{PlacesDone, TextDone, UsesDone, ReadOrderReady, ReadDefsReady, ReadLinesReady};
+ghost use Rattle.bench.specs.Owed.{PlacesDone, TextDone, UsesDone, ReadPlacedReady, ReadDefsReady, ReadLinesReady};
 
 // ---- from the text to its tables. A step that needs memory makes it, and lends it to the function of the same name with `_in`
 
@@ -36,7 +36,7 @@ fn read_uses_in(
     order: &mut [u16],
     circuit: &mut [u8],
 ) -> Read
-    requires { ⌜ ReadOrderReady (now text) (now words) (now ends) (now forms) gates (now defs) (now numbers) (now order) ⌝ }
+    requires { ⌜ ReadPlacedReady (now text) (now words) (now ends) (now forms) gates (now defs) (now numbers) (now order) ⌝ }
     requires { ⌜ (length (now kinds) ≡ 8193) × (length (now firsts) ≡ 8193) × (length (now seconds) ≡ 8193) × (length (now outs) ≡ 8193) ⌝ }
     ensures { λ r. ⌜ UsesDone (now (text .entry)) (now (order .exit)) (now (circuit .entry)) (now (circuit .exit)) r ⌝ }
 {
@@ -69,7 +69,7 @@ fn read_uses(
     order: &mut [u16],
     circuit: &mut [u8],
 ) -> Read
-    requires { ⌜ ReadOrderReady (now text) (now words) (now ends) (now forms) gates (now defs) (now numbers) (now order) ⌝ }
+    requires { ⌜ ReadPlacedReady (now text) (now words) (now ends) (now forms) gates (now defs) (now numbers) (now order) ⌝ }
     ensures { λ r. ⌜ UsesDone (now (text .entry)) (now (order .exit)) (now (circuit .entry)) (now (circuit .exit)) r ⌝ }
 {
     let mut kinds = [0u8; 8193];
@@ -106,7 +106,7 @@ fn read_placed(
     places: &mut [u16],
     circuit: &mut [u8],
 ) -> Read
-    requires { ⌜ ReadOrderReady (now text) (now words) (now ends) (now forms) gates (now defs) (now numbers) (now order) ⌝ }
+    requires { ⌜ ReadPlacedReady (now text) (now words) (now ends) (now forms) gates (now defs) (now numbers) (now order) ⌝ }
     requires { ⌜ length (now places) ≡ 2048 ⌝ }
     ensures { λ r. ⌜ TextDone (now (text .entry)) (now (places .entry)) (now (places .exit)) (now (circuit .entry)) (now (circuit .exit)) r ⌝ }
 {

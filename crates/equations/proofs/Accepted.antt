@@ -21,7 +21,8 @@ use Rattle.equations.specs.Right.{TextCycle}
 use Rattle.equations.specs.Computes.{Acceptable}
 use Rattle.equations.proofs.Tables.{counted, inputs-are, outputs-are, output-line, number-inside}
 use Rattle.equations.proofs.Names.{names-right, right-names}
-use Rattle.equations.proofs.RightNet.{size-is, right-net}
+use Rattle.bench.proofs.Places.{size-is}
+use Rattle.equations.proofs.RightNet.{right-net}
 use Rattle.equations.proofs.Cycles.{net-cycle, text-cycle}
 use Rattle.equations.proofs.Parts.{parts, all-parts}
 use Rattle.equations.proofs.Computes.{parts-right}

@@ -26,7 +26,8 @@ use Rattle.bench.specs.Promise.{benchRules, recordsIn}
 use Rattle.equations.specs.Numbers.{nameOf, numberFor, lineFor}
 use Rattle.equations.specs.Computes.{sizeIn, outputsIn, OneSolution, Computes}
 use Rattle.equations.proofs.Tables.{inputs-are}
-use Rattle.equations.proofs.RightNet.{size-is, number-below, right-net}
+use Rattle.bench.proofs.Places.{size-is}
+use Rattle.equations.proofs.RightNet.{number-below, right-net}
 use Rattle.equations.proofs.SameMeaning.{name-of, net-solved, text-solves}
 use Rattle.equations.proofs.Lines.{own-lines}
 use Rattle.equations.proofs.Fields.{own-records}

@@ -22,7 +22,7 @@ use Rattle.equations.specs.Right.{Line, Defined}
 use Rattle.equations.specs.Numbers.{lineFor}
 use Rattle.equations.specs.Computes.{OwnLines, OwnRecords}
 use Rattle.equations.proofs.Tables.{counted, gates-are, inputs-are, kind-get, pin-get}
-use Rattle.equations.proofs.RightNet.{size-is}
+use Rattle.bench.proofs.Places.{size-is}
 use Rattle.equations.proofs.SameMeaning.{gate-defines, input-defines, number-of-gate}
 use Rattle.equations.proofs.Lines.{number-on, own-lines}
 

@@ -16,7 +16,8 @@ use Rattle.equations.specs.Right.{Defined}
 use Rattle.equations.specs.Numbers.{nameOf, numberFor, lineFor}
 use Rattle.equations.specs.Computes.{OwnLines}
 use Rattle.equations.proofs.Tables.{gate-line, input-line}
-use Rattle.equations.proofs.RightNet.{size-is, number-below}
+use Rattle.bench.proofs.Places.{size-is}
+use Rattle.equations.proofs.RightNet.{number-below}
 use Rattle.equations.proofs.SameMeaning.{gate-defines, input-defines, name-of, number-of-gate, number-of-input}
 
 module _ (t : List ℕ) (none : refusal (nameRules t (defsIn t) (usesIn t)) ≡ Fine) where

@@ -31,7 +31,7 @@ use Rattle.equations.specs.Numbers.{numberFor, lineFor}
 use Rattle.equations.specs.Computes.{sizeIn, OwnLines, IsOutput, outputName, outputsIn}
 use Rattle.equations.proofs.Tables.{placeOf, counted, outputs-are, output-line, output-get}
 use Rattle.equations.proofs.Names.{names-right}
-use Rattle.equations.proofs.RightNet.{size-is}
+use Rattle.bench.proofs.Places.{size-is}
 use Rattle.ground.proofs.Related.{Match, count-related}
 use Rattle.equations.proofs.Lines.{number-on, own-lines}
 

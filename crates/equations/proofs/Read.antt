@@ -22,7 +22,7 @@ use Rattle.bench.proofs.Says.{rulingOf, ruled}
 use Rattle.equations.specs.Right.{TextCycle}
 use Rattle.equations.specs.Placing.{FirstLeft}
 use Rattle.equations.specs.Computes.{sizeIn, Acceptable, Computes}
-use Rattle.equations.proofs.RightNet.{size-is}
+use Rattle.bench.proofs.Places.{size-is}
 use Rattle.equations.proofs.Computes.{computes}
 use Rattle.equations.proofs.Accepted.{accepted}
 use Rattle.equations.proofs.Sixteen.{sixteen, sixteen-place}

@@ -16,6 +16,7 @@ use Rattle.names.specs.Names.{nameRules}
 use Rattle.order.specs.Order.{cycleRules}
 use Rattle.records.specs.Net.{gatesOf, netSize, pinOf}
 use Rattle.netlist.specs.Solved.{Right}
+use Rattle.bench.proofs.Places.{size-is}
 use Rattle.bench.specs.Text.{formsIn, defsIn, usesIn, secondsIn, numberIn, netIn}
 use Rattle.shape.specs.Shape.{wordOn}
 use Rattle.equations.specs.Meaning.{sourceOn}
@@ -25,9 +26,6 @@ use Rattle.equations.proofs.Tables.{gates-are, inputs-are, gate-line, o
 use Rattle.equations.proofs.Names.{names-right, number-of-name}
 
 module _ (t : List ℕ) where
-  pub size-is : netSize (netIn t) ≡ inputsIn (formsIn t) + gatesIn (formsIn t)
-  size-is = rw (inputs-are t, gates-are t)
-
   kinds-long : length (netIn t .kinds) ≡ gatesOf (netIn t)
   unfolding netIn
   kinds-long = kinds-length (wordsIn t) (endsIn t) (formsIn t) t ∙ sym (gates-are t)
@@ -42,7 +40,7 @@ module _ (t : List ℕ) where
   module _ (none : refusal (nameRules t (defsIn t) (usesIn t)) ≡ Fine) where
     -- the number of a name that is defined is a gate's or an input's
     pub number-below : (w : List ℕ) → Defined t w → numberFor t w < netSize (netIn t)
-    number-below w (k, d) = rw (number-of-name t none d, size-is) (number-inside (d .line))
+    number-below w (k, d) = rw (number-of-name t none d, size-is t) (number-inside (d .line))
 
     pin-below : (g s : ℕ) → g < gatesOf (netIn t) → pinOf (netIn t) g s < netSize (netIn t)
     pin-below g s l =

@@ -25,7 +25,7 @@ use Rattle.equations.specs.Right.{Line}
 use Rattle.equations.specs.Numbers.{lineFor}
 use Rattle.equations.specs.Computes.{sizeIn}
 use Rattle.equations.proofs.Tables.{NthLine, get, number-get}
-use Rattle.equations.proofs.RightNet.{size-is}
+use Rattle.bench.proofs.Places.{size-is}
 use Rattle.equations.proofs.Names.{number-of-name}
 use Rattle.equations.proofs.Uses.{def-line}
 

@@ -1,6 +1,6 @@
 -- The name at a line's place is the one whose equation the line computes: of the places and the records that the two readers write of a text.
 -- Assumes nothing.
-use mathlib.Core.Path.{_≡_, refl, sym, ap, _∙_, fun-ext}
+use mathlib.Core.Path.{_≡_, refl, sym, ap, _∙_}
 use mathlib.Core.List.{List}
 use Prim.Native.Nat.{ℕ, _*_, _<_}
 use native.Mathlib.Omega.{arith}
@@ -28,12 +28,12 @@ use Rattle.equations.specs.Meaning.{nameOn, Solves}
 use Rattle.equations.specs.Right.{Defines, NamesRight}
 use Rattle.equations.specs.Numbers.{lineFor}
 use Rattle.equations.specs.Computes.{sizeIn, Computes}
-use Rattle.equations.proofs.RightNet.{size-is}
+use Rattle.bench.proofs.Places.{size-is}
 use Rattle.equations.proofs.Names.{names-right}
 use Rattle.equations.proofs.Parts.{parts}
 use Rattle.equations.proofs.Computes.{parts-right, computes}
 use Rattle.equations.proofs.Read.{lines-are, read-computes}
-use Rattle.bench_names.specs.Promise.{placeRules, roomRules, namesOf, Names}
+use Rattle.bench_names.specs.Promise.{placeRules, namesOf, Names}
 use Rattle.naming.specs.Named.{Follows, OwnName}
 use Rattle.naming.proofs.Lines.{NamesLine, names-line}
 

@@ -20,13 +20,7 @@ fn number_on(inputs: usize, order: &[u16], k: usize) -> usize
 }
 
 // In memory for the definition of each number.
-fn put_places_in(
-    defs: &[u16],
-    numbers: &[u16],
-    order: &[u16],
-    def: &mut [u16],
-    places: &mut [u16],
-)
+fn put_places_in(defs: &[u16], numbers: &[u16], order: &[u16], def: &mut [u16], places: &mut [u16])
     requires { ⌜ PutPlacesInReady (now defs) (now numbers) (now order) (now def) (now places) ⌝ }
     ensures { λ _. ⌜ now (places .exit) ≡ laidOn (now (places .entry)) (placesBy (now (defs .entry)) (now (numbers .entry)) (now (order .entry))) ⌝ }
 {

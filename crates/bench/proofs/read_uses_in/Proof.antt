@@ -80,8 +80,7 @@ slice-aggregate-read-names-4 c =
 read-names-requires : tie.Need-read-names-requires
 read-names-requires c κs =
     let outs = c .before .before .before .before .before .before .before .before in
-    let p = start outs .pre in
-    (
+    let p = start outs .pre in (
       ready (p .0 .defined) (p .0 .gates-are) _ (kinds-of (sources-of outs) .put-kinds .ensures) (sources-of outs .put-sources .ensures) (outs .put-outs .ensures),
       p .0 .for-order ∙ sym (length-take-le _ _ (omega (arith, gates-few (p .0 .defined .told) (p .0 .gates-are), p .1 .1))),
     )

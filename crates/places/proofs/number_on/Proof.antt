@@ -1,6 +1,5 @@
 -- `places::number_on` meets its contract: by whether the line is an input's.
 -- Assumes nothing.
-use mathlib.Core.Path.{sym}
 use borrow.Author.Needs.{needs}
 use borrow.Author.Tests.{lt-ltb, le-ltb}
 use Rattle.places.specs.Owed.{numberBy}
