@@ -1,5 +1,3 @@
 pub mod Answer
-pub mod Numbers
-pub mod Steps
 pub mod Says
 pub mod Places

@@ -2,9 +2,9 @@
 -- Assumes nothing.
 use mathlib.Core.Path.{_≡_, sym, ap, _∙_}
 use mathlib.Core.List.{List}
-use Prim.Native.Nat.{ℕ, _+_, _-_, _<_}
+use Prim.Native.Nat.{ℕ, _-_, _<_}
 use native.Mathlib.Omega.{arith}
-use lib.ListN.{length, getD, length-map}
+use lib.ListN.{length, getD}
 use Rattle.ground.specs.Put.{laidOn}
 use Rattle.ground.proofs.Grow.{grow-same}
 use Rattle.answers.specs.declared.Ruling.the-variants.{Fine}
@@ -12,8 +12,7 @@ use Rattle.answers.specs.Rules.{refusal}
 use Rattle.answers.proofs.Rules.{both-fine, not-fine}
 use Rattle.answers.proofs.Answer.{was-ruled}
 use Rattle.words.specs.Words.{wordsIn, endsIn}
-use Rattle.forms.specs.Forms.{inputsIn, gatesIn}
-use Rattle.statements.proofs.Lengths.{numbers-length, defs-length, firsts-length}
+use Rattle.statements.proofs.Lengths.{numbers-length, defs-length}
 use Rattle.names.specs.Names.{nameRules}
 use Rattle.order.specs.Order.{cycleRules}
 use Rattle.order.proofs.Says.{order-inside, full-order}
@@ -23,15 +22,11 @@ use Rattle.nets.specs.declared.Read.{Read}
 use Rattle.nets.specs.declared.Read.the-variants.{Records, Refused}
 use Rattle.nets.specs.Rules.{netRules}
 use Rattle.nets.proofs.Order.{few-lines}
-use Rattle.bench.specs.Text.{formsIn, defsIn, firstsIn, usesIn, numberIn, netIn, placeOn, placesIn}
-use Rattle.bench.specs.Owed.{textRules, TextDone, UsesDone, ReadUsesReady}
-use Rattle.bench.proofs.Numbers.{numbers-below, each-number}
+use Rattle.texts.specs.Text.{formsIn, defsIn, usesIn, netIn, placeOn, placesIn}
+use Rattle.texts.specs.Owed.{textRules, UsesDone, ReadUsesReady}
+use Rattle.bench.specs.Owed.{TextDone}
+use Rattle.texts.proofs.Numbers.{size-is, numbers-below, each-number}
 use Rattle.bench.proofs.Says.{rulingOf, ruled}
-
--- there are as many lines as inputs and gates
-pub size-is : (t : List ℕ) → netSize (netIn t) ≡ inputsIn (formsIn t) + gatesIn (formsIn t)
-unfolding netIn
-size-is t = rw (length-map (firstsIn t) (numberIn t), firsts-length (wordsIn t) (endsIn t) (formsIn t))
 
 module _ {t ws es fs defs numbers : List ℕ} {inputs : ℕ} (u : ReadUsesReady t ws es fs inputs defs numbers) {order c c′ : List ℕ} {r : Read}
     (o : UsesDone t order c c′ r) {n : ℕ} (e : r ≡ Records n) where

@@ -16,7 +16,7 @@ use Rattle.names.proofs.Says.{names-say}
 use Rattle.nets.specs.declared.Read.{Read}
 use Rattle.nets.specs.declared.Read.the-variants.{Records, Refused}
 use Rattle.nets.proofs.Says.{net-says}
-use Rattle.bench.specs.Text.{defsIn, usesIn, netIn}
+use Rattle.texts.specs.Text.{defsIn, usesIn, netIn}
 use Rattle.bench.specs.Promise.{benchRules, readOf, Reads}
 
 pub bench-says : (t : List ℕ) (room : ℕ) → AllSay (benchRules t room)

@@ -15,7 +15,7 @@ use Rattle.records.specs.Net.{recordsOf}
 use Rattle.nets.specs.declared.Read.{Read}
 use Rattle.nets.specs.declared.Read.the-variants.{Records, Refused}
 use Rattle.nets.specs.Rules.{netRules}
-use Rattle.bench.specs.Text.{defsIn, usesIn, netIn}
+use Rattle.texts.specs.Text.{defsIn, usesIn, netIn}
 
 -- 14, 15, 16, then those on the records
 abbrev pub benchRules : List ℕ → ℕ → List Rule

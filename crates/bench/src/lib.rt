@@ -2,96 +2,21 @@
 use answers::Ruling;
 use forms::put_forms;
 use nets::Read;
-use nets::read_names;
 use places::put_places;
 use statements::put_defs;
-use statements::put_kinds;
-use statements::put_outs;
-use statements::put_sources;
 use syntax::check_text;
+use texts::read_uses;
 use words::cut;
 ghost use mathlib.Core.Path.{_≡_};
-ghost use Prim.Native.Nat.{_-_, _≤_};
+ghost use Prim.Native.Nat.{_≤_};
 ghost use lib.ListN.{length};
 ghost use Rattle.words.specs.Owed.{CutRoom};
 ghost use Rattle.forms.specs.Forms.{gatesIn};
 ghost use Rattle.bench.specs.Promise.{benchRules, Reads};
-ghost use Rattle.bench.specs.Owed.{PlacesDone, TextDone, UsesDone, ReadPlacedReady, ReadDefsReady, ReadLinesReady};
+ghost use Rattle.texts.specs.Owed.{OrderRoom, ReadDefsReady, ReadLinesReady};
+ghost use Rattle.bench.specs.Owed.{PlacesDone, TextDone};
 
 // ---- from the text to its tables. A step that needs memory makes it, and lends it to the function of the same name with `_in`
-
-// The kinds of the gates, and the names that are used.
-fn read_uses_in(
-    text: &[u8],
-    words: &[u16],
-    ends: &[u16],
-    forms: &[u8],
-    gates: usize,
-    defs: &[u16],
-    numbers: &[u16],
-    kinds: &mut [u8],
-    firsts: &mut [u16],
-    seconds: &mut [u16],
-    outs: &mut [u16],
-    order: &mut [u16],
-    circuit: &mut [u8],
-) -> Read
-    requires { ⌜ ReadPlacedReady (now text) (now words) (now ends) (now forms) gates (now defs) (now numbers) (now order) ⌝ }
-    requires { ⌜ (length (now kinds) ≡ 8193) × (length (now firsts) ≡ 8193) × (length (now seconds) ≡ 8193) × (length (now outs) ≡ 8193) ⌝ }
-    ensures { λ r. ⌜ UsesDone (now (text .entry)) (now (order .exit)) (now (circuit .entry)) (now (circuit .exit)) r ⌝ }
-{
-    put_kinds(text, words, ends, forms, kinds);
-    put_sources(words, ends, forms, firsts, seconds);
-    let u = put_outs(words, ends, forms, outs);
-    let inputs = defs.len() - gates;
-    read_names(
-        text,
-        defs,
-        numbers,
-        inputs,
-        &kinds[..gates],
-        &firsts[..gates],
-        &seconds[..gates],
-        &outs[..u],
-        order,
-        circuit,
-    )
-}
-
-fn read_uses(
-    text: &[u8],
-    words: &[u16],
-    ends: &[u16],
-    forms: &[u8],
-    gates: usize,
-    defs: &[u16],
-    numbers: &[u16],
-    order: &mut [u16],
-    circuit: &mut [u8],
-) -> Read
-    requires { ⌜ ReadPlacedReady (now text) (now words) (now ends) (now forms) gates (now defs) (now numbers) (now order) ⌝ }
-    ensures { λ r. ⌜ UsesDone (now (text .entry)) (now (order .exit)) (now (circuit .entry)) (now (circuit .exit)) r ⌝ }
-{
-    let mut kinds = [0u8; 8193];
-    let mut firsts = [0u16; 8193];
-    let mut seconds = [0u16; 8193];
-    let mut outs = [0u16; 8193];
-    read_uses_in(
-        text,
-        words,
-        ends,
-        forms,
-        gates,
-        defs,
-        numbers,
-        &mut kinds,
-        &mut firsts,
-        &mut seconds,
-        &mut outs,
-        order,
-        circuit,
-    )
-}
 
 // The places of the names. The gates have their order by then.
 fn read_placed(
@@ -106,7 +31,7 @@ fn read_placed(
     places: &mut [u16],
     circuit: &mut [u8],
 ) -> Read
-    requires { ⌜ ReadPlacedReady (now text) (now words) (now ends) (now forms) gates (now defs) (now numbers) (now order) ⌝ }
+    requires { ⌜ OrderRoom (now text) (now words) (now ends) (now forms) gates (now defs) (now numbers) (now order) ⌝ }
     requires { ⌜ length (now places) ≡ 2048 ⌝ }
     ensures { λ r. ⌜ TextDone (now (text .entry)) (now (places .entry)) (now (places .exit)) (now (circuit .entry)) (now (circuit .exit)) r ⌝ }
 {

@@ -24,7 +24,7 @@ use Rattle.nets.specs.Rules.{bufferBytes}
 use Rattle.nets.proofs.Order.{few-lines}
 use Rattle.names.specs.Names.{nameRules}
 use Rattle.syntax.specs.Syntax.{syntaxRules}
-use Rattle.bench.specs.Text.{defsIn, usesIn, netIn, placeOn, placesIn}
+use Rattle.texts.specs.Text.{defsIn, usesIn, netIn, placeOn, placesIn}
 use Rattle.bench.specs.Promise.{benchRules, recordsIn, readNumbers}
 use Rattle.bench.specs.Owed.{PlacesDone}
 use Rattle.bench.proofs.Says.{rulingOf, ruled}

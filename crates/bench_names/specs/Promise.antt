@@ -13,7 +13,7 @@ use Rattle.circuit.specs.Record.{linesOf}
 use Rattle.nets.specs.declared.Read.{Read}
 use Rattle.nets.specs.declared.Read.the-variants.{Records, Refused}
 use Rattle.nets.specs.Rules.{bufferBytes}
-use Rattle.bench.specs.Text.{placesIn}
+use Rattle.texts.specs.Text.{placesIn}
 use Rattle.bench.specs.Promise.{benchRules, recordsIn, readNumbers}
 
 -- as many places as the largest circuit has lines

@@ -22,7 +22,7 @@ use Rattle.search.specs.Promise.{searchRules, verdictFor, testFor, workFor, ver
 use Rattle.list_search.specs.Works.{worksFor}
 use Rattle.search_all.specs.Promise.{outcomesFor, countsFor, testsFor, searchAllRules}
 use Rattle.line_clauses.specs.Clauses.{variablesOf}
-use Rattle.bench.specs.Text.{placesIn}
+use Rattle.texts.specs.Text.{placesIn}
 use Rattle.bench.specs.Promise.{benchRules, recordsIn}
 use Rattle.bench_names.specs.Promise.{placeRules}
 use Rattle.ground.specs.Put.{laidOn}

@@ -15,13 +15,13 @@ use Rattle.order.specs.Order.{cycleRules}
 use Rattle.order.proofs.Cycle.{cycle-refused, refused-cycle}
 use Rattle.netlist.proofs.Sizes.{net-fine, net-sizes}
 use Rattle.nets.specs.Rules.{bufferBytes, bufferRules}
-use Rattle.bench.specs.Text.{defsIn, usesIn, netIn}
+use Rattle.texts.specs.Text.{defsIn, usesIn, netIn}
 use Rattle.bench.specs.Promise.{benchRules}
 use Rattle.equations.specs.Right.{TextCycle}
 use Rattle.equations.specs.Computes.{Acceptable}
 use Rattle.equations.proofs.Tables.{counted, inputs-are, outputs-are, output-line, number-inside}
 use Rattle.equations.proofs.Names.{names-right, right-names}
-use Rattle.bench.proofs.Places.{size-is}
+use Rattle.texts.proofs.Numbers.{size-is}
 use Rattle.equations.proofs.RightNet.{right-net}
 use Rattle.equations.proofs.Cycles.{net-cycle, text-cycle}
 use Rattle.equations.proofs.Parts.{parts, all-parts}

@@ -21,12 +21,12 @@ use Rattle.netlist.specs.Solved.{Solved, Right}
 use Rattle.netlist.proofs.Sizes.{net-sizes, net-accepted}
 use Rattle.circuit.specs.Sizes.{SizesHold}
 use Rattle.netlist.proofs.Values.{solution3, unique3, solution2, unique2}
-use Rattle.bench.specs.Text.{formsIn, defsIn, usesIn, netIn}
+use Rattle.texts.specs.Text.{formsIn, defsIn, usesIn, netIn}
 use Rattle.bench.specs.Promise.{benchRules, recordsIn}
 use Rattle.equations.specs.Numbers.{nameOf, numberFor, lineFor}
 use Rattle.equations.specs.Computes.{sizeIn, outputsIn, OneSolution, Computes}
 use Rattle.equations.proofs.Tables.{inputs-are}
-use Rattle.bench.proofs.Places.{size-is}
+use Rattle.texts.proofs.Numbers.{size-is}
 use Rattle.equations.proofs.RightNet.{number-below, right-net}
 use Rattle.equations.proofs.SameMeaning.{name-of, net-solved, text-solves}
 use Rattle.equations.proofs.Lines.{own-lines}

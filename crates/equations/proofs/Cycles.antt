@@ -14,7 +14,7 @@ use Rattle.forms.specs.Forms.{saysGate, gatesTo}
 use Rattle.names.specs.Names.{nameRules}
 use Rattle.order.specs.Order as order
 use Rattle.records.specs.Net.{gatesOf, pinOf}
-use Rattle.bench.specs.Text.{formsIn, defsIn, usesIn, netIn}
+use Rattle.texts.specs.Text.{formsIn, defsIn, usesIn, netIn}
 use Rattle.equations.specs.Right.{Line, ReadsFrom, TextWay, last, then, TextCycle}
 use Rattle.equations.specs.Numbers.{nameOf, numberFor}
 use Rattle.equations.proofs.Tables.{NthLine, counted, gates-are, gate-line, pin-get}

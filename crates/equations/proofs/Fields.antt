@@ -16,13 +16,13 @@ use Rattle.records.specs.Net.{netSize, netLine, numberOn, recordsOf}
 use Rattle.netlist.specs.Solved.{Right}
 use Rattle.netlist.proofs.Numbers.{line-gate}
 use Rattle.netlist.proofs.Fields.{net-kind, net-pin}
-use Rattle.bench.specs.Text.{formsIn, defsIn, usesIn, netIn}
+use Rattle.texts.specs.Text.{formsIn, defsIn, usesIn, netIn}
 use Rattle.equations.specs.Meaning.{nameOn, kindOn, sourceOn}
 use Rattle.equations.specs.Right.{Line, Defined}
 use Rattle.equations.specs.Numbers.{lineFor}
 use Rattle.equations.specs.Computes.{OwnLines, OwnRecords}
 use Rattle.equations.proofs.Tables.{counted, gates-are, inputs-are, kind-get, pin-get}
-use Rattle.bench.proofs.Places.{size-is}
+use Rattle.texts.proofs.Numbers.{size-is}
 use Rattle.equations.proofs.SameMeaning.{gate-defines, input-defines, number-of-gate}
 use Rattle.equations.proofs.Lines.{number-on, own-lines}
 

@@ -15,7 +15,7 @@ use Rattle.order.proofs.Says as order
 use Rattle.records.specs.Net.{gatesOf, placedOf, netLine}
 use Rattle.netlist.specs.Solved.{Right}
 use Rattle.netlist.proofs.Numbers.{line-gate, order-long, order-gate, order-at}
-use Rattle.bench.specs.Text.{defsIn, usesIn, netIn}
+use Rattle.texts.specs.Text.{defsIn, usesIn, netIn}
 use Rattle.equations.specs.Meaning.{nameOn}
 use Rattle.equations.specs.Numbers.{numberFor, lineFor}
 use Rattle.equations.specs.Placing.{InOrder, FirstLeft}

@@ -10,13 +10,13 @@ use Rattle.names.specs.Names.{nameRules}
 use Rattle.records.specs.Net.{gatesOf, netSize, netLine, numberOn}
 use Rattle.netlist.specs.Solved.{Right}
 use Rattle.netlist.proofs.Numbers.{line-input, number-cases, line-inside, number-inside, line-number, number-line}
-use Rattle.bench.specs.Text.{formsIn, defsIn, usesIn, netIn}
+use Rattle.texts.specs.Text.{formsIn, defsIn, usesIn, netIn}
 use Rattle.equations.specs.Meaning.{nameOn}
 use Rattle.equations.specs.Right.{Defined}
 use Rattle.equations.specs.Numbers.{nameOf, numberFor, lineFor}
 use Rattle.equations.specs.Computes.{OwnLines}
 use Rattle.equations.proofs.Tables.{gate-line, input-line}
-use Rattle.bench.proofs.Places.{size-is}
+use Rattle.texts.proofs.Numbers.{size-is}
 use Rattle.equations.proofs.RightNet.{number-below}
 use Rattle.equations.proofs.SameMeaning.{gate-defines, input-defines, name-of, number-of-gate, number-of-input}
 

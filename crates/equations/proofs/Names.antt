@@ -18,7 +18,7 @@ use Rattle.statements.proofs.Sizes.{defs-within}
 use Rattle.names.specs.Names.{NameOk, nameRules, definition}
 use Rattle.names.proofs.Says.{names-say}
 use Rattle.names.proofs.OneDefinition.{one-definition, definition-is}
-use Rattle.bench.specs.Text.{formsIn, defsIn, usesIn}
+use Rattle.texts.specs.Text.{formsIn, defsIn, usesIn}
 use Rattle.equations.specs.Right.{Defines, Defined, NamesRight}
 use Rattle.equations.specs.Numbers.{numberFor}
 use Rattle.equations.proofs.Tables.{placeOf, def-get, def-inside, number-get}

@@ -23,7 +23,7 @@ use Rattle.records.specs.Net.{netLine, numberOn, recordsOf}
 use Rattle.netlist.specs.Solved.{Right}
 use Rattle.netlist.proofs.Numbers.{line-number}
 use Rattle.netlist.proofs.Fields.{net-lines, net-out}
-use Rattle.bench.specs.Text.{formsIn, defsIn, usesIn, netIn}
+use Rattle.texts.specs.Text.{formsIn, defsIn, usesIn, netIn}
 use Rattle.shape.specs.Shape.{wordOn}
 use Rattle.equations.specs.Meaning.{linesIn, nameOn}
 use Rattle.equations.specs.Right.{Defines, Defined}
@@ -31,7 +31,7 @@ use Rattle.equations.specs.Numbers.{numberFor, lineFor}
 use Rattle.equations.specs.Computes.{sizeIn, OwnLines, IsOutput, outputName, outputsIn}
 use Rattle.equations.proofs.Tables.{placeOf, counted, outputs-are, output-line, output-get}
 use Rattle.equations.proofs.Names.{names-right}
-use Rattle.bench.proofs.Places.{size-is}
+use Rattle.texts.proofs.Numbers.{size-is}
 use Rattle.ground.proofs.Related.{Match, count-related}
 use Rattle.equations.proofs.Lines.{number-on, own-lines}
 

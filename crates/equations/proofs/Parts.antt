@@ -11,7 +11,7 @@ use Rattle.syntax.specs.Syntax.{syntaxRules}
 use Rattle.names.specs.Names.{nameRules}
 use Rattle.order.specs.Order.{cycleRules}
 use Rattle.nets.specs.Rules.{bufferRules}
-use Rattle.bench.specs.Text.{defsIn, usesIn, netIn}
+use Rattle.texts.specs.Text.{defsIn, usesIn, netIn}
 use Rattle.bench.specs.Promise.{benchRules, recordsIn}
 
 pub record Parts (t : List ℕ) (room : ℕ) : Type 0 where

@@ -28,7 +28,7 @@ use Rattle.order.specs.Order.{there, ready, orderOf}
 use Rattle.order.proofs.Ready.{ready-new}
 use Rattle.order.proofs.Unique as unique
 use Rattle.records.specs.Net.{Net, gatesOf, pinOf}
-use Rattle.bench.specs.Text.{formsIn, defsIn, usesIn, netIn}
+use Rattle.texts.specs.Text.{formsIn, defsIn, usesIn, netIn}
 use Rattle.equations.specs.Meaning.{kindOn, sourceOn}
 use Rattle.equations.specs.Right.{Line, Defined}
 use Rattle.equations.specs.Numbers.{numberFor}

@@ -16,13 +16,13 @@ use Rattle.nets.specs.declared.Read.{Read}
 use Rattle.nets.specs.declared.Read.the-variants.{Records, Refused}
 use Rattle.ground.specs.Put.{laidOn}
 use Rattle.nets.specs.Rules.{bufferBytes}
-use Rattle.bench.specs.Text.{netIn}
+use Rattle.texts.specs.Text.{netIn}
 use Rattle.bench.specs.Promise.{benchRules, recordsIn, readOf, Reads}
 use Rattle.bench.proofs.Says.{rulingOf, ruled}
 use Rattle.equations.specs.Right.{TextCycle}
 use Rattle.equations.specs.Placing.{FirstLeft}
 use Rattle.equations.specs.Computes.{sizeIn, Acceptable, Computes}
-use Rattle.bench.proofs.Places.{size-is}
+use Rattle.texts.proofs.Numbers.{size-is}
 use Rattle.equations.proofs.Computes.{computes}
 use Rattle.equations.proofs.Accepted.{accepted}
 use Rattle.equations.proofs.Sixteen.{sixteen, sixteen-place}

@@ -2,27 +2,26 @@
 -- Assumes nothing.
 use mathlib.Core.Path.{_≡_, sym, _∙_}
 use mathlib.Core.List.{List}
-use Prim.Native.Nat.{ℕ, _+_, _≤_, _<_}
+use Prim.Native.Nat.{ℕ, _≤_, _<_}
 use lib.ListN.{length, getD, length-map}
 use Rattle.answers.specs.declared.Ruling.the-variants.{Fine}
 use Rattle.answers.specs.Rules.{refusal}
 use Rattle.gates.specs.Gate.{lastKind}
 use Rattle.words.specs.Words.{wordsIn, endsIn}
 use Rattle.syntax.specs.Syntax.{Formed}
-use Rattle.forms.specs.Forms.{inputsIn, gatesIn}
 use Rattle.statements.proofs.Lengths.{seconds-length, kinds-length}
 use Rattle.shape.proofs.Forms.{gate-sources}
 use Rattle.names.specs.Names.{nameRules}
 use Rattle.order.specs.Order.{cycleRules}
 use Rattle.records.specs.Net.{gatesOf, netSize, pinOf}
 use Rattle.netlist.specs.Solved.{Right}
-use Rattle.bench.proofs.Places.{size-is}
-use Rattle.bench.specs.Text.{formsIn, defsIn, usesIn, secondsIn, numberIn, netIn}
+use Rattle.texts.proofs.Numbers.{size-is}
+use Rattle.texts.specs.Text.{formsIn, defsIn, usesIn, secondsIn, numberIn, netIn}
 use Rattle.shape.specs.Shape.{wordOn}
 use Rattle.equations.specs.Meaning.{sourceOn}
 use Rattle.equations.specs.Right.{Defined}
 use Rattle.equations.specs.Numbers.{numberFor}
-use Rattle.equations.proofs.Tables.{gates-are, inputs-are, gate-line, output-line, kind-get, pin-get, output-get, number-inside}
+use Rattle.equations.proofs.Tables.{gates-are, gate-line, output-line, kind-get, pin-get, output-get, number-inside}
 use Rattle.equations.proofs.Names.{names-right, number-of-name}
 
 module _ (t : List ℕ) where

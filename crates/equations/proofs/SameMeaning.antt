@@ -10,7 +10,7 @@ use Rattle.forms.specs.Forms.{saysInput, saysGate, gatesTo, inputsTo}
 use Rattle.names.specs.Names.{nameRules}
 use Rattle.records.specs.Net.{gatesOf, pinOf}
 use Rattle.netlist.specs.Solved.{Solved}
-use Rattle.bench.specs.Text.{formsIn, defsIn, usesIn, netIn}
+use Rattle.texts.specs.Text.{formsIn, defsIn, usesIn, netIn}
 use Rattle.equations.specs.Meaning.{nameOn, kindOn, sourceOn, Solves}
 use Rattle.equations.specs.Right.{Line, Defined, Defines}
 use Rattle.equations.specs.Numbers.{nameOf, numberFor}

@@ -18,7 +18,7 @@ use Rattle.order.specs.Order.{cycleRules}
 use Rattle.order.proofs.Says.{refused-left, left-refused}
 use Rattle.order.proofs.Cycle.{cycle-refused, refused-cycle}
 use Rattle.nets.specs.Rules.{bufferRules, recordRules, netRules}
-use Rattle.bench.specs.Text.{defsIn, usesIn, netIn}
+use Rattle.texts.specs.Text.{defsIn, usesIn, netIn}
 use Rattle.bench.specs.Promise.{benchRules, recordsIn}
 use Rattle.equations.specs.Right.{TextCycle}
 use Rattle.equations.specs.Placing.{FirstLeft}

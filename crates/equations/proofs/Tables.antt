@@ -25,7 +25,7 @@ use Rattle.statements.specs.Tables.{definedAt, numberAt, defsOf, defNumbersOf, 
 use Rattle.statements.proofs.Lengths.{outs-length, firsts-length}
 use Rattle.records.specs.Net.{gatesOf, pinOf}
 use Rattle.names.specs.Names as names
-use Rattle.bench.specs.Text.{formsIn, defsIn, outsIn, firstsIn, numberIn, netIn}
+use Rattle.texts.specs.Text.{formsIn, defsIn, outsIn, firstsIn, numberIn, netIn}
 use Rattle.shape.specs.Shape.{wordOn}
 use Rattle.equations.specs.Meaning.{linesIn, nameOn, kindOn, sourceOn}
 use Rattle.equations.specs.Right.{Line}

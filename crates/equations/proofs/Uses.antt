@@ -16,7 +16,7 @@ use Rattle.forms.specs.Lines.{wordIn}
 use Rattle.forms.specs.Forms.{saysOutput, saysGate, defines}
 use Rattle.statements.specs.Tables.{definedAt, defsOf, outsOf, firstsOf, secondsOf}
 use Rattle.statements.proofs.Sizes.{Inside, outs-within, firsts-within, seconds-within}
-use Rattle.bench.specs.Text.{formsIn, defsIn, outsIn, firstsIn, secondsIn, usesIn}
+use Rattle.texts.specs.Text.{formsIn, defsIn, outsIn, firstsIn, secondsIn, usesIn}
 use Rattle.shape.specs.Shape.{wordOn}
 use Rattle.equations.specs.Meaning.{linesIn, sourceOn}
 use Rattle.equations.specs.Right.{Line, Defines}

@@ -18,7 +18,7 @@ use Rattle.simulate.specs.Boolean.{Vector, good, truthAt}
 use Rattle.words.specs.Words.{same}
 use Rattle.syntax.specs.Syntax.{RightText}
 use Rattle.forms.specs.Forms.{saysInput, saysOutput, saysGate, defines, inputsTo, inputsIn, gatesIn}
-use Rattle.bench.specs.Text.{formsIn}
+use Rattle.texts.specs.Text.{formsIn}
 use Rattle.shape.specs.Shape.{wordOn}
 use Rattle.equations.specs.Meaning.{linesIn, nameOn, kindOn, sourceOn, Solves}
 use Rattle.equations.specs.Right.{Line, Defined, NamesRight, TextCycle}

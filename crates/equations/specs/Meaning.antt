@@ -13,7 +13,7 @@ use Rattle.syntax.specs.Kinds.{kindOf}
 use Rattle.forms.specs.Forms.{saysInput, saysGate, inputsTo}
 use Rattle.statements.specs.Tables.{definedAt}
 use Rattle.shape.specs.Shape.{wordOn}
-use Rattle.bench.specs.Text.{formsIn}
+use Rattle.texts.specs.Text.{formsIn}
 
 -- the name that line k defines
 abbrev pub nameOn : List ℕ → ℕ → List ℕ

@@ -9,7 +9,7 @@ use Rattle.forms.specs.Forms.{saysInput, saysGate}
 use Rattle.statements.specs.Tables.{definedAt, defNumbersOf}
 use Rattle.names.specs.Names.{definition}
 use Rattle.records.specs.Net.{netLine}
-use Rattle.bench.specs.Text.{formsIn, defsIn, netIn}
+use Rattle.texts.specs.Text.{formsIn, defsIn, netIn}
 use Rattle.equations.specs.Meaning.{linesIn}
 
 -- the name of a number

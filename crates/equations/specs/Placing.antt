@@ -9,7 +9,7 @@ use lib.ListN.{length, getD}
 use Rattle.ground.specs.Lists.{elem}
 use Rattle.gates.specs.Gate.{pinsOf}
 use Rattle.forms.specs.Forms.{saysInput, saysGate, gatesTo, inputsIn}
-use Rattle.bench.specs.Text.{formsIn}
+use Rattle.texts.specs.Text.{formsIn}
 use Rattle.equations.specs.Meaning.{nameOn, kindOn, sourceOn}
 use Rattle.equations.specs.Right.{Line}
 use Rattle.equations.specs.Numbers.{lineFor}

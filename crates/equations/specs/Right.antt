@@ -6,7 +6,7 @@ use mathlib.Core.Bool.{Bool, true}
 use mathlib.Core.List.{List}
 use Prim.Native.Nat.{ℕ, _<_}
 use Rattle.forms.specs.Forms.{saysOutput, saysGate, defines}
-use Rattle.bench.specs.Text.{formsIn}
+use Rattle.texts.specs.Text.{formsIn}
 use Rattle.shape.specs.Shape.{wordOn}
 use Rattle.equations.specs.Meaning.{linesIn, nameOn, sourceOn}
 

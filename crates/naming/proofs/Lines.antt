@@ -18,14 +18,14 @@ use Rattle.names.specs.Names.{nameRules}
 use Rattle.records.specs.Net.{netSize, netLine, numberOn}
 use Rattle.netlist.specs.Solved.{Right}
 use Rattle.netlist.proofs.Numbers.{number-inside, line-number}
-use Rattle.bench.specs.Text.{formsIn, defsIn, usesIn, netIn, placeOn}
-use Rattle.bench.proofs.Numbers.{each-number}
+use Rattle.texts.specs.Text.{formsIn, defsIn, usesIn, netIn, placeOn}
+use Rattle.texts.proofs.Numbers.{each-number}
 use Rattle.equations.specs.Meaning.{nameOn}
 use Rattle.equations.specs.Right.{Line}
 use Rattle.equations.specs.Numbers.{lineFor}
 use Rattle.equations.specs.Computes.{sizeIn}
 use Rattle.equations.proofs.Tables.{NthLine, get, number-get}
-use Rattle.bench.proofs.Places.{size-is}
+use Rattle.texts.proofs.Numbers.{size-is}
 use Rattle.equations.proofs.Names.{number-of-name}
 use Rattle.equations.proofs.Uses.{def-line}
 

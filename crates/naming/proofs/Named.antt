@@ -21,14 +21,14 @@ use Rattle.nets.specs.declared.Read.the-variants.{Records, Refused}
 use Rattle.nets.specs.Rules.{bufferBytes}
 use Rattle.words.specs.Words.{wordsIn, endsIn}
 use Rattle.statements.specs.Tables.{definedAt}
-use Rattle.bench.specs.Text.{formsIn, netIn, placeOn, placesIn}
+use Rattle.texts.specs.Text.{formsIn, netIn, placeOn, placesIn}
 use Rattle.bench.specs.Promise.{benchRules, recordsIn, Reads}
 use Rattle.bench.proofs.Says.{ruled}
 use Rattle.equations.specs.Meaning.{nameOn, Solves}
 use Rattle.equations.specs.Right.{Defines, NamesRight}
 use Rattle.equations.specs.Numbers.{lineFor}
 use Rattle.equations.specs.Computes.{sizeIn, Computes}
-use Rattle.bench.proofs.Places.{size-is}
+use Rattle.texts.proofs.Numbers.{size-is}
 use Rattle.equations.proofs.Names.{names-right}
 use Rattle.equations.proofs.Parts.{parts}
 use Rattle.equations.proofs.Computes.{parts-right, computes}

@@ -12,7 +12,7 @@ use Rattle.simulate.specs.Boolean.{Vector, good, truthAt}
 use Rattle.words.specs.Words.{wordsIn, endsIn}
 use Rattle.forms.specs.Forms.{saysInput, saysGate, defines, inputsTo}
 use Rattle.statements.specs.Tables.{definedAt}
-use Rattle.bench.specs.Text.{formsIn}
+use Rattle.texts.specs.Text.{formsIn}
 use Rattle.equations.specs.Meaning.{nameOn, kindOn, sourceOn}
 use Rattle.equations.specs.Right.{Line}
 use Rattle.equations.specs.Numbers.{lineFor}

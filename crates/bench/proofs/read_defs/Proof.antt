@@ -1,7 +1,7 @@
 -- `bench::read_defs` meets its contract: room for the names that are defined and their numbers is lent.
 -- Assumes nothing.
 use Rattle.ground.proofs.Filled.{filled-length, front-length}
-use Rattle.bench.proofs.Steps.{gates-few}
+use Rattle.texts.proofs.Steps.{gates-few}
 use mathlib.Core.Path.{sym}
 use borrow.Author.Needs.{needs}
 use Rattle.bench.proofs.read_defs.Statement.{statement}

@@ -1,6 +1,6 @@
 -- `bench::read_defs_in` meets its contract: the names that are defined and their numbers.
 -- Assumes nothing.
-use Rattle.bench.proofs.Steps.{defs-room, defined}
+use Rattle.texts.proofs.Steps.{defs-room, defined}
 use lib.Seq.{length-take-le}
 use mathlib.Core.Path.{sym}
 use native.Mathlib.Omega.{arith}

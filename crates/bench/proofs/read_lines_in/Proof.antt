@@ -1,6 +1,6 @@
 -- `bench::read_lines_in` meets its contract: the forms of the lines, and how many gates there are.
 -- Assumes nothing.
-use Rattle.bench.proofs.Steps.{told}
+use Rattle.texts.proofs.Steps.{told}
 use borrow.Author.Needs.{needs}
 use Rattle.bench.proofs.read_lines_in.Statement.{statement}
 use Rattle.bench.proofs.read_lines_in.Tie as tie

@@ -1,6 +1,6 @@
 -- `bench::read_words_in` meets its contract: the words and the ends of lines.
 -- Assumes nothing.
-use Rattle.bench.proofs.Steps.{lined, few-lines}
+use Rattle.texts.proofs.Steps.{lined, few-lines}
 use lib.Seq.{length-take-le}
 use mathlib.Core.Path.{sym}
 use native.Mathlib.Omega.{arith}

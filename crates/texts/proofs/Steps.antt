@@ -16,9 +16,9 @@ use Rattle.statements.proofs.Lengths.{defs-length}
 use Rattle.statements.proofs.Sizes.{few-defs, few-outs, few-gates}
 use Rattle.nets.specs.declared.Read.{Read}
 use Rattle.nets.specs.Owed.{NamedNet, namedOf, NamesDone, ReadNamesReady}
-use Rattle.bench.specs.Text.{formsIn, defsIn, outsIn, firstsIn, secondsIn, netIn}
-use Rattle.bench.specs.Owed.{UsesDone, namedIn, ReadLinesReady, ReadDefsReady, ReadUsesReady}
-use Rattle.bench.proofs.Numbers.{named-ready}
+use Rattle.texts.specs.Text.{formsIn, defsIn, outsIn, firstsIn, secondsIn, netIn}
+use Rattle.texts.specs.Owed.{UsesDone, namedIn, ReadLinesReady, ReadDefsReady, ReadUsesReady}
+use Rattle.texts.proofs.Numbers.{named-ready}
 
 -- ---- words, forms
 

@@ -6,7 +6,7 @@ use mathlib.Core.Bool.{Bool, true, false, _||_, or-true, false≢true}
 use mathlib.Core.List.{List}
 use Prim.Native.Nat.{ℕ, _+_, _-_, _≤_, _<_}
 use native.Mathlib.Omega.{arith}
-use lib.ListN.{length, getD}
+use lib.ListN.{length, getD, length-map}
 use borrow.Author.Tests.{eqb-true, lt-leb}
 use Rattle.ground.specs.Choose.{choose}
 use Rattle.ground.specs.Below.{countBelow}
@@ -21,9 +21,10 @@ use Rattle.forms.specs.Forms.{saysInput, saysGate, defines, inputsTo, gatesTo, 
 use Rattle.statements.specs.Tables.{numberAt, defNumbersOf}
 use Rattle.statements.proofs.Lengths.{defs-split, defs-length, same-lengths, outs-length, firsts-length, seconds-length, kinds-length}
 use Rattle.statements.proofs.Sizes.{few-defs, few-outs, few-gates, defs-within, outs-within, firsts-within, seconds-within}
+use Rattle.records.specs.Net.{netSize}
 use Rattle.nets.specs.Owed.{ReadNamesReady}
-use Rattle.bench.specs.Text.{formsIn}
-use Rattle.bench.specs.Owed.{namedIn}
+use Rattle.texts.specs.Text.{formsIn, firstsIn, numberIn, netIn}
+use Rattle.texts.specs.Owed.{namedIn}
 
 -- the number of a definition is that of a gate or an input
 pub numbers-below : (fs : List ℕ) (j : ℕ) → j < length (defNumbersOf fs) → getD (defNumbersOf fs) j 0 < inputsIn fs + gatesIn fs
@@ -78,3 +79,8 @@ named-ready t s =
       numbers = same-lengths (wordsIn t) (endsIn t) fs;
       numbers-below = λ j l. rw f (numbers-below fs j l);
     }
+
+-- there are as many lines as inputs and gates
+pub size-is : (t : List ℕ) → netSize (netIn t) ≡ inputsIn (formsIn t) + gatesIn (formsIn t)
+unfolding netIn
+size-is t = rw (length-map (firstsIn t) (numberIn t), firsts-length (wordsIn t) (endsIn t) (formsIn t))

@@ -3,8 +3,8 @@
 use Rattle.ground.proofs.Filled.{filled-length}
 use mathlib.Core.Path.{sym}
 use borrow.Author.Needs.{needs}
-use Rattle.bench.proofs.read_uses.Statement.{statement}
-use Rattle.bench.proofs.read_uses.Tie as tie
+use Rattle.texts.proofs.read_uses.Statement.{statement}
+use Rattle.texts.proofs.read_uses.Tie as tie
 
 slice-aggregate-read-uses-in : tie.Need-slice-aggregate-read-uses-in
 slice-aggregate-read-uses-in c = sym (filled-length 8193 0)

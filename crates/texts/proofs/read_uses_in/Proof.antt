@@ -1,12 +1,12 @@
 -- `bench::read_uses_in` meets its contract: the kinds and the names that are used join the names that are defined.
 -- Assumes nothing.
-use Rattle.bench.proofs.Steps.{kinds-room, outs-room, gates-room, gates-few, some-gates, ready, read-used}
+use Rattle.texts.proofs.Steps.{kinds-room, outs-room, gates-room, gates-few, some-gates, ready, read-used}
 use lib.Seq.{length-take-le}
 use mathlib.Core.Path.{sym, _∙_}
 use native.Mathlib.Omega.{arith}
 use borrow.Author.Needs.{needs}
-use Rattle.bench.proofs.read_uses_in.Statement.{statement}
-use Rattle.bench.proofs.read_uses_in.Tie as tie
+use Rattle.texts.proofs.read_uses_in.Statement.{statement}
+use Rattle.texts.proofs.read_uses_in.Tie as tie
 
 -- the places: the entry, behind the kinds, behind the sources of the gates, and behind the outputs; each accessor goes back by one
 
