@@ -1,10 +1,9 @@
 /* A front end in C, to be copied: reads a circuit, its faults and its patterns, and prints the fault dictionary with the patterns that are
    kept, and a test for each fault.
 
-   cc -Iinclude examples/front_end.c target/staticlib/libentries.a -o front_end
-   ./front_end examples/a/circuit.rec examples/a/faults.rec examples/a/patterns.rec
-
-   The archive is for x86-64; `rt staticlib entries` makes it. */
+   ./ullimaqsu install tools
+   cc -Itools/include examples/front_end.c -Ltools/lib -lullimaqsu -o front_end
+   ./front_end examples/a/circuit.rec examples/a/faults.rec examples/a/patterns.rec */
 #include "ullimaqsu.h"
 
 #if __STDC_HOSTED__

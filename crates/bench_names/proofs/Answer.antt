@@ -28,10 +28,10 @@ use Rattle.texts.specs.Text.{defsIn, usesIn, netIn, placeOn, placesIn}
 use Rattle.bench.specs.Promise.{benchRules, recordsIn, readNumbers}
 use Rattle.bench.specs.Owed.{PlacesDone}
 use Rattle.bench.proofs.Says.{rulingOf, ruled}
-use Rattle.bench_names.specs.Promise.{roomRules, placeRules, namesOf, Names}
+use Rattle.bench_names.specs.Promise.{placeCountRules, placeRules, namesOf, TellsNames}
 use Rattle.bench_names.specs.Owed.{HandOverDone}
 
-names-done : {t p p′ : List ℕ} {r : Read} → RulesDone Refused (placeRules t (length p)) (Records (linesOf (recordsIn t))) p (laidOn p (placesIn t)) r p′ → Names t p p′ r
+names-done : {t p p′ : List ℕ} {r : Read} → RulesDone Refused (placeRules t (length p)) (Records (linesOf (recordsIn t))) p (laidOn p (placesIn t)) r p′ → TellsNames t p p′ r
 unfolding namesOf readNumbers
 names-done {t} {p} d = record {
   answer = d .answer;
@@ -46,7 +46,7 @@ module _ {t f f′ c c′ : List ℕ} {v : Read} (size : length c ≡ bufferByte
   answer-is = d .done .answer ∙ ap (λ (n : ℕ). answered Refused (refusal (benchRules t n)) (Records (linesOf (recordsIn t)))) size
 
   -- it refuses
-  pub names-refused : {p : List ℕ} {number place : ℕ} → v ≡ Refused number place → Names t p p (Refused number place)
+  pub names-refused : {p : List ℕ} {number place : ℕ} → v ≡ Refused number place → TellsNames t p p (Refused number place)
   names-refused e = names-done (first-refused (benchRules t bufferBytes) _ (was-ruled (ruled _) answer-is (ap rulingOf e)))
 
   -- it has found n places
@@ -77,12 +77,12 @@ module _ {t f f′ c c′ : List ℕ} {v : Read} (size : length c ≡ bufferByte
     pub found-few : length (take n f′) ≤ 2048
     found-few = rw (found-is, places-long, ← count-is) few
 
-    pub names-found : {p p′ : List ℕ} {r : Read} → HandOverDone (take n f′) p p′ r → Names t p p′ r
+    pub names-found : {p p′ : List ℕ} {r : Read} → HandOverDone (take n f′) p p′ r → TellsNames t p p′ r
     names-found {p} {p′} {r} h =
         let over = subst (λ (l : List ℕ). HandOverDone l p p′ r) found-is h in
-        let counted = ap (λ (m : ℕ). answered Refused (refusal (roomRules (length p))) (Records m)) places-long in
+        let counted = ap (λ (m : ℕ). answered Refused (refusal (placeCountRules (length p))) (Records m)) places-long in
         names-done (first-fine (benchRules t bufferBytes) _ fine (record { answer = over .answer ∙ counted; memory = over .memory }))
 
 -- two allowed results are equal
-pub one-result : {t p p′ p″ : List ℕ} {r s : Read} → Names t p p′ r → Names t p p″ s → (r ≡ s) × (p′ ≡ p″)
+pub one-result : {t p p′ p″ : List ℕ} {r s : Read} → TellsNames t p p′ r → TellsNames t p p″ s → (r ≡ s) × (p′ ≡ p″)
 one-result p q = (cc, cc)

@@ -13,16 +13,16 @@ use Rattle.nets.specs.declared.Read.the-variants.{Refused}
 use Rattle.nets.specs.Rules.{bufferBytes}
 use Rattle.bench.specs.Promise.{benchRules}
 use Rattle.bench.proofs.Says.{bench-says, ruled}
-use Rattle.bench_names.specs.Promise.{roomRules, placeRules, namesOf, Names}
+use Rattle.bench_names.specs.Promise.{placeCountRules, placeRules, namesOf, TellsNames}
 
-room-says : (room : ℕ) → AllSay (roomRules room)
-unfolding roomRules AllSay
+room-says : (room : ℕ) → AllSay (placeCountRules room)
+unfolding placeCountRules AllSay
 room-says room = (eq-same room 2048, tt)
 
 pub place-says : (t : List ℕ) (room : ℕ) → AllSay (placeRules t room)
 place-says t room = both-say (benchRules t bufferBytes) _ (bench-says t bufferBytes) (room-says room)
 
-module _ {t p p′ : List ℕ} {r : Read} (n : Names t p p′ r) (number place : ℕ) where
+module _ {t p p′ : List ℕ} {r : Read} (n : TellsNames t p p′ r) (number place : ℕ) where
   pub refused-applies : r ≡ Refused number place → Applies (placeRules t (length p)) number place
   unfolding namesOf
   refused-applies = answer.refused-applies (ruled _) (placeRules t (length p)) (place-says t (length p)) (n .answer) number place

@@ -20,19 +20,19 @@ use Rattle.bench.specs.Promise.{benchRules, recordsIn, readNumbers}
 abbrev pub placeCount : ℕ
 placeCount = 2048
 
-unfoldable pub roomRules : ℕ → List Rule
-roomRules room = exact placeCount room ∷ []
+unfoldable pub placeCountRules : ℕ → List Rule
+placeCountRules room = exact placeCount room ∷ []
 
 -- those of the reader, whose buffer has its size, then 10
 abbrev pub placeRules : List ℕ → ℕ → List Rule
-placeRules t room = benchRules t bufferBytes ++ roomRules room
+placeRules t room = benchRules t bufferBytes ++ placeCountRules room
 
 -- the number of records where all is fine
 unfoldable pub namesOf : List ℕ → ℕ → Read
 namesOf t room = answered Refused (refusal (placeRules t room)) (Records (linesOf (recordsIn t)))
 
 -- the promise, whatever the text and the places: the answer's case, its number and values, and every place; a refusal writes nothing
-pub record Names (t p p′ : List ℕ) (r : Read) : Type 0 where
+pub record TellsNames (t p p′ : List ℕ) (r : Read) : Type 0 where
   pub answer : r ≡ namesOf t (length p)
   pub numbers : readNumbers r ≡ told (refusal (placeRules t (length p))) (success (linesOf (recordsIn t)) 0 0)
   pub places : p′ ≡ unless (refusal (placeRules t (length p))) p (laidOn p (placesIn t))

@@ -5,7 +5,7 @@ use nets::Read;
 ghost use mathlib.Core.Path.{_≡_};
 ghost use Prim.Native.Nat.{_≤_};
 ghost use lib.ListN.{length};
-ghost use Rattle.bench_names.specs.Promise.{Names};
+ghost use Rattle.bench_names.specs.Promise.{TellsNames};
 ghost use Rattle.bench_names.specs.Owed.{HandOverDone};
 
 // Refusal 10, or the places in the lent ones.
@@ -27,7 +27,7 @@ fn hand_over(found: &[u16], places: &mut [u32]) -> Read
 // In memory for the places and for the records, which the reader checks.
 fn names_in(text: &[u8], found: &mut [u16], circuit: &mut [u8], places: &mut [u32]) -> Read
     requires { ⌜ (length (now found) ≡ 2048) × (length (now circuit) ≡ 16384) ⌝ }
-    ensures { λ r. ⌜ Names (now (text .entry)) (now (places .entry)) (now (places .exit)) r ⌝ }
+    ensures { λ r. ⌜ TellsNames (now (text .entry)) (now (places .entry)) (now (places .exit)) r ⌝ }
 {
     let v = read_text(text, found, circuit);
     match v {
@@ -38,7 +38,7 @@ fn names_in(text: &[u8], found: &mut [u16], circuit: &mut [u8], places: &mut [u3
 
 // Where the names begin: how many lines there are, or the first refusal.
 pub fn bench_names(text: &[u8], places: &mut [u32]) -> Read
-    ensures { λ r. ⌜ Names (now (text .entry)) (now (places .entry)) (now (places .exit)) r ⌝ }
+    ensures { λ r. ⌜ TellsNames (now (text .entry)) (now (places .entry)) (now (places .exit)) r ⌝ }
 {
     let mut found = [0u16; 2048];
     let mut circuit = [0u8; 16384];

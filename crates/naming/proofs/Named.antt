@@ -33,13 +33,13 @@ use Rattle.equations.proofs.Names.{names-right}
 use Rattle.equations.proofs.Parts.{parts}
 use Rattle.equations.proofs.Computes.{parts-right, computes}
 use Rattle.equations.proofs.Read.{lines-are, read-computes}
-use Rattle.bench_names.specs.Promise.{placeRules, namesOf, Names}
-use Rattle.naming.specs.Named.{Follows, OwnName}
+use Rattle.bench_names.specs.Promise.{placeRules, namesOf, TellsNames}
+use Rattle.naming.specs.Named.{FollowsText, OwnName}
 use Rattle.naming.proofs.Lines.{NamesLine, names-line}
 
 -- what solves the text's equations has on each line the value of its name's
 follows : {A : Type 0} {gate : ℕ → (ℕ → A) → A} {t : List ℕ} {inputs : ℕ → A} (value : ℕ → A) {j k : ℕ}
-    → Solves gate t inputs (λ w. value (lineFor t w)) → NamesLine t k j → Follows gate t inputs value j k
+    → Solves gate t inputs (λ w. value (lineFor t w)) → NamesLine t k j → FollowsText gate t inputs value j k
 follows value s n = record {
   given = λ e. ap value (sym (n .own)) ∙ s .given _ (n .says .inside) e;
   equation = λ e. ap value (sym (n .own)) ∙ s .equation _ (n .says .inside) e;
@@ -77,7 +77,7 @@ module _ {t c : List ℕ} (d : Computes t c) (right : NamesRight t) {k a b : ℕ
 
 -- ---- of what is written
 
-module _ {t p p′ : List ℕ} {n : ℕ} (names : Names t p p′ (Records n)) where
+module _ {t p p′ : List ℕ} {n : ℕ} (names : TellsNames t p p′ (Records n)) where
   all-fine : refusal (placeRules t (length p)) ≡ Fine
   unfolding namesOf
   all-fine = was-ruled (ruled _) (names .answer) refl

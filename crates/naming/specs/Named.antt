@@ -19,7 +19,7 @@ use Rattle.equations.specs.Numbers.{lineFor}
 use Rattle.equations.specs.Computes.{sizeIn}
 
 -- line k has the value that the text's line j gives to its name: the input's, or that of the gate on the lines of its sources' names
-pub record Follows {A : Type 0} (gate : ℕ → (ℕ → A) → A) (t : List ℕ) (inputs value : ℕ → A) (j k : ℕ) : Type 0 where
+pub record FollowsText {A : Type 0} (gate : ℕ → (ℕ → A) → A) (t : List ℕ) (inputs value : ℕ → A) (j k : ℕ) : Type 0 where
   pub given : saysInput (formsIn t) j ≡ true → value k ≡ inputs (inputsTo (formsIn t) j)
   pub equation : saysGate (formsIn t) j ≡ true → value k ≡ gate (kindOn t j) (λ s. value (lineFor t (sourceOn t j s)))
 
@@ -32,6 +32,6 @@ pub record OwnName (t c : List ℕ) (k place : ℕ) : Type 0 where
   -- the name is this line's
   pub own : lineFor t (nameOn t line) ≡ k
   -- for every pattern, with three values
-  pub values : (p : List ℕ) → Follows gateOf t (λ j. getD p j 0) (λ i. getD (goodOf c p (sizeIn t)) i 0) line k
+  pub values : (p : List ℕ) → FollowsText gateOf t (λ j. getD p j 0) (λ i. getD (goodOf c p (sizeIn t)) i 0) line k
   -- for every complete vector, over Bool
-  pub truths : (x : Vector) → Follows boolGate t x (truthAt good c x (sizeIn t)) line k
+  pub truths : (x : Vector) → FollowsText boolGate t x (truthAt good c x (sizeIn t)) line k
