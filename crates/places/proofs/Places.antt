@@ -9,14 +9,14 @@ use native.Mathlib.Omega.{arith}
 use lib.ListN.{length, getD, take, set}
 use lib.Seq.{take-all, length-sets}
 use borrow.Author.Tests.{lt-ltb, le-ltb}
-use Rattle.ground.specs.Lists.{elem, indexIn}
+use Rattle.ground.specs.Lists.{elem}
 use Rattle.ground.specs.Put.{laidOn}
 use Rattle.ground.proofs.Tests.{either}
 use Rattle.ground.proofs.Lists.{index-in}
 use Rattle.ground.proofs.Grow.{table-length, table-at}
 use Rattle.ground.proofs.Put.{Partly, partly-more, partly-all, put-whole}
 use Rattle.records.specs.Owed.{NumberLinesReady, NumberLinesDone}
-use Rattle.places.specs.Owed.{numberBy, placeBy, placesBy, PutPlacesReady, PutPlacesInReady}
+use Rattle.places.specs.Owed.{numberBy, definitionBy, placeBy, placesBy, PutPlacesReady, PutPlacesInReady}
 
 module _ {defs numbers order places₀ : List ℕ} (p : PutPlacesReady defs numbers order places₀) where
   abbrev inputs : ℕ
@@ -37,7 +37,7 @@ module _ {defs numbers order places₀ : List ℕ} (p : PutPlacesReady defs numb
       gate h = rw (le-ltb k inputs h) (p .gates-below (k - inputs) (omega (arith, lines)))
 
   -- which is defined
-  pub def-below : (k : ℕ) → k < length defs → indexIn numbers (numberBy inputs order k) < length defs
+  pub def-below : (k : ℕ) → k < length defs → definitionBy defs numbers order k < length defs
   def-below k l =
       let x = numberBy inputs order k in
       let e = ap (λ (m : List ℕ). elem m x) (take-all (length numbers) numbers (omega arith)) ∙ p .each x (number-below k l) in
@@ -45,7 +45,7 @@ module _ {defs numbers order places₀ : List ℕ} (p : PutPlacesReady defs numb
 
   -- by the memory
   pub def-is : (def : List ℕ) → NumberLinesDone numbers 0 def → (k : ℕ) → k < length defs
-      → {x d : ℕ} → x ≡ numberBy inputs order k → d ≡ getD def x 0 → d ≡ indexIn numbers (numberBy inputs order k)
+      → {x d : ℕ} → x ≡ numberBy inputs order k → d ≡ getD def x 0 → d ≡ definitionBy defs numbers order k
   def-is def n k l e f = f ∙ ap (λ (i : ℕ). getD def i 0) e ∙ n (numberBy inputs order k) (p .each _ (number-below k l)) ∙ zero-add _
 
   -- ---- the loop
@@ -60,7 +60,7 @@ module _ {defs numbers order places₀ : List ℕ} (p : PutPlacesReady defs numb
   same-room {k = k} s = ap length (s .first) ∙ length-sets places₀ 0 (take k (placesBy defs numbers order))
 
   pub places-more : {places : List ℕ} {k x : ℕ} → PlacesTo places k → k < length defs
-      → x ≡ getD defs (indexIn numbers (numberBy inputs order k)) 0 → PlacesTo (set places k x) (k + 1)
+      → x ≡ getD defs (definitionBy defs numbers order k) 0 → PlacesTo (set places k x) (k + 1)
   unfolding placeBy
   places-more {places} {k} {x} s l e =
       rw (zero-add k) at (partly-more 0 s (rw places-long l) (e ∙ sym (table-at (placeBy defs numbers order) (length defs) 0 k l)))

@@ -14,9 +14,13 @@ use Rattle.records.specs.Owed.{Below}
 unfoldable pub numberBy : ℕ → List ℕ → ℕ → ℕ
 numberBy inputs order k = choose (ltb k inputs) (length order + k) (getD order (k - inputs) 0)
 
--- the byte where that number is defined
+-- which definition it has
+abbrev pub definitionBy : List ℕ → List ℕ → List ℕ → ℕ → ℕ
+definitionBy defs numbers order k = indexIn numbers (numberBy (length defs - length order) order k)
+
+-- and the byte of that
 unfoldable pub placeBy : List ℕ → List ℕ → List ℕ → ℕ → ℕ
-placeBy defs numbers order k = getD defs (indexIn numbers (numberBy (length defs - length order) order k)) 0
+placeBy defs numbers order k = getD defs (definitionBy defs numbers order k) 0
 
 -- of all lines
 abbrev pub placesBy : List ℕ → List ℕ → List ℕ → List ℕ

@@ -3,11 +3,10 @@
 use mathlib.Core.Path.{_≡_, ap}
 use Prim.Native.Nat.{ℕ, _-_, _<_}
 use lib.ListN.{length, getD}
-use Rattle.ground.specs.Lists.{indexIn}
 use native.Mathlib.Omega.{arith}
 use borrow.Author.Needs.{needs}
 use Rattle.ground.proofs.Put.{Partly, partly-none}
-use Rattle.places.specs.Owed.{numberBy, placesBy}
+use Rattle.places.specs.Owed.{definitionBy, placesBy}
 use Rattle.places.proofs.Places.{number-below, def-below, def-is, same-room, places-more, places-all, number-room}
 use Rattle.places.proofs.put_places_in.Statement.{statement}
 use Rattle.places.proofs.put_places_in.Tie as tie
@@ -45,20 +44,23 @@ slice-read-wide16 c =
     let b = number-below (p .fits) (here .before .loop .k) (here .loop-test .taken) in
     omega (arith, b, c .before .number-on .ensures, p .for-defs, here .before .before .before .before .number-lines .kept .1 .1 .0)
 
--- the definition that was found
-found : (c : tie.After-wide16 Inv-loop μ-loop)
-    → c .wide16 .result ≡ indexIn (start (c .before .before .before) .args .numbers .now)
-    (numberBy (length (start (c .before .before .before) .args .defs .now) - length (start (c .before .before .before) .args .order .now)) (start (c .before .before .before) .args .order .now) (c .before .before .before .before .loop .k))
-found c =
-    let here = c .before .before .before in
-    def-is (start here .pre .fits) (here .before .before .before .before .number-lines .last .1 .1 .0) (here .before .before .before .before .number-lines .ensures)
-    (here .before .loop .k) (here .loop-test .taken) (c .before .before .number-on .ensures) (c .wide16 .ensures .0)
+-- the turn of the loop, from the place behind the look at the memory
+abbrev turn : tie.After-wide16 Inv-loop μ-loop → tie.In-loop Inv-loop μ-loop
+turn c = c .before .before .before
 
-found-below : (c : tie.After-wide16 Inv-loop μ-loop) → c .wide16 .result < length (start (c .before .before .before) .args .defs .now)
-found-below c = let here = c .before .before .before in rw (found c) (def-below (start here .pre .fits) (here .before .loop .k) (here .loop-test .taken))
+-- the definition that was found there
+found : (c : tie.After-wide16 Inv-loop μ-loop) → let a = start (turn c) .args in
+    c .wide16 .result ≡ definitionBy (a .defs .now) (a .numbers .now) (a .order .now) (turn c .before .loop .k)
+found c =
+    let lines = turn c .before .before .before .before .number-lines in
+    def-is (start (turn c) .pre .fits) (lines .last .1 .1 .0) (lines .ensures) (turn c .before .loop .k) (turn c .loop-test .taken)
+    (c .before .before .number-on .ensures) (c .wide16 .ensures .0)
+
+found-below : (c : tie.After-wide16 Inv-loop μ-loop) → c .wide16 .result < length (start (turn c) .args .defs .now)
+found-below c = omega (arith, found c, def-below (start (turn c) .pre .fits) (turn c .before .loop .k) (turn c .loop-test .taken))
 
 found-small : tie.Need-mul-places Inv-loop μ-loop
-found-small c = omega (arith, found-below c, start (c .before .before .before) .pre .fits .few)
+found-small c = omega (arith, found-below c, start (turn c) .pre .fits .few)
 
 shared-slice-read-places : tie.Need-shared-slice-read-places Inv-loop μ-loop
 shared-slice-read-places c = found-below (c .before)
