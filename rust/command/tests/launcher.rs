@@ -7,6 +7,7 @@ use std::fs::{self, File, Permissions};
 use std::os::unix::fs::{symlink, PermissionsExt};
 use std::path::Path;
 use std::process::Command;
+use std::sync::{Mutex, MutexGuard, PoisonError};
 use std::time::{Duration, SystemTime};
 
 /// A file of each sort that something is made of.
@@ -29,11 +30,15 @@ printf '#!/bin/sh\\necho \"program $*\"\\n' >rust/target/native/release/ullimaqs
 const PROVING: &str = "ullimaqsu: proving and building the program; this happens once and takes some minutes\n";
 const BUILDING: &str = "ullimaqsu: building the program; this happens once\n";
 
-/// A repository with nothing in it but names.
-struct Repository(Directory);
+/// A repository with nothing in it but names. There is one at a time: a process that another test starts holds a script open that was just
+/// written, for a moment, and then nobody can run it.
+struct Repository(Directory, #[allow(dead_code)] MutexGuard<'static, ()>);
+
+static ALONE: Mutex<()> = Mutex::new(());
 
 impl Repository {
     fn new(name: &str) -> Repository {
+        let alone = ALONE.lock().unwrap_or_else(PoisonError::into_inner);
         let directory = Directory::new(name);
         for file in LIBRARY.iter().chain(&PROGRAM) {
             fs::create_dir_all(directory.path(file).parent().expect("a directory")).expect("a directory");
@@ -46,7 +51,7 @@ impl Repository {
             let path = directory.write(&format!("bin/{tool}"), does);
             fs::set_permissions(path, Permissions::from_mode(0o755)).expect("a mode");
         }
-        let repository = Repository(directory);
+        let repository = Repository(directory, alone);
         repository.age();
         repository
     }
@@ -182,6 +187,32 @@ fn what_fails() {
     };
     stopped(without("rt"), "", "the Rattle kit is missing: there is no command rt in PATH");
     stopped(without("cargo"), "", "Rust is missing: there is no command cargo in PATH");
+}
+
+/// The commands that are there in the repository alone say what they take, and nothing is built for that or for what they do not understand.
+#[test]
+fn own_commands() {
+    let repository = Repository::new("own");
+    let asked = |words: &[&str]| {
+        let mut command = Command::new(repository.0.path("ullimaqsu"));
+        repository.asked(command.args(words).current_dir(&repository.0 .0).env("NOTES", repository.0.path("notes")))
+    };
+    let before = repository.0.names();
+    for name in ["install", "test", "benchmark"] {
+        let helps = [[name, "--help"], [name, "-h"], ["help", name], ["--help", name]].map(|words| asked(&words));
+        let ((status, says, error), called) = &helps[0];
+        assert_eq!((*status, error.as_str(), called.len()), (Some(0), "", 0), "{name}");
+        let shown = [format!("ullimaqsu {name}"), format!("\nExample: ./ullimaqsu {name}")];
+        assert!(says.starts_with(&shown[0]) && says.contains(&shown[1]), "{says}");
+        assert!(helps.iter().all(|help| help == &helps[0]), "{helps:?}");
+    }
+    for words in [&["install"][..], &["install", "a", "b"], &["install", "-x"], &["test", "x"], &["benchmark", "x", "y"]] {
+        let ((status, says, error), called) = asked(words);
+        assert_eq!((status, says.as_str(), error.lines().count(), called.len()), (Some(2), "", 1, 0), "{words:?}: {error}");
+        assert!(error.starts_with(&format!("ullimaqsu: {} ", words[0])), "{error}");
+    }
+    fs::remove_file(repository.0.path("notes")).expect("notes");
+    assert_eq!(repository.0.names(), before);
 }
 
 /// A closed standard output is told before anything is done.
