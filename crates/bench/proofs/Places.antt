@@ -7,9 +7,10 @@ use native.Mathlib.Omega.{arith}
 use lib.ListN.{length, getD}
 use Rattle.ground.specs.Put.{laidOn}
 use Rattle.ground.proofs.Grow.{grow-same}
+use Rattle.answers.specs.declared.Ruling.{Ruling}
 use Rattle.answers.specs.declared.Ruling.the-variants.{Fine}
 use Rattle.answers.specs.Rules.{refusal}
-use Rattle.answers.proofs.Rules.{both-fine, not-fine}
+use Rattle.answers.proofs.Rules.{both-fine}
 use Rattle.answers.proofs.Answer.{was-ruled}
 use Rattle.words.specs.Words.{wordsIn, endsIn}
 use Rattle.statements.proofs.Lengths.{numbers-length, defs-length}
@@ -23,12 +24,22 @@ use Rattle.nets.specs.declared.Read.the-variants.{Records, Refused}
 use Rattle.nets.specs.Rules.{netRules}
 use Rattle.nets.proofs.Order.{few-lines}
 use Rattle.texts.specs.Text.{formsIn, defsIn, usesIn, netIn, placeOn, placesIn}
-use Rattle.texts.specs.Owed.{textRules, UsesDone, ReadUsesReady}
+use Rattle.texts.specs.Owed.{textRules, UsesDone, DefsKnown}
+use Rattle.bench.specs.Promise.{recordsIn}
 use Rattle.bench.specs.Owed.{TextDone}
 use Rattle.texts.proofs.Numbers.{size-is, numbers-below, each-number}
 use Rattle.bench.proofs.Says.{rulingOf, ruled}
 
-module _ {t ws es fs defs numbers : List ℕ} {inputs : ℕ} (u : ReadUsesReady t ws es fs inputs defs numbers) {order c c′ : List ℕ} {r : Read}
+-- where something is refused, no place is written
+pub unplaced : {t ws es fs defs numbers : List ℕ} {inputs : ℕ} → DefsKnown t ws es fs inputs defs numbers
+    → {order c c′ p : List ℕ} {r : Read} {number place : ℕ} → UsesDone t order c c′ r → r ≡ Refused number place → TextDone t p p c c′ (Refused number place)
+unplaced {t} u {c = c} {c′} {number = number} {place} o e =
+    let refused : refusal (textRules t (length c)) ≡ Ruling.Refused number place = was-ruled (ruled _) (o .done .answer) (ap rulingOf e) in
+    let same : c′ ≡ c = rw refused at (o .done .memory) in
+    record { answer = rw e at (o .done .answer); memory = rw (refused, same) }
+
+-- where nothing is
+module _ {t ws es fs defs numbers : List ℕ} {inputs : ℕ} (u : DefsKnown t ws es fs inputs defs numbers) {order c c′ : List ℕ} {r : Read}
     (o : UsesDone t order c c′ r) {n : ℕ} (e : r ≡ Records n) where
   fine : refusal (textRules t (length c)) ≡ Fine
   fine = was-ruled (ruled _) (o .done .answer) (ap rulingOf e)
@@ -84,11 +95,7 @@ module _ {t ws es fs defs numbers : List ℕ} {inputs : ℕ} (u : ReadUsesReady 
   places-are = grow-same (λ _. placeBy defs numbers order) (λ _. placeOn t) (length defs) (λ k l. same-place k) ∙ rw defs-long
 
   pub placed : {p p′ : List ℕ} → p′ ≡ laidOn p (placesBy defs numbers order) → TextDone t p p′ c c′ (Records n)
-  placed {p} q = record { done = rw e at (o .done); places = λ _. q ∙ ap (laidOn p) places-are }
-
--- where something is refused, no place is written
-pub unplaced : {t order c c′ p : List ℕ} {r : Read} {number place : ℕ} → UsesDone t order c c′ r → r ≡ Refused number place → TextDone t p p c c′ (Refused number place)
-unplaced {c = c} o e = record {
-  done = rw e at (o .done);
-  places = λ fine. absurd (not-fine (sym fine ∙ was-ruled (ruled _) (o .done .answer) (ap rulingOf e)));
-}
+  placed {p} {p′} q =
+      let lines : p′ ≡ laidOn p (placesIn t) = q ∙ ap (laidOn p) places-are in
+      let records : c′ ≡ laidOn c (recordsIn t) = rw fine at (o .done .memory) in
+      record { answer = rw e at (o .done .answer); memory = rw (fine, lines, records) }

@@ -1,4 +1,4 @@
-// The reader of the bench notation: circuit records of a text. Each step makes tables of it and lends them to the next.
+// The reader of the bench notation: the circuit records of a text, and where the names of their lines begin. Each step makes tables and lends them to the next.
 use answers::Ruling;
 use forms::put_forms;
 use nets::Read;
@@ -13,7 +13,7 @@ ghost use lib.ListN.{length};
 ghost use Rattle.words.specs.Owed.{CutRoom};
 ghost use Rattle.forms.specs.Forms.{gatesIn};
 ghost use Rattle.bench.specs.Promise.{benchRules, Reads};
-ghost use Rattle.texts.specs.Owed.{OrderRoom, ReadDefsReady, ReadLinesReady};
+ghost use Rattle.texts.specs.Owed.{ReadUsesReady, ReadDefsReady, ReadLinesReady};
 ghost use Rattle.bench.specs.Owed.{PlacesDone, TextDone};
 
 // ---- from the text to its tables. A step that needs memory makes it, and lends it to the function of the same name with `_in`
@@ -31,7 +31,7 @@ fn read_placed(
     places: &mut [u16],
     circuit: &mut [u8],
 ) -> Read
-    requires { ⌜ OrderRoom (now text) (now words) (now ends) (now forms) gates (now defs) (now numbers) (now order) ⌝ }
+    requires { ⌜ ReadUsesReady (now text) (now words) (now ends) (now forms) gates (now defs) (now numbers) (now order) ⌝ }
     requires { ⌜ length (now places) ≡ 2048 ⌝ }
     ensures { λ r. ⌜ TextDone (now (text .entry)) (now (places .entry)) (now (places .exit)) (now (circuit .entry)) (now (circuit .exit)) r ⌝ }
 {

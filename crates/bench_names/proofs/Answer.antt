@@ -14,7 +14,7 @@ use Rattle.answers.specs.Answer.{answered}
 use Rattle.answers.specs.Owed.{RulesDone}
 use Rattle.answers.specs.Rules.{refusal}
 use Rattle.answers.proofs.Rules.{both-fine}
-use Rattle.answers.proofs.Answer.{numbers-told, was-ruled, first-refused, first-fine}
+use Rattle.answers.proofs.Answer.{numbers-told, was-ruled, first-refused, first-fine, memory-part}
 use Rattle.circuit.specs.Record.{linesOf}
 use Rattle.records.specs.Net.{netSize}
 use Rattle.netlist.proofs.Fields.{net-lines}
@@ -28,11 +28,11 @@ use Rattle.texts.specs.Text.{defsIn, usesIn, netIn, placeOn, placesIn}
 use Rattle.bench.specs.Promise.{benchRules, recordsIn, readNumbers}
 use Rattle.bench.specs.Owed.{PlacesDone}
 use Rattle.bench.proofs.Says.{rulingOf, ruled}
-use Rattle.bench_names.specs.Promise.{placeCountRules, placeRules, namesOf, TellsNames}
+use Rattle.bench_names.specs.Promise.{placeCountRules, placeRules, namesAnswer, TellsNames}
 use Rattle.bench_names.specs.Owed.{HandOverDone}
 
 names-done : {t p p′ : List ℕ} {r : Read} → RulesDone Refused (placeRules t (length p)) (Records (linesOf (recordsIn t))) p (laidOn p (placesIn t)) r p′ → TellsNames t p p′ r
-unfolding namesOf readNumbers
+unfolding namesAnswer readNumbers
 names-done {t} {p} d = record {
   answer = d .answer;
   numbers = ap readNumbers (d .answer) ∙ numbers-told readNumbers (λ x y. refl) (refusal (placeRules t (length p))) _;
@@ -43,7 +43,7 @@ names-done {t} {p} d = record {
 
 module _ {t f f′ c c′ : List ℕ} {v : Read} (size : length c ≡ bufferBytes) (d : PlacesDone (benchRules t (length c)) t f f′ c c′ v) where
   answer-is : v ≡ answered Refused (refusal (benchRules t bufferBytes)) (Records (linesOf (recordsIn t)))
-  answer-is = d .done .answer ∙ ap (λ (n : ℕ). answered Refused (refusal (benchRules t n)) (Records (linesOf (recordsIn t)))) size
+  answer-is = d .answer ∙ ap (λ (n : ℕ). answered Refused (refusal (benchRules t n)) (Records (linesOf (recordsIn t)))) size
 
   -- it refuses
   pub names-refused : {p : List ℕ} {number place : ℕ} → v ≡ Refused number place → TellsNames t p p (Refused number place)
@@ -71,7 +71,8 @@ module _ {t f f′ c c′ : List ℕ} {v : Read} (size : length c ≡ bufferByte
 
     found-is : take n f′ ≡ placesIn t
     found-is =
-        let laid = d .places (ap (λ (m : ℕ). refusal (benchRules t m)) size ∙ fine) in
+        let ruling = ap (λ (m : ℕ). refusal (benchRules t m)) size ∙ fine in
+        let laid : f′ ≡ laidOn f (placesIn t) = rw ruling at (memory-part (λ (lent : List ℕ × List ℕ). lent .0) d) in
         ap (take n) laid ∙ take-at (placesIn t) (drop (length (placesIn t)) f) n (places-long ∙ sym count-is)
 
     pub found-few : length (take n f′) ≤ 2048

@@ -1,11 +1,10 @@
 -- The last of the rules: the places' size, or the places in them.
 -- Assumes nothing.
-use mathlib.Core.Path.{_≡_, ap, _∙_}
+use mathlib.Core.Path.{_≡_, ap}
 use mathlib.Core.List.{List}
 use Prim.Native.Nat.{ℕ, _≤_}
 use native.Mathlib.Omega.{arith}
-use lib.ListN.{length, take}
-use lib.Seq.{length-sets}
+use lib.ListN.{length}
 use borrow.Author.Tests.{eq-eqb, ne-eqb}
 use Rattle.ground.proofs.Put.{Partly, partly-all, put-whole}
 use Rattle.answers.specs.declared.Ruling.the-variants.{Refused}
@@ -19,11 +18,7 @@ pub other-count : {room : ℕ} → (room ≡ 2048 → ⊥) → refusal (placeCou
 unfolding placeCountRules refusal said
 other-count {room} n = rw (ne-eqb room 2048 n)
 
-module _ {found p p′ : List ℕ} {k : ℕ} (s : Partly found p 0 p′ k) where
-  pub same-room : length p′ ≡ length p
-  same-room = ap length (s .first) ∙ length-sets p 0 (take k found)
-
-  pub all-over : length p ≡ 2048 → length found ≤ 2048 → length found ≤ k → HandOverDone found p p′ (Records k)
-  unfolding placeCountRules refusal said
-  all-over e few l =
-      fine-done (rw (eq-eqb (length p) 2048 e)) (ap Records (omega (arith, s .at-most))) (put-whole (partly-all s l) (omega arith))
+pub all-over : {found p p′ : List ℕ} {k : ℕ} → Partly found p 0 p′ k → length p ≡ 2048 → length found ≤ 2048 → length found ≤ k → HandOverDone found p p′ (Records k)
+unfolding placeCountRules refusal said
+all-over {p = p} s e few l =
+    fine-done (rw (eq-eqb (length p) 2048 e)) (ap Records (omega (arith, s .at-most))) (put-whole (partly-all s l) (omega arith))

@@ -13,7 +13,7 @@ use Rattle.nets.specs.declared.Read.the-variants.{Refused}
 use Rattle.nets.specs.Rules.{bufferBytes}
 use Rattle.bench.specs.Promise.{benchRules}
 use Rattle.bench.proofs.Says.{bench-says, ruled}
-use Rattle.bench_names.specs.Promise.{placeCountRules, placeRules, namesOf, TellsNames}
+use Rattle.bench_names.specs.Promise.{placeCountRules, placeRules, namesAnswer, TellsNames}
 
 room-says : (room : ℕ) → AllSay (placeCountRules room)
 unfolding placeCountRules AllSay
@@ -24,9 +24,9 @@ place-says t room = both-say (benchRules t bufferBytes) _ (bench-says t bufferBy
 
 module _ {t p p′ : List ℕ} {r : Read} (n : TellsNames t p p′ r) (number place : ℕ) where
   pub refused-applies : r ≡ Refused number place → Applies (placeRules t (length p)) number place
-  unfolding namesOf
+  unfolding namesAnswer
   refused-applies = answer.refused-applies (ruled _) (placeRules t (length p)) (place-says t (length p)) (n .answer) number place
 
   pub applies-refused : Applies (placeRules t (length p)) number place → r ≡ Refused number place
-  unfolding namesOf
+  unfolding namesAnswer
   applies-refused = answer.applies-refused (ruled _) (placeRules t (length p)) (place-says t (length p)) (n .answer) number place

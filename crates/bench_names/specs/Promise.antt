@@ -28,11 +28,11 @@ abbrev pub placeRules : List ℕ → ℕ → List Rule
 placeRules t room = benchRules t bufferBytes ++ placeCountRules room
 
 -- the number of records where all is fine
-unfoldable pub namesOf : List ℕ → ℕ → Read
-namesOf t room = answered Refused (refusal (placeRules t room)) (Records (linesOf (recordsIn t)))
+unfoldable pub namesAnswer : List ℕ → ℕ → Read
+namesAnswer t room = answered Refused (refusal (placeRules t room)) (Records (linesOf (recordsIn t)))
 
 -- the promise, whatever the text and the places: the answer's case, its number and values, and every place; a refusal writes nothing
 pub record TellsNames (t p p′ : List ℕ) (r : Read) : Type 0 where
-  pub answer : r ≡ namesOf t (length p)
+  pub answer : r ≡ namesAnswer t (length p)
   pub numbers : readNumbers r ≡ told (refusal (placeRules t (length p))) (success (linesOf (recordsIn t)) 0 0)
   pub places : p′ ≡ unless (refusal (placeRules t (length p))) p (laidOn p (placesIn t))

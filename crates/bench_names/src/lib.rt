@@ -25,7 +25,7 @@ fn hand_over(found: &[u16], places: &mut [u32]) -> Read
 }
 
 // In memory for the places and for the records, which the reader checks.
-fn names_in(text: &[u8], found: &mut [u16], circuit: &mut [u8], places: &mut [u32]) -> Read
+fn bench_names_in(text: &[u8], found: &mut [u16], circuit: &mut [u8], places: &mut [u32]) -> Read
     requires { ⌜ (length (now found) ≡ 2048) × (length (now circuit) ≡ 16384) ⌝ }
     ensures { λ r. ⌜ TellsNames (now (text .entry)) (now (places .entry)) (now (places .exit)) r ⌝ }
 {
@@ -42,5 +42,5 @@ pub fn bench_names(text: &[u8], places: &mut [u32]) -> Read
 {
     let mut found = [0u16; 2048];
     let mut circuit = [0u8; 16384];
-    names_in(text, &mut found, &mut circuit, places)
+    bench_names_in(text, &mut found, &mut circuit, places)
 }

@@ -11,7 +11,7 @@ use lib.ListN.{length, getD, take, drop, take-append-drop}
 use lib.Seq.{take-all}
 use borrow.Author.Tests.{eq-eqb}
 use Rattle.ground.specs.Lists.{elem, indexIn}
-use Rattle.ground.proofs.Lists.{index-in}
+use Rattle.ground.proofs.Lists.{At, index-in}
 
 pub elem-at : (l : List ℕ) (k : ℕ) → k < length l → elem l (getD l k 0) ≡ true
 unfolding elem
@@ -19,11 +19,12 @@ elem-at [] k h = absurd (not-suc-le-zero h)
 elem-at (y ∷ l) zero h = rw (eq-eqb y y refl)
 elem-at (y ∷ l) (suc k) h = rw (elem-at l k (le-of-suc-le-suc h), or-true)
 
--- and where
+-- and where first
+pub index-of : (l : List ℕ) (x : ℕ) → elem l x ≡ true → At l (length l) x
+index-of l x e = index-in l (length l) x (ap (λ (m : List ℕ). elem m x) (take-all (length l) l (omega arith)) ∙ e)
+
 pub elem-place : (l : List ℕ) (x : ℕ) → elem l x ≡ true → (k : ℕ) × (k < length l) × (getD l k 0 ≡ x)
-elem-place l x e =
-    let a = index-in l (length l) x (ap (λ (m : List ℕ). elem m x) (take-all (length l) l (omega arith)) ∙ e) in
-    (indexIn l x, a .below, a .is)
+elem-place l x e = let a = index-of l x e in (indexIn l x, a .below, a .is)
 
 pub elem-append : (l m : List ℕ) (x : ℕ) → elem (l ++ m) x ≡ (elem l x || elem m x)
 unfolding elem

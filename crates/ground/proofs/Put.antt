@@ -54,6 +54,9 @@ pub record Partly {A : Type 0} (v w₀ : List A) (at : ℕ) (w : List A) (i : �
   pub first : w ≡ sets w₀ at (take i v)
 
 module _ {A : Type 0} where
+  pub partly-long : {v w₀ w : List A} {at i : ℕ} → Partly v w₀ at w i → length w ≡ length w₀
+  partly-long {v} {w₀} {at = at} {i = i} s = ap length (s .first) ∙ length-sets w₀ at (take i v)
+
   pub partly-none : (v w₀ : List A) (at : ℕ) → Partly v w₀ at w₀ 0
   partly-none v w₀ at = record { at-most = omega arith; first = refl }
 

@@ -5,9 +5,9 @@ use mathlib.Core.List.{List}
 use Prim.Native.Nat.{ℕ, _+_, _<_}
 use native.Mathlib.Omega.{arith}
 use lib.ListN.{length, getD}
-use lib.Seq.{take-all}
-use Rattle.ground.specs.Lists.{elem, indexIn}
-use Rattle.ground.proofs.Lists.{At, index-in}
+use Rattle.ground.specs.Lists.{indexIn}
+use Rattle.ground.proofs.Lists.{At}
+use Rattle.ground.proofs.Elem.{index-of}
 use Rattle.answers.specs.declared.Ruling.the-variants.{Fine}
 use Rattle.answers.specs.Rules.{refusal}
 use Rattle.words.specs.Words.{wordsIn, endsIn}
@@ -19,26 +19,23 @@ use Rattle.records.specs.Net.{netSize, netLine, numberOn}
 use Rattle.netlist.specs.Solved.{Right}
 use Rattle.netlist.proofs.Numbers.{number-inside, line-number}
 use Rattle.texts.specs.Text.{formsIn, defsIn, usesIn, netIn, placeOn}
-use Rattle.texts.proofs.Numbers.{each-number}
+use Rattle.texts.proofs.Numbers.{size-is, each-number}
 use Rattle.equations.specs.Meaning.{nameOn}
 use Rattle.equations.specs.Right.{Line}
 use Rattle.equations.specs.Numbers.{lineFor}
 use Rattle.equations.specs.Computes.{sizeIn}
 use Rattle.equations.proofs.Tables.{NthLine, get, number-get}
-use Rattle.texts.proofs.Numbers.{size-is}
 use Rattle.equations.proofs.Names.{number-of-name}
 use Rattle.equations.proofs.Uses.{def-line}
 
 -- where a number is defined first
 first-definition : (fs : List ℕ) (x : ℕ) → x < inputsIn fs + gatesIn fs → At (defNumbersOf fs) (length (defNumbersOf fs)) x
-first-definition fs x l =
-    let numbers = defNumbersOf fs in
-    index-in numbers (length numbers) x (ap (λ (m : List ℕ). elem m x) (take-all (length numbers) numbers (omega arith)) ∙ each-number fs x l)
+first-definition fs x l = index-of (defNumbersOf fs) x (each-number fs x l)
 
 -- line j of the text defines the name that stands on line k of the records, and the name begins at its place
 pub record NamesLine (t : List ℕ) (k j : ℕ) : Type 0 where
   pub says : Line defines t j
-  pub begins : placeOn t k ≡ definedAt (wordsIn t) (endsIn t) (formsIn t) j
+  pub stands : placeOn t k ≡ definedAt (wordsIn t) (endsIn t) (formsIn t) j
   pub own : lineFor t (nameOn t j) ≡ k
 
 module _ (t : List ℕ) (none : refusal (nameRules t (defsIn t) (usesIn t)) ≡ Fine) (r : Right (netIn t)) (k : ℕ) (l : k < sizeIn t) where
@@ -59,7 +56,7 @@ module _ (t : List ℕ) (none : refusal (nameRules t (defsIn t) (usesIn t)) ≡ 
   unfolding placeOn defsOf lineFor
   names-line = record {
     says = defined-line .line;
-    begins =
+    stands =
         ap (λ (i : ℕ). getD (defsIn t) i 0) (sym (defined-line .before)) ∙ get (defined-line .line) (definedAt (wordsIn t) (endsIn t) (formsIn t));
     own =
         ap (netLine (netIn t)) (number-of-name t none (record { line = defined-line .line; is = refl }) ∙ number-is)

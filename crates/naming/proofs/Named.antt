@@ -19,12 +19,12 @@ use Rattle.simulate.specs.Boolean.{good, truthAt}
 use Rattle.records.specs.Net.{netSize}
 use Rattle.nets.specs.declared.Read.the-variants.{Records, Refused}
 use Rattle.nets.specs.Rules.{bufferBytes}
-use Rattle.words.specs.Words.{wordsIn, endsIn}
+use Rattle.words.specs.Words.{wordAt, wordsIn, endsIn}
 use Rattle.statements.specs.Tables.{definedAt}
 use Rattle.texts.specs.Text.{formsIn, netIn, placeOn, placesIn}
 use Rattle.bench.specs.Promise.{benchRules, recordsIn, Reads}
 use Rattle.bench.proofs.Says.{ruled}
-use Rattle.equations.specs.Meaning.{nameOn, Solves}
+use Rattle.equations.specs.Meaning.{Solves}
 use Rattle.equations.specs.Right.{Defines, NamesRight}
 use Rattle.equations.specs.Numbers.{lineFor}
 use Rattle.equations.specs.Computes.{sizeIn, Computes}
@@ -33,7 +33,7 @@ use Rattle.equations.proofs.Names.{names-right}
 use Rattle.equations.proofs.Parts.{parts}
 use Rattle.equations.proofs.Computes.{parts-right, computes}
 use Rattle.equations.proofs.Read.{lines-are, read-computes}
-use Rattle.bench_names.specs.Promise.{placeRules, namesOf, TellsNames}
+use Rattle.bench_names.specs.Promise.{placeRules, namesAnswer, TellsNames}
 use Rattle.naming.specs.Named.{FollowsText, OwnName}
 use Rattle.naming.proofs.Lines.{NamesLine, names-line}
 
@@ -54,8 +54,8 @@ module _ {t c : List ℕ} (d : Computes t c) (fine : refusal (benchRules t buffe
       record {
         line = _;
         says = n .says;
-        begins = n .begins;
-        own = n .own;
+        stands = n .stands;
+        own = ap (λ (i : ℕ). lineFor t (wordAt t i)) (n .stands) ∙ n .own;
         values = λ q. follows (λ i. getD (goodOf c q (sizeIn t)) i 0) (d .values q .solves) n;
         truths = λ x. follows (truthAt good c x (sizeIn t)) (d .truths x .solves) n;
       }
@@ -63,30 +63,30 @@ module _ {t c : List ℕ} (d : Computes t c) (fine : refusal (benchRules t buffe
 -- ---- a line has one place only: a name is defined once, and two lines have not one name
 
 module _ {t c : List ℕ} (d : Computes t c) (right : NamesRight t) {k a b : ℕ} (m : OwnName t c k a) (n : OwnName t c k b) where
-  defined : {e : ℕ} (o : OwnName t c k e) → Defines t (o .line) (nameOn t (o .line))
-  defined o = record { line = o .says; is = refl }
+  defined : {e : ℕ} (o : OwnName t c k e) → Defines t (o .line) (wordAt t e)
+  defined o = record { line = o .says; is = ap (wordAt t) (sym (o .stands)) }
 
-  same-name : nameOn t (m .line) ≡ nameOn t (n .line)
+  same-name : wordAt t a ≡ wordAt t b
   same-name = d .lines .apart _ _ (m .line, defined m) (n .line, defined n) (m .own ∙ sym (n .own))
 
   same-line : m .line ≡ n .line
-  same-line = right .once (m .line) (n .line) _ (defined m) (record { line = n .says; is = sym same-name })
+  same-line = right .once (m .line) (n .line) _ (defined m) (rw same-name (defined n))
 
   one-place : a ≡ b
-  one-place = m .begins ∙ ap (definedAt (wordsIn t) (endsIn t) (formsIn t)) same-line ∙ sym (n .begins)
+  one-place = m .stands ∙ ap (definedAt (wordsIn t) (endsIn t) (formsIn t)) same-line ∙ sym (n .stands)
 
 -- ---- of what is written
 
 module _ {t p p′ : List ℕ} {n : ℕ} (names : TellsNames t p p′ (Records n)) where
   all-fine : refusal (placeRules t (length p)) ≡ Fine
-  unfolding namesOf
+  unfolding namesAnswer
   all-fine = was-ruled (ruled _) (names .answer) refl
 
   text-fine : refusal (benchRules t bufferBytes) ≡ Fine
   text-fine = both-fine (benchRules t bufferBytes) _ all-fine .0
 
   count-is : n ≡ sizeIn t
-  unfolding namesOf
+  unfolding namesAnswer
   count-is =
       let a = names .answer ∙ ap (λ (v : Ruling). answered Refused v (Records (linesOf (recordsIn t)))) all-fine in
       let m : n ≡ linesOf (recordsIn t) = cc a in

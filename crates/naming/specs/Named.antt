@@ -9,11 +9,11 @@ use Rattle.gates.specs.Gate.{gateOf}
 use Rattle.gates.specs.Boolean.{boolGate}
 use Rattle.simulate.specs.Work.{goodOf}
 use Rattle.simulate.specs.Boolean.{Vector, good, truthAt}
-use Rattle.words.specs.Words.{wordsIn, endsIn}
+use Rattle.words.specs.Words.{wordAt, wordsIn, endsIn}
 use Rattle.forms.specs.Forms.{saysInput, saysGate, defines, inputsTo}
 use Rattle.statements.specs.Tables.{definedAt}
 use Rattle.texts.specs.Text.{formsIn}
-use Rattle.equations.specs.Meaning.{nameOn, kindOn, sourceOn}
+use Rattle.equations.specs.Meaning.{kindOn, sourceOn}
 use Rattle.equations.specs.Right.{Line}
 use Rattle.equations.specs.Numbers.{lineFor}
 use Rattle.equations.specs.Computes.{sizeIn}
@@ -28,9 +28,9 @@ pub record OwnName (t c : List ℕ) (k place : ℕ) : Type 0 where
   -- the line of the text that defines a name there
   pub line : ℕ
   pub says : Line defines t line
-  pub begins : place ≡ definedAt (wordsIn t) (endsIn t) (formsIn t) line
-  -- the name is this line's
-  pub own : lineFor t (nameOn t line) ≡ k
+  pub stands : place ≡ definedAt (wordsIn t) (endsIn t) (formsIn t) line
+  -- the name at that place is this line's
+  pub own : lineFor t (wordAt t place) ≡ k
   -- for every pattern, with three values
   pub values : (p : List ℕ) → FollowsText gateOf t (λ j. getD p j 0) (λ i. getD (goodOf c p (sizeIn t)) i 0) line k
   -- for every complete vector, over Bool

@@ -5,11 +5,11 @@ use mathlib.Core.Logic.{⊎-elim}
 use Prim.Native.Nat.{ℕ, _+_, _-_, _<_}
 use native.Mathlib.Omega.{arith}
 use lib.ListN.{length, getD}
-use lib.Seq.{take-length}
 use borrow.Author.Tests.{lt-ltb, le-ltb}
 use Rattle.ground.specs.Lists.{indexIn}
 use Rattle.ground.proofs.Tests.{either}
-use Rattle.ground.proofs.Lists.{At, index-in}
+use Rattle.ground.proofs.Lists.{At}
+use Rattle.ground.proofs.Elem.{index-of}
 use Rattle.order.proofs.Says.{order-inside, order-index, all-placed, full-order}
 use Rattle.records.specs.Net.{Net, gatesOf, netSize, placedOf, netLine, numberOn}
 use Rattle.records.proofs.Stands.{input-number, gate-number}
@@ -64,8 +64,7 @@ module _ (net : Net) where
     -- a gate's place in the order
     pub place : (g : ℕ) → g < gatesOf net → At (placedOf net) (gatesOf net) g
     place g l =
-        rw order-long at
-        (index-in (placedOf net) (length (placedOf net)) g (rw (take-length (placedOf net)) (all-placed (net .firsts) (net .seconds) (r .placed) g l)))
+        rw order-long at (index-of (placedOf net) g (all-placed (net .firsts) (net .seconds) (r .placed) g l))
 
     -- ---- there and back
 

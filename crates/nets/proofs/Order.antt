@@ -1,4 +1,4 @@
--- What the order of a net and its records ask for, and refusal 1 of one with too many lines.
+-- What the order of a net and its records ask for, what an arranged net comes to, and refusal 1 of one with too many lines.
 -- Assumes nothing.
 use mathlib.Core.Path.{_≡_, sym, ap, _∙_}
 use mathlib.Core.Logic.{⊎-elim}
@@ -43,17 +43,18 @@ fits o few room = record {
 
 -- ---- what an arranged net comes to
 
-module _ {net : Net} (p : ReadNetReady net) {order : List ℕ} {v : Ruling} (q : ArrangeDone (net .firsts) (net .seconds) order v) where
-  in-order : (room : ℕ) → refusal (netRules net room) ≡ Fine → order ≡ placedOf net
-  in-order room e = q .order-is (q .ruling ∙ both-fine (cycleRules (net .firsts) (net .seconds)) _ e .0)
+in-order : (net : Net) {order : List ℕ} {v : Ruling} → ArrangeDone (net .firsts) (net .seconds) order v
+    → (room : ℕ) → refusal (netRules net room) ≡ Fine → order ≡ placedOf net
+in-order net q room e = q .order-is (q .ruling ∙ both-fine (cycleRules (net .firsts) (net .seconds)) _ e .0)
 
+module _ {net : Net} {order : List ℕ} {v : Ruling} (q : ArrangeDone (net .firsts) (net .seconds) order v) where
   -- where some gate can't be placed
   pub unordered : {c : List ℕ} {number place : ℕ} → v ≡ Ruling.Refused number place → NetDone net order c c (Refused number place)
-  unordered e = record { done = first-refused _ _ (sym (q .ruling) ∙ e); order-is = in-order _ }
+  unordered e = record { done = first-refused _ _ (sym (q .ruling) ∙ e); order-is = in-order net q _ }
 
   -- and where all are
   pub read-ordered : {c c′ : List ℕ} {r : Read} → v ≡ Fine → RecordsDone (recordsOf net) c c′ r → NetDone net order c c′ r
-  read-ordered e d = record { done = first-fine _ _ (sym (q .ruling) ∙ e) d; order-is = in-order _ }
+  read-ordered e d = record { done = first-fine _ _ (sym (q .ruling) ∙ e) d; order-is = in-order net q _ }
 
 -- ---- more lines than a circuit may have
 

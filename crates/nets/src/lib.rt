@@ -13,7 +13,7 @@ ghost use Rattle.records.specs.Owed.{netOf, PutRecordsReady};
 ghost use Rattle.nets.specs.Rules.{bufferRules};
 ghost use Rattle.nets.specs.Owed.{ReadDone, RecordsDone, NetDone, NamesDone, LayRoom, ReadOrderReady, ReadNetReady, ReadNamesReady, namedOf};
 
-// What the reader answers.
+// What the reader answers, and the reader of names.
 pub enum Read {
     // how many
     Records(usize),

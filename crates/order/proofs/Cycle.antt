@@ -9,12 +9,12 @@ use native.Mathlib.Decide.{ℕ-discrete}
 use native.Mathlib.Omega.{arith}
 use lib.Dec.{leb}
 use lib.ListN.{length, getD}
-use lib.Seq.{take-length}
 use borrow.Author.Tests.{leb-false}
 use Rattle.ground.specs.Below.{countBelow}
 use Rattle.ground.specs.Lists.{elem, indexIn}
 use Rattle.ground.proofs.Counting.{count-none, count-most}
 use Rattle.ground.proofs.Lists.{At, index-in, elem-other}
+use Rattle.ground.proofs.Elem.{index-of}
 use Rattle.ground.proofs.Tests.{neither}
 use Rattle.answers.specs.Rules.{refusal}
 use Rattle.answers.specs.declared.Ruling.{Ruling}
@@ -42,7 +42,7 @@ module _ {a b p : List ℕ} (o : Order a b p) where
   cycle-left g w = go (elem p g) refl
     where
       go : (t : Bool) → elem p g ≡ t → t ≡ false
-      go true e = absurd (omega (arith, along (index-in p (length p) g (rw (take-length p) e)) w .below))
+      go true e = absurd (omega (arith, along (index-of p g e) w .below))
       go false e = refl
 
 -- ---- a gate that is left over has a source that is left over, and so on, until one comes again

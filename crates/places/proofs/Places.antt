@@ -6,13 +6,11 @@ use mathlib.Core.List.{List}
 use Prim.Native.Nat.{ℕ, _+_, _-_, _≤_, _<_}
 use native.Mathlib.Nat.{zero-add}
 use native.Mathlib.Omega.{arith}
-use lib.ListN.{length, getD, take, set}
-use lib.Seq.{take-all, length-sets}
+use lib.ListN.{length, getD, set}
 use borrow.Author.Tests.{lt-ltb, le-ltb}
-use Rattle.ground.specs.Lists.{elem}
 use Rattle.ground.specs.Put.{laidOn}
 use Rattle.ground.proofs.Tests.{either}
-use Rattle.ground.proofs.Lists.{index-in}
+use Rattle.ground.proofs.Elem.{index-of}
 use Rattle.ground.proofs.Grow.{table-length, table-at}
 use Rattle.ground.proofs.Put.{Partly, partly-more, partly-all, put-whole}
 use Rattle.records.specs.Owed.{NumberLinesReady, NumberLinesDone}
@@ -40,8 +38,7 @@ module _ {defs numbers order places₀ : List ℕ} (p : PutPlacesReady defs numb
   pub def-below : (k : ℕ) → k < length defs → definitionBy defs numbers order k < length defs
   def-below k l =
       let x = numberBy inputs order k in
-      let e = ap (λ (m : List ℕ). elem m x) (take-all (length numbers) numbers (omega arith)) ∙ p .each x (number-below k l) in
-      omega (arith, index-in numbers (length numbers) x e .below, p .paired)
+      omega (arith, index-of numbers x (p .each x (number-below k l)) .below, p .paired)
 
   -- by the memory
   pub def-is : (def : List ℕ) → NumberLinesDone numbers 0 def → (k : ℕ) → k < length defs
@@ -55,9 +52,6 @@ module _ {defs numbers order places₀ : List ℕ} (p : PutPlacesReady defs numb
 
   places-long : length (placesBy defs numbers order) ≡ length defs
   places-long = table-length (placeBy defs numbers order) (length defs)
-
-  pub same-room : {places : List ℕ} {k : ℕ} → PlacesTo places k → length places ≡ length places₀
-  same-room {k = k} s = ap length (s .first) ∙ length-sets places₀ 0 (take k (placesBy defs numbers order))
 
   pub places-more : {places : List ℕ} {k x : ℕ} → PlacesTo places k → k < length defs
       → x ≡ getD defs (definitionBy defs numbers order k) 0 → PlacesTo (set places k x) (k + 1)

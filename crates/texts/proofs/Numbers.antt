@@ -1,4 +1,4 @@
--- The tables of a text, with names: all that the look-up of names asks of them.
+-- The tables of a text, with names: all that the look-up of names asks of them, each number among them, and how many lines the net has.
 -- Assumes nothing.
 use mathlib.Core.Path.{_≡_, refl, sym, _∙_}
 use mathlib.Core.Logic.{⊎-elim}

@@ -17,7 +17,7 @@ use Rattle.statements.proofs.Sizes.{few-defs, few-outs, few-gates}
 use Rattle.nets.specs.declared.Read.{Read}
 use Rattle.nets.specs.Owed.{NamedNet, namedOf, NamesDone, ReadNamesReady}
 use Rattle.texts.specs.Text.{formsIn, defsIn, outsIn, firstsIn, secondsIn, netIn}
-use Rattle.texts.specs.Owed.{UsesDone, namedIn, ReadLinesReady, ReadDefsReady, ReadUsesReady}
+use Rattle.texts.specs.Owed.{UsesDone, namedIn, ReadLinesReady, ReadDefsReady, DefsKnown}
 use Rattle.texts.proofs.Numbers.{named-ready}
 
 -- ---- words, forms
@@ -25,8 +25,8 @@ use Rattle.texts.proofs.Numbers.{named-ready}
 pub lined : {t ws es : List ℕ} {w k : ℕ} → length t ≤ 32768 → CutDone t ws es w k → ReadLinesReady t (take w ws) (take k es)
 lined s c = record { short = s; words-are = c .words-are; ends-are = c .lines-are }
 
-pub few-lines : (k : ℕ) (es : List ℕ) → k ≤ 32769 → length (take k es) ≤ 32769
-few-lines k es l = omega (arith, length-take k es)
+pub few-ends : (k : ℕ) (es : List ℕ) → k ≤ 32769 → length (take k es) ≤ 32769
+few-ends k es l = omega (arith, length-take k es)
 
 pub told : {t ws es fs : List ℕ} {g : ℕ} → ReadLinesReady t ws es → FormsDone t ws es fs g → ReadDefsReady t ws es fs
 told {t} l f = record { lined = l; forms-are = rw (l .words-are, l .ends-are) at (f .forms-are) }
@@ -53,7 +53,7 @@ module _ {t ws es fs : List ℕ} (p : ReadDefsReady t ws es fs) where
     gates-few = rw (g, p .forms-are) (few-gates t short)
 
     pub defined : {defs numbers : List ℕ} {d : ℕ} → DefsDone ws es fs defs numbers d
-        → ReadUsesReady t ws es fs (length (take d defs) - gates) (take d defs) (take d numbers)
+        → DefsKnown t ws es fs (length (take d defs) - gates) (take d defs) (take d numbers)
     defined {defs} {numbers} {d} q =
         let e : take d defs ≡ defsIn t = rw (p .lined .words-are, p .lined .ends-are, p .forms-are) at (q .defs-are) in
         let n = ap length e ∙ defs-length (wordsIn t) (endsIn t) (formsIn t) in
@@ -82,7 +82,7 @@ module _ {t ws es fs : List ℕ} (p : ReadDefsReady t ws es fs) where
   kinds-room r = record { lines = lines; for-kinds = record { few = rw (p .forms-are) (few-gates t short); room = r } }
 
 -- there are no more gates than definitions
-pub some-gates : {t ws es fs : List ℕ} {inputs gates : ℕ} {defs numbers : List ℕ} → ReadUsesReady t ws es fs inputs defs numbers → gates ≡ gatesIn fs → gates ≤ length defs
+pub some-gates : {t ws es fs : List ℕ} {inputs gates : ℕ} {defs numbers : List ℕ} → DefsKnown t ws es fs inputs defs numbers → gates ≡ gatesIn fs → gates ≤ length defs
 some-gates {t} {gates = gates} d g =
     let n = ap length (d .defs-are) ∙ defs-length (wordsIn t) (endsIn t) (formsIn t) in
     let h : gates ≡ gatesIn (formsIn t) = rw (d .told .forms-are) at g in
@@ -90,7 +90,7 @@ some-gates {t} {gates = gates} d g =
 
 -- ---- the tables, with names
 
-module _ {t ws es fs : List ℕ} {inputs : ℕ} {defs numbers : List ℕ} (d : ReadUsesReady t ws es fs inputs defs numbers) {gates : ℕ} (g : gates ≡ gatesIn fs)
+module _ {t ws es fs : List ℕ} {inputs : ℕ} {defs numbers : List ℕ} (d : DefsKnown t ws es fs inputs defs numbers) {gates : ℕ} (g : gates ≡ gatesIn fs)
     (kinds : List ℕ) (k : take (gatesIn fs) kinds ≡ kindsOf t ws es fs) {firsts seconds outs : List ℕ} {u : ℕ} (s : SourcesDone ws es fs firsts seconds) (o : OutsDone ws es fs outs u) where
   abbrev used : NamedNet
   used = namedOf defs numbers inputs (take gates kinds) (take gates firsts) (take gates seconds) (take u outs)

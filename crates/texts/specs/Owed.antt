@@ -38,14 +38,14 @@ pub record ReadDefsReady (t ws es fs : List ℕ) : Type 0 where
   pub lined : ReadLinesReady t ws es
   pub forms-are : fs ≡ formsIn t
 
-pub record ReadUsesReady (t ws es fs : List ℕ) (inputs : ℕ) (defs numbers : List ℕ) : Type 0 where
+pub record DefsKnown (t ws es fs : List ℕ) (inputs : ℕ) (defs numbers : List ℕ) : Type 0 where
   pub told : ReadDefsReady t ws es fs
   pub inputs-are : inputs ≡ inputsIn (formsIn t)
   pub defs-are : defs ≡ defsIn t
   pub numbers-are : numbers ≡ defNumbersOf (formsIn t)
 
 -- and memory for the order of the gates
-pub record OrderRoom (t ws es fs : List ℕ) (gates : ℕ) (defs numbers order : List ℕ) : Type 0 where
-  pub defined : ReadUsesReady t ws es fs (length defs - gates) defs numbers
+pub record ReadUsesReady (t ws es fs : List ℕ) (gates : ℕ) (defs numbers order : List ℕ) : Type 0 where
+  pub defined : DefsKnown t ws es fs (length defs - gates) defs numbers
   pub gates-are : gates ≡ gatesIn fs
   pub for-order : length order ≡ gates

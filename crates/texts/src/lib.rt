@@ -6,7 +6,7 @@ use statements::put_outs;
 use statements::put_sources;
 ghost use mathlib.Core.Path.{_≡_};
 ghost use lib.ListN.{length};
-ghost use Rattle.texts.specs.Owed.{UsesDone, OrderRoom};
+ghost use Rattle.texts.specs.Owed.{UsesDone, ReadUsesReady};
 
 // In memory for these tables.
 fn read_uses_in(
@@ -24,7 +24,7 @@ fn read_uses_in(
     order: &mut [u16],
     circuit: &mut [u8],
 ) -> Read
-    requires { ⌜ OrderRoom (now text) (now words) (now ends) (now forms) gates (now defs) (now numbers) (now order) ⌝ }
+    requires { ⌜ ReadUsesReady (now text) (now words) (now ends) (now forms) gates (now defs) (now numbers) (now order) ⌝ }
     requires { ⌜ (length (now kinds) ≡ 8193) × (length (now firsts) ≡ 8193) × (length (now seconds) ≡ 8193) × (length (now outs) ≡ 8193) ⌝ }
     ensures { λ r. ⌜ UsesDone (now (text .entry)) (now (order .exit)) (now (circuit .entry)) (now (circuit .exit)) r ⌝ }
 {
@@ -46,7 +46,7 @@ fn read_uses_in(
     )
 }
 
-// The kinds of the gates, and the names that are used.
+// The kinds of the gates, and the names that are used; with these the reading goes on to the records.
 pub fn read_uses(
     text: &[u8],
     words: &[u16],
@@ -58,7 +58,7 @@ pub fn read_uses(
     order: &mut [u16],
     circuit: &mut [u8],
 ) -> Read
-    requires { ⌜ OrderRoom (now text) (now words) (now ends) (now forms) gates (now defs) (now numbers) (now order) ⌝ }
+    requires { ⌜ ReadUsesReady (now text) (now words) (now ends) (now forms) gates (now defs) (now numbers) (now order) ⌝ }
     ensures { λ r. ⌜ UsesDone (now (text .entry)) (now (order .exit)) (now (circuit .entry)) (now (circuit .exit)) r ⌝ }
 {
     let mut kinds = [0u8; 8193];

@@ -14,7 +14,7 @@ read-text-requires : tie.Need-read-text-requires
 read-text-requires c κs = filled-length 2048 0
 
 returns : tie.Need-returns
-returns c = reads (c .before .before .before .read-text .ensures .done)
+returns c = reads (c .before .before .before .read-text .ensures)
 
 pub bench-spec : {M : Type 1} → statement M
 bench-spec =

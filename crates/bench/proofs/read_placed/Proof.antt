@@ -15,7 +15,9 @@ put-places-requires c κs =
     places-ready (entry used .pre .0 .defined) (used .read-uses .ensures) (c .before .before .before .v2 .given .1) (entry used .pre .1)
 
 returns : tie.Need-returns
-returns c = unplaced (c .before .before .before .before .before .before .before .read-uses .ensures) (c .before .v .given .1)
+returns c =
+    let used = c .before .before .before .before .before .before .before in
+    unplaced (entry used .pre .0 .defined) (used .read-uses .ensures) (c .before .v .given .1)
 
 returns-2 : tie.Need-returns-2
 returns-2 c =

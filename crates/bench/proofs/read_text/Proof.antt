@@ -1,6 +1,6 @@
 -- `bench::read_text` meets its contract: refusal 14, or what the words say.
 -- Assumes nothing.
-use Rattle.bench.proofs.Answer.{misspelt, spelt}
+use Rattle.answers.proofs.Answer.{first-refused, first-fine}
 use Rattle.syntax.proofs.Says.{right-text}
 use mathlib.Core.Path.{sym, _∙_}
 use borrow.Author.Needs.{needs}
@@ -13,12 +13,12 @@ read-words-requires c κs =
     (right-text _ (sym (at-enum-told .before .before .check-text .ensures) ∙ at-enum-told .enum-told .given .1) .room, at-enum-told .before .before .before .before .before .before .pre)
 
 returns : tie.Need-returns
-returns c = misspelt (sym (c .before .before .before .check-text .ensures) ∙ c .before .v .given .1)
+returns c = first-refused _ _ (sym (c .before .before .before .check-text .ensures) ∙ c .before .v .given .1)
 
 returns-2 : tie.Need-returns-2
 returns-2 c =
     let at-enum-told = c .before .before .before .before .before .before .before in
-    spelt (sym (at-enum-told .before .before .check-text .ensures) ∙ at-enum-told .enum-told .given .1) (c .before .before .before .before .read-words .ensures)
+    first-fine _ _ (sym (at-enum-told .before .before .check-text .ensures) ∙ at-enum-told .enum-told .given .1) (c .before .before .before .before .read-words .ensures)
 
 pub read-text-spec : {M : Type 1} → statement M
 read-text-spec =

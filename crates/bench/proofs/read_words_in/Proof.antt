@@ -1,6 +1,6 @@
 -- `bench::read_words_in` meets its contract: the words and the ends of lines.
 -- Assumes nothing.
-use Rattle.texts.proofs.Steps.{lined, few-lines}
+use Rattle.texts.proofs.Steps.{lined, few-ends}
 use lib.Seq.{length-take-le}
 use mathlib.Core.Path.{sym}
 use native.Mathlib.Omega.{arith}
@@ -26,7 +26,7 @@ read-lines-requires : tie.Need-read-lines-requires
 read-lines-requires c κs =
     let cut = c .before .before .before .before .before .before .before .before in
     let p = entry cut .pre in
-    ((lined (p .0 .short) (cut .cut .ensures), few-lines _ _ (cut .cut .ensures .most-lines)), p .1)
+    ((lined (p .0 .short) (cut .cut .ensures), few-ends _ _ (cut .cut .ensures .most-lines)), p .1)
 
 pub read-words-in-spec : {M : Type 1} → statement M
 read-words-in-spec =

@@ -5,9 +5,9 @@ use native.Mathlib.Nat.{zero-add}
 use native.Mathlib.Omega.{arith}
 use lib.ListN.{length}
 use borrow.Author.Needs.{needs}
-use Rattle.ground.proofs.Put.{Partly, partly-none, partly-more}
+use Rattle.ground.proofs.Put.{Partly, partly-long, partly-none, partly-more}
 use Rattle.answers.proofs.Answer.{refused-done}
-use Rattle.bench_names.proofs.Room.{other-count, same-room, all-over}
+use Rattle.bench_names.proofs.Room.{other-count, all-over}
 use Rattle.bench_names.proofs.hand_over.Statement.{statement}
 use Rattle.bench_names.proofs.hand_over.Tie as tie
 
@@ -21,7 +21,7 @@ returns : tie.Need-returns Inv-loop μ-loop
 returns c = refused-done (other-count (c .if1 .taken))
 
 slice-write-places : tie.Need-slice-write-places Inv-loop μ-loop
-slice-write-places c = let l = c .before .before .before .loop in omega (arith, same-room (l .inv), l .inv .at-most)
+slice-write-places c = let l = c .before .before .before .loop in omega (arith, partly-long (l .inv), l .inv .at-most)
 
 loop-again : tie.Need-loop-again Inv-loop μ-loop
 loop-again c =
@@ -29,7 +29,7 @@ loop-again c =
     rw (zero-add (l .k)) at (partly-more 0 (l .inv) (c .before .before .loop-test .taken) (c .wide16 .ensures .0))
 
 same-length : tie.Need-same-length Inv-loop μ-loop
-same-length c = same-room (c .before .loop .inv)
+same-length c = partly-long (c .before .loop .inv)
 
 returns-2 : tie.Need-returns-2 Inv-loop μ-loop
 returns-2 c = all-over (c .before .loop .inv) (c .before .before .if1 .left) (c .before .before .before .before .before .pre) (c .loop-test .left)

@@ -11,11 +11,11 @@ read-order-requires c κs =
     (c .before .before .before .before .before .before .arrange .ensures) (c .before .before .enum-told .given .1)
 
 returns : tie.Need-returns
-returns c = unordered (c .before .before .before .before .before .before .before .before .before .before .before .before .before .pre .0) (c .before .before .before .before .before .arrange .ensures) (c .before .v .given .1)
+returns c = unordered (c .before .before .before .before .before .arrange .ensures) (c .before .v .given .1)
 
 returns-2 : tie.Need-returns-2
 returns-2 c =
-    read-ordered (c .before .before .before .before .before .before .before .before .before .before .before .before .before .before .before .before .before .pre .0) (c .before .before .before .before .before .before .before .before .before .arrange .ensures)
+    read-ordered (c .before .before .before .before .before .before .before .before .before .arrange .ensures)
     (c .before .before .before .before .before .enum-told .given .1) (c .before .before .read-order .ensures)
 
 pub read-net-spec : {M : Type 1} → statement M

@@ -5,9 +5,9 @@ use Prim.Native.Nat.{ℕ, _-_, _<_}
 use lib.ListN.{length, getD}
 use native.Mathlib.Omega.{arith}
 use borrow.Author.Needs.{needs}
-use Rattle.ground.proofs.Put.{Partly, partly-none}
+use Rattle.ground.proofs.Put.{Partly, partly-none, partly-long}
 use Rattle.places.specs.Owed.{definitionBy, placesBy}
-use Rattle.places.proofs.Places.{number-below, def-below, def-is, same-room, places-more, places-all, number-room}
+use Rattle.places.proofs.Places.{number-below, def-below, def-is, places-more, places-all, number-room}
 use Rattle.places.proofs.put_places_in.Statement.{statement}
 use Rattle.places.proofs.put_places_in.Tie as tie
 
@@ -63,13 +63,13 @@ found-small : tie.Need-mul-places Inv-loop μ-loop
 found-small c = omega (arith, found-below c, start (turn c) .pre .fits .few)
 
 shared-slice-read-places : tie.Need-shared-slice-read-places Inv-loop μ-loop
-shared-slice-read-places c = found-below (c .before)
+shared-slice-read-places c = omega (arith, found-below (c .before))
 
 slice-write-places : tie.Need-slice-write-places Inv-loop μ-loop
 slice-write-places c =
     let here = c .before .before .before .before in
     let p = start here .pre .fits in
-    omega (arith, same-room p (here .before .loop .inv), p .room)
+    omega (arith, partly-long (here .before .loop .inv), p .room)
 
 loop-again : tie.Need-loop-again Inv-loop μ-loop
 loop-again c =
@@ -81,7 +81,7 @@ same-length : tie.Need-same-length Inv-loop μ-loop
 same-length c = c .before .before .before .before .number-lines .kept .1 .1 .0
 
 same-length-2 : tie.Need-same-length-2 Inv-loop μ-loop
-same-length-2 c = same-room (c .before .before .before .before .before .before .before .before .before .before .before .pre .fits) (c .before .loop .inv)
+same-length-2 c = partly-long (c .before .loop .inv)
 
 returns : tie.Need-returns Inv-loop μ-loop
 returns c = places-all (c .before .before .before .before .before .before .before .before .before .before .before .pre .fits) (c .before .loop .inv) (c .loop-test .left)

@@ -1,4 +1,4 @@
--- `bench::read_uses` meets its contract: room for the kinds and the names that are used is lent.
+-- `texts::read_uses` meets its contract: room for the kinds and the names that are used is lent.
 -- Assumes nothing.
 use Rattle.ground.proofs.Filled.{filled-length}
 use mathlib.Core.Path.{sym}

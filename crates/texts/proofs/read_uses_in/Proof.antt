@@ -1,4 +1,4 @@
--- `bench::read_uses_in` meets its contract: the kinds and the names that are used join the names that are defined.
+-- `texts::read_uses_in` meets its contract: the kinds and the names that are used join the names that are defined.
 -- Assumes nothing.
 use Rattle.texts.proofs.Steps.{kinds-room, outs-room, gates-room, gates-few, some-gates, ready, read-used}
 use lib.Seq.{length-take-le}

@@ -1,12 +1,12 @@
--- `bench_names::names_in` meets its contract: a refusal of the reader is handed on, else the places that it found are handed over.
+-- `bench_names::bench_names_in` meets its contract: a refusal of the reader is handed on, else the places that it found are handed over.
 -- Assumes nothing.
 use mathlib.Core.Path.{sym}
 use lib.Seq.{length-take-le}
 use native.Mathlib.Omega.{arith}
 use borrow.Author.Needs.{needs}
 use Rattle.bench_names.proofs.Answer.{names-refused, few, found-few, names-found}
-use Rattle.bench_names.proofs.names_in.Statement.{statement}
-use Rattle.bench_names.proofs.names_in.Tie as tie
+use Rattle.bench_names.proofs.bench_names_in.Statement.{statement}
+use Rattle.bench_names.proofs.bench_names_in.Tie as tie
 
 -- the entry, from the place behind the reader
 abbrev entry : tie.After-read-text → tie.Start
@@ -39,8 +39,8 @@ returns-2 c =
     let read = c .before .before .before .before .before .before .before .before .before .before .before .before in
     names-found (entry read .pre .1) (read .read-text .ensures) (c .before .before .before .before .before .before .v2 .given .1) (c .before .before .hand-over .ensures)
 
-pub names-in-spec : {M : Type 1} → statement M
-names-in-spec =
+pub bench-names-in-spec : {M : Type 1} → statement M
+bench-names-in-spec =
     tie.close
     (tie.spec
     (λ c κs. search needs)
