@@ -29,7 +29,7 @@ fn way(directory: &Directory) -> Option<Command> {
         command.args(&way[1..]).arg(&copy);
         command
     };
-    let works = |way: &&&[&str]| with(way).arg("--version").output().is_ok_and(|output| output.status.success());
+    let works = |way: &&&[&str]| with(way).arg("help").output().is_ok_and(|output| output.status.success());
     let found = WAYS.iter().find(works).map(|way| with(way));
     if found.is_none() {
         println!("ABSENT: neither setpriv nor su lets root be another user, and what such a user may not read was NOT tried");
