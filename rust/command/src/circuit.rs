@@ -21,7 +21,7 @@ pub struct Circuit {
 impl Circuit {
     /// Of a file that is a text or records.
     pub fn load(path: &Path) -> Result<Circuit, Problem> {
-        // one byte above the limit of a text, which is above that of records: what is longer is refused by the same number, whatever follows
+        // one byte above the limit: what is longer, a text or records, is refused by the same number, whatever follows
         let (file, bytes) = (shown(path), files::read(path, MOST_BYTES + 1)?);
         match is_records(&bytes) {
             true => Circuit::of_records(&file, bytes),

@@ -27,7 +27,7 @@ const BEFORE: &str = "\
 ullimaqsu COMMAND ..
 Proved test tools for combinational circuits and single stuck-at faults.
 The library's answers are proved; this command, which reads files and prints
-the answers, is tested.
+answers, is tested.
 ";
 
 const AFTER: &str = "\

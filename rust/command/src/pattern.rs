@@ -15,16 +15,15 @@ impl Pattern {
     /// The pattern that is written so, or the byte of it at which something is wrong, and what.
     pub fn read(word: &str, circuit: &Circuit) -> Result<Pattern, (usize, String)> {
         let letters = || word.char_indices().filter(|(_, letter)| !is_blank(*letter));
-        let one =
-            |(at, letter)| Value::written(letter).map(|value| value as u8).ok_or_else(|| (at, format!("`{letter}` is none of 0, 1 and X")));
-        let values = letters().map(one).collect::<Result<Vec<u8>, _>>()?;
+        let one = |(at, letter)| Value::written(letter).ok_or_else(|| (at, format!("`{letter}` is none of 0, 1 and X")));
+        let values = letters().map(one).collect::<Result<Vec<Value>, _>>()?;
         let inputs = circuit.counts.inputs as usize;
         if values.len() != inputs {
             // the first value too many, or where the next one would stand
             let at = letters().nth(inputs).map_or(word.trim_end_matches(is_blank).len(), |(at, _)| at);
             return Err((at, format!("this pattern has {}, and the circuit has {}", count(values.len(), "value"), count(inputs, "input"))));
         }
-        Ok(Pattern(values))
+        Ok(Pattern(values.into_iter().map(|value| value as u8).collect()))
     }
 
     pub fn letters(&self) -> String {
