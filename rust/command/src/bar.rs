@@ -14,7 +14,7 @@ impl Bar {
         Bar { total, seen: io::stderr().is_terminal() }
     }
 
-    /// So many are done.
+    /// So many are done. It takes the line where the terminal stands: what was printed before has ended its own.
     pub fn show(&self, done: usize) {
         self.put(&drawn(done, self.total));
     }

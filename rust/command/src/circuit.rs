@@ -1,14 +1,12 @@
 //! A circuit, its lines by name.
-use crate::explain::explain;
+use crate::explain::{explain, MOST_BYTES};
 use crate::files;
 use crate::kind::Kind;
+use crate::notation::word_at;
 use crate::problem::{shown, Problem};
 use std::collections::HashMap;
 use std::path::Path;
 use ullimaqsu::{Counts, Refusal, LARGEST_CIRCUIT, MOST_LINES};
-
-/// The most bytes of a text, and one more: what is longer is refused by the same number, whatever follows.
-const MOST: usize = 32_769;
 
 #[derive(Debug)]
 pub struct Circuit {
@@ -23,12 +21,12 @@ pub struct Circuit {
 impl Circuit {
     /// Of a file that is a text or records.
     pub fn load(path: &Path) -> Result<Circuit, Problem> {
-        let (file, bytes) = (shown(path), files::read(path, MOST)?);
-        // a text may have a NUL byte too, in a comment, and is asked first
-        if bytes.contains(&0) && read_text(&bytes).is_err() {
-            return Circuit::of_records(&file, bytes);
+        // one byte above the limit: what is longer, a text or records, is refused by the same number, whatever follows
+        let (file, bytes) = (shown(path), files::read(path, MOST_BYTES + 1)?);
+        match is_records(&bytes) {
+            true => Circuit::of_records(&file, bytes),
+            false => Circuit::of_text(&file, &bytes),
         }
-        Circuit::of_text(&file, &bytes)
     }
 
     /// Of a text in the bench notation.
@@ -95,6 +93,17 @@ impl Circuit {
     }
 }
 
+/// Accepted records begin with a 0: their first line is an input. No right text begins with a byte below 9, which is a tab, while records whose
+/// first kind is a wrong one may.
+fn is_records(bytes: &[u8]) -> bool {
+    bytes.first().is_some_and(|&first| first < b'\t')
+}
+
+/// The numbers of a circuit, as they are printed.
+pub fn counted(counts: &Counts) -> String {
+    format!("lines {}, inputs {}, outputs {}\n", counts.lines, counts.inputs, counts.outputs)
+}
+
 /// The records of a text, and the names of their lines.
 fn read_text(text: &[u8]) -> Result<(Vec<u8>, Vec<String>), Refusal> {
     let mut records = vec![0; LARGEST_CIRCUIT];
@@ -102,10 +111,5 @@ fn read_text(text: &[u8]) -> Result<(Vec<u8>, Vec<String>), Refusal> {
     records.truncate(8 * count);
     let mut places = [0; MOST_LINES];
     ullimaqsu::bench_names(text, &mut places)?;
-    Ok((records, places[..count].iter().map(|&place| name_at(text, place as usize)).collect()))
-}
-
-/// The name that begins here.
-fn name_at(text: &[u8], place: usize) -> String {
-    text[place..].iter().take_while(|byte| byte.is_ascii_alphanumeric() || **byte == b'_').map(|&byte| char::from(byte)).collect()
+    Ok((records, places[..count].iter().map(|&place| word_at(text, place as usize).letters()).collect()))
 }

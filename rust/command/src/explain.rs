@@ -4,9 +4,13 @@
 //! refusal's own words would stand; the tests know no such text.
 mod cycle;
 mod name;
+mod size;
+
+pub use size::too_large;
 
 use crate::notation::{at_place, Spelling, Text};
-use ullimaqsu::{refusals, Refusal};
+use size::thousands;
+use ullimaqsu::Refusal;
 
 /// The most bytes of a text.
 pub const MOST_BYTES: usize = 32_768;
@@ -17,7 +21,7 @@ pub const CYCLE: u32 = 16;
 
 pub fn explain(text: &[u8], refusal: &Refusal) -> String {
     if refusal.number == SYNTAX && refusal.place == MOST_BYTES as u64 && text.len() > MOST_BYTES {
-        return at_place(text, MOST_BYTES, "a text has at most 32,768 bytes, and this one goes on");
+        return at_place(text, MOST_BYTES, &format!("a text has at most {} bytes, and this one goes on", thousands(MOST_BYTES)));
     }
     match Text::read(text, Spelling::Strict) {
         Ok(read) => explain_statements(&read, refusal),
@@ -32,15 +36,7 @@ pub fn explain_statements(text: &Text, refusal: &Refusal) -> String {
     let says = match refusal.number {
         NAME => name::explain(text, place),
         CYCLE => cycle::explain(text, place),
-        _ => records(text, refusal.number),
+        number => size::explain(text, number),
     };
     says.unwrap_or_else(|| refusal.to_string())
-}
-
-/// Refusals 1, 4 and 5 on the records: the header's words, and how many inputs and gates there are.
-fn records(text: &Text, number: u32) -> Option<String> {
-    let meaning = refusals().find(|meaning| meaning.number == number && meaning.counts.is_none())?;
-    let gates = text.gates().count();
-    let inputs = text.definitions().count() - gates;
-    Some(format!("{} (inputs in the text: {inputs}, gates: {gates})", meaning.says))
 }

@@ -16,7 +16,8 @@ pub fn read(path: &Path, most: usize) -> Result<Vec<u8>, Problem> {
     Ok(bytes)
 }
 
-fn unreadable(path: &Path, error: io::Error) -> Problem {
+/// What opening or reading has met.
+pub fn unreadable(path: &Path, error: io::Error) -> Problem {
     Problem::Stopped(match error.kind() {
         ErrorKind::NotFound => format!("there is no file {}", shown(path)),
         _ => format!("{} can't be read: {}", shown(path), why(&error)),

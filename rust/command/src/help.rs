@@ -26,6 +26,8 @@ pub fn all(commands: &[&Command]) -> String {
 const BEFORE: &str = "\
 ullimaqsu COMMAND ..
 Proved test tools for combinational circuits and single stuck-at faults.
+The library's answers are proved; this command, which reads files and prints
+answers, is tested.
 ";
 
 const AFTER: &str = "\

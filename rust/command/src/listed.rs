@@ -1,6 +1,7 @@
 //! Faults and patterns with their whole table, as compaction and audit take them.
 use crate::circuit::Circuit;
 use crate::commands::Command;
+use crate::entry::Entry;
 use crate::fault::{self, Fault};
 use crate::form::count;
 use crate::pattern::{self, Pattern};
@@ -28,19 +29,24 @@ impl Listed {
         Ok(Listed { circuit, faults, patterns, table })
     }
 
-    /// The entries of a pattern.
-    fn row(&self, pattern: usize) -> &[u8] {
-        &self.table[pattern * self.faults.len()..][..self.faults.len()]
+    fn entry(&self, pattern: usize, fault: usize) -> Entry {
+        Entry::of(self.table[pattern * self.faults.len() + fault])
     }
 
-    /// The first pattern whose entries are so.
-    pub fn first(&self, so: impl Fn(&[u8]) -> bool) -> Option<usize> {
-        (0..self.patterns.len()).find(|&pattern| so(self.row(pattern)))
+    /// The first pattern that fails a fault.
+    pub fn failed_by(&self, fault: usize) -> Option<usize> {
+        (0..self.patterns.len()).find(|&pattern| self.entry(pattern, fault) == Entry::Fail)
+    }
+
+    /// The first pattern that tells two faults apart: it fails one and passes the other.
+    pub fn told_apart_by(&self, pair: [usize; 2]) -> Option<usize> {
+        let entries = |pattern| pair.map(|fault| self.entry(pattern, fault));
+        (0..self.patterns.len()).find(|&pattern| matches!(entries(pattern), [Entry::Fail, Entry::Pass] | [Entry::Pass, Entry::Fail]))
     }
 
     /// How many faults some pattern fails.
     pub fn detected(&self) -> usize {
-        (0..self.faults.len()).filter(|&fault| self.first(|row| row[fault] == 1).is_some()).count()
+        (0..self.faults.len()).filter(|&fault| self.failed_by(fault).is_some()).count()
     }
 }
 

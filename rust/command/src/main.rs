@@ -1,13 +1,15 @@
 //! `ullimaqsu`: the proved test tools as commands, by the names of a circuit's text.
 //!
-//! A command reads its files, calls the library and prints. All that is answered of a circuit is the library's answer; what is made here is
-//! words, tables and pictures of it.
+//! A command reads its files, calls the library and prints. What the library answers is proved; this program is tested. Made here, besides words,
+//! tables and pictures of the library's answers, are the choice of `faults --collapse`, the texts of `narrow`, the numbers of detected faults, and
+//! the pattern that `audit` names for a lost fault or pair.
 mod bar;
 mod circuit;
 mod collapse;
 mod columns;
 mod commands;
 mod drawing;
+mod entry;
 mod explain;
 mod fault;
 mod files;
@@ -27,6 +29,7 @@ mod problem;
 mod replace;
 mod simulation;
 mod table;
+mod value;
 mod words;
 
 use out::Out;

@@ -11,25 +11,22 @@ mod edit;
 mod fresh;
 mod tree;
 
-use crate::explain::{explain_statements, CYCLE, MOST_BYTES, NAME};
+use crate::explain::{explain_statements, too_large, CYCLE, MOST_BYTES, NAME};
 use crate::notation::{at_place, Gate, Spelling, Text};
 use edit::{Edit, Edited};
 use fresh::Fresh;
-use ullimaqsu::{Refusal, LARGEST_CIRCUIT};
-
-/// The most lines of a circuit.
-const MOST_LINES: usize = LARGEST_CIRCUIT / 8;
+use ullimaqsu::{Refusal, LARGEST_CIRCUIT, MOST_LINES};
 
 /// The text with gates of two sources, which the library accepts; or what is wrong, in words.
 pub fn narrowed(text: &[u8]) -> Result<Vec<u8>, String> {
     let text = Text::read(text, Spelling::Wide).map_err(|stuck| at_place(text, stuck.at, &stuck.says))?;
     let lines = text.definitions().count() + text.gates().map(made_for).sum::<usize>();
     if lines > MOST_LINES {
-        return Err(too_large("circuit", lines, "lines", MOST_LINES));
+        return Err(too_large_narrow("circuit", lines, "lines", MOST_LINES));
     }
     let narrow = rewritten(&text);
     if narrow.bytes.len() > MOST_BYTES {
-        return Err(too_large("text", narrow.bytes.len(), "bytes", MOST_BYTES));
+        return Err(too_large_narrow("text", narrow.bytes.len(), "bytes", MOST_BYTES));
     }
     match ullimaqsu::bench(&narrow.bytes, &mut [0; LARGEST_CIRCUIT]) {
         Ok(_) => Ok(narrow.bytes),
@@ -37,16 +34,8 @@ pub fn narrowed(text: &[u8]) -> Result<Vec<u8>, String> {
     }
 }
 
-fn too_large(what: &str, count: usize, of: &str, most: usize) -> String {
-    format!("with gates of two sources this {what} has {} {of}, and a {what} has at most {}", thousands(count), thousands(most))
-}
-
-/// A number as people read it.
-fn thousands(number: usize) -> String {
-    match number {
-        0..1000 => number.to_string(),
-        _ => format!("{},{:03}", thousands(number / 1000), number % 1000),
-    }
+fn too_large_narrow(what: &str, count: usize, of: &str, most: usize) -> String {
+    format!("with gates of two sources {}", too_large(what, count, of, most))
 }
 
 fn rewritten(text: &Text) -> Edited {

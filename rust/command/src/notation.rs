@@ -35,12 +35,17 @@ impl Word<'_> {
     pub fn end(&self) -> usize {
         self.at + self.name.len()
     }
+
+    /// It has letters, digits and underscores alone.
+    pub fn letters(&self) -> String {
+        String::from_utf8_lossy(self.name).into_owned()
+    }
 }
 
-/// As it is quoted. It has letters, digits and underscores alone.
+/// As it is quoted.
 impl fmt::Display for Word<'_> {
     fn fmt(&self, f: &mut fmt::Formatter) -> fmt::Result {
-        write!(f, "`{}`", String::from_utf8_lossy(self.name))
+        write!(f, "`{}`", self.letters())
     }
 }
 

@@ -3,11 +3,9 @@ use crate::circuit::Circuit;
 use crate::form::count;
 use crate::lists::{self, is_blank, lines, place};
 use crate::problem::Problem;
+use crate::value::Value;
 use std::path::Path;
 use ullimaqsu::Refusal;
-
-/// The letters of 0, 1 and 2.
-const LETTERS: [char; 3] = ['0', '1', 'X'];
 
 /// 0, 1, or 2 for X, one for each input in line order.
 #[derive(Clone, PartialEq, Eq, Debug)]
@@ -17,24 +15,20 @@ impl Pattern {
     /// The pattern that is written so, or the byte of it at which something is wrong, and what.
     pub fn read(word: &str, circuit: &Circuit) -> Result<Pattern, (usize, String)> {
         let letters = || word.char_indices().filter(|(_, letter)| !is_blank(*letter));
-        let one = |(at, letter)| value(letter).ok_or_else(|| (at, format!("`{letter}` is none of 0, 1 and X")));
-        let values = letters().map(one).collect::<Result<Vec<u8>, _>>()?;
+        let one = |(at, letter)| Value::written(letter).ok_or_else(|| (at, format!("`{letter}` is none of 0, 1 and X")));
+        let values = letters().map(one).collect::<Result<Vec<Value>, _>>()?;
         let inputs = circuit.counts.inputs as usize;
         if values.len() != inputs {
             // the first value too many, or where the next one would stand
             let at = letters().nth(inputs).map_or(word.trim_end_matches(is_blank).len(), |(at, _)| at);
             return Err((at, format!("this pattern has {}, and the circuit has {}", count(values.len(), "value"), count(inputs, "input"))));
         }
-        Ok(Pattern(values))
+        Ok(Pattern(values.into_iter().map(|value| value as u8).collect()))
     }
 
     pub fn letters(&self) -> String {
-        self.0.iter().map(|&value| LETTERS[usize::from(value)]).collect()
+        self.0.iter().map(|&value| Value::of(value).letter()).collect()
     }
-}
-
-fn value(letter: char) -> Option<u8> {
-    (0..).zip(LETTERS).find(|(_, of)| *of == letter.to_ascii_uppercase()).map(|(value, _)| value)
 }
 
 /// The patterns of a file.

@@ -1,34 +1,9 @@
 //! The values of all lines under one pattern, good and with a fault: the library's.
 use crate::circuit::Circuit;
+use crate::entry::Entry;
 use crate::fault::Fault;
 use crate::pattern::Pattern;
-
-/// A value of a line: 0, 1 or X.
-#[derive(Clone, Copy, PartialEq, Eq, Debug)]
-pub enum Value {
-    Zero,
-    One,
-    X,
-}
-
-impl Value {
-    /// Of the library's byte.
-    fn of(byte: u8) -> Value {
-        match byte {
-            0 => Value::Zero,
-            1 => Value::One,
-            _ => Value::X,
-        }
-    }
-
-    pub fn letter(self) -> char {
-        match self {
-            Value::Zero => '0',
-            Value::One => '1',
-            Value::X => 'X',
-        }
-    }
-}
+use crate::value::Value;
 
 /// How the good and the faulty value of a line stand to each other.
 #[derive(Clone, Copy, PartialEq, Eq, Debug)]
@@ -47,33 +22,6 @@ impl Difference {
             Difference::None => "",
             Difference::Sure => "*",
             Difference::Perhaps => "?",
-        }
-    }
-}
-
-/// What the dictionary has for a pattern and a fault.
-#[derive(Clone, Copy, PartialEq, Eq, Debug)]
-pub enum Entry {
-    Pass,
-    Fail,
-    Unknown,
-}
-
-impl Entry {
-    /// Of the library's byte.
-    fn of(byte: u8) -> Entry {
-        match byte {
-            0 => Entry::Pass,
-            1 => Entry::Fail,
-            _ => Entry::Unknown,
-        }
-    }
-
-    pub fn letter(self) -> char {
-        match self {
-            Entry::Pass => 'P',
-            Entry::Fail => 'F',
-            Entry::Unknown => 'U',
         }
     }
 }

@@ -1,5 +1,6 @@
 //! The dictionary of any number of faults and patterns, by pieces that the library takes: no entry depends on another.
 use crate::circuit::Circuit;
+use crate::entry::Entry;
 use crate::fault::{self, Fault};
 use crate::pattern::Pattern;
 
@@ -8,15 +9,6 @@ pub const MOST: usize = 256;
 
 /// The most letters that are held at once.
 const MOST_LETTERS: usize = 64 << 20;
-
-/// The letter of an entry.
-pub fn letter(entry: u8) -> char {
-    match entry {
-        0 => 'P',
-        1 => 'F',
-        _ => 'U',
-    }
-}
 
 /// The library's table of at most 256 faults and 256 patterns: a row for each pattern, and in it an entry for each fault.
 pub fn entries(circuit: &Circuit, faults: &[Fault], patterns: &[Pattern]) -> Vec<u8> {
@@ -38,7 +30,7 @@ pub fn rows(circuit: &Circuit, piece: &[Fault], patterns: &[Pattern]) -> Vec<Str
     let mut rows = vec![String::with_capacity(patterns.len()); piece.len()];
     for some in patterns.chunks(MOST) {
         for entries in entries(circuit, piece, some).chunks_exact(piece.len()) {
-            rows.iter_mut().zip(entries).for_each(|(row, &entry)| row.push(letter(entry)));
+            rows.iter_mut().zip(entries).for_each(|(row, &entry)| row.push(Entry::of(entry).letter()));
         }
     }
     rows

@@ -74,7 +74,7 @@ fn check_syntax(text: &[u8], place: usize, words: &str) {
 fn hint_at(before: &[u8], found: Option<u8>, listed: &[u8]) -> &'static str {
     let second = before.iter().rev().find(|&&byte| byte == b'(' || byte == b',') == Some(&b',');
     match (listed, found) {
-        (b")", Some(b',')) if second => "`./ullimaqsu narrow` rewrites gates of three and more sources",
+        (b")", Some(b',')) if second => "`ullimaqsu narrow` rewrites gates of three and more sources",
         (b"=", Some(b'(')) => "only INPUT and OUTPUT, in capitals, are followed by `(`",
         _ => "",
     }
@@ -122,11 +122,18 @@ fn check_cycle(text: &[u8], gate: usize, words: &str) {
     assert!(itself || depends_on.contains(&names[0]), "{words}");
 }
 
-/// Refusals 1, 4 and 5 on the records: the header's words, and how many inputs and gates there are.
-fn check_records(text: &[u8], number: u32, words: &str) {
+/// Refusals 1, 4 and 5: what the text lacks, or has too much of.
+fn check_size(text: &[u8], number: u32, words: &str) {
     let Text { inputs, equations, .. } = Text::read(text).expect("right in syntax");
-    let meaning = ullimaqsu::refusals().find(|meaning| meaning.number == number).expect("named");
-    assert_eq!(words, format!("{} (inputs in the text: {}, gates: {})", meaning.says, inputs.len(), equations.len()));
+    let lines = inputs.len() + equations.len();
+    let says = match number {
+        1 if lines == 0 => "there is no INPUT and no gate in this text".to_string(),
+        1 => format!("this circuit has {},{:03} inputs and gates, and a circuit has at most 2,048", lines / 1000, lines % 1000),
+        4 => format!("this circuit has {} inputs, and a circuit has at most 64", inputs.len()),
+        5 => "there is no OUTPUT in this text".to_string(),
+        other => panic!("refusal {other} is none of a text"),
+    };
+    assert_eq!(words, says);
 }
 
 /// Runs the reader on a text where records stand already, and holds all that it does to the second program. The number of the refusal.
@@ -161,7 +168,7 @@ fn check(directory: &Directory, bytes: &[u8]) -> u32 {
                 14 => check_syntax(bytes, at, words),
                 15 => check_name(bytes, at, words),
                 16 => check_cycle(bytes, at, words),
-                _ => check_records(bytes, number, words),
+                _ => check_size(bytes, number, words),
             }
             number
         }
@@ -216,7 +223,7 @@ fn wide_gates() {
     let words = |statement: &str| words(&directory, format!("INPUT(a)\nOUTPUT(a)\n{statement}").as_bytes());
     for kind in ["AND", "NAND", "OR", "NOR", "XOR", "XNOR"] {
         let says = format!("after the second of the two sources of `{kind}` there must be `)`, and here is `,`");
-        assert_eq!(words(&format!("y={kind}(a,a ,a)")), format!("{says}; `./ullimaqsu narrow` rewrites gates of three and more sources"));
+        assert_eq!(words(&format!("y={kind}(a,a ,a)")), format!("{says}; `ullimaqsu narrow` rewrites gates of three and more sources"));
         assert_eq!(words(&format!("y={kind}(a,a=")), says.replace("`,`", "`=`"));
     }
     for other in ["y=NOT(a,a)", "y=BUFF(a,a,a)", "INPUT(a,a,a)", "y=and(a,a,a)", "y=AND(a,,a)", "y=AND(a,a),"] {

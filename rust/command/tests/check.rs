@@ -1,5 +1,7 @@
 //! `ullimaqsu check`, and every file that may be given as a circuit.
 mod harness;
+#[path = "harness/other_user.rs"]
+mod other_user;
 
 use cases::circuits::{self, record, BUFFER, INPUT};
 use cases::{damage, drawn, texts, Directory, Random};
@@ -40,9 +42,10 @@ fn accepted_or_not() {
     let (mut accepted, mut refused) = (0, 0);
     let mut compare = |bytes: &[u8]| {
         let path = directory.write("circuit", bytes);
-        let right = second::bench(bytes, 16_384).and_then(|records| second::Circuit::read(&records));
-        // what is no text is taken as records where it has a NUL byte
-        let right = if bytes.contains(&0) { right.or_else(|_| second::Circuit::read(bytes)) } else { right };
+        let right = match bytes.first() {
+            Some(0..9) => second::Circuit::read(bytes),
+            _ => second::bench(bytes, 16_384).and_then(|records| second::Circuit::read(&records)),
+        };
         match (check(&path), right) {
             (said, Ok(circuit)) => {
                 accepted += 1;
@@ -104,6 +107,25 @@ fn sizes() {
     assert_eq!(check(&text), refused(&format!("{}: {says}", text.display())));
 }
 
+/// The first byte alone decides: a text stays one with whatever byte in it, and records with whatever kind of their first line.
+#[test]
+fn a_text_or_records() {
+    let directory = Directory::new("told");
+    let check = |bytes: &[u8]| {
+        let path = directory.write("circuit", bytes);
+        (check(&path), path.display().to_string())
+    };
+    let (said, path) = check(b"INPUT(a)\nOUTPUT(y)\ny=NOT(\0a)\n");
+    assert_eq!(said, refused(&format!("{path}: line 3, column 7 (byte 25): after `(` there must be a name, and here is byte 0")));
+    assert_eq!(check(b"INPUT(a) # \0\x08\nOUTPUT(a)").0, fine("lines 1, inputs 1, outputs 1\n".to_string()));
+    assert_eq!(check(&[0, 1, 0, 0, 0, 0, 0, 0]).0, fine("lines 1, inputs 1, outputs 1\n".to_string()));
+    for first in 1..=255 {
+        let ((status, _, said), _) = check(&[first, 1, 0, 0, 0, 0, 0, 0]);
+        let as_records = said.ends_with(": refusal 2: line 0, first source (byte 2): 0 is not lower than the line\n");
+        assert_eq!((status, as_records), (Some(1), first < 9), "{said}");
+    }
+}
+
 /// What is wrong with records, in the words of the header.
 #[test]
 fn wrong_records() {
@@ -116,7 +138,7 @@ fn wrong_records() {
     };
     let cases = [
         (one[..15].to_vec(), "refusal 1: the circuit is not a multiple of 8 bytes, empty, or above 2,048 records"),
-        (with(0, 9), "refusal 2: line 0, kind (byte 0): 9 is no kind"),
+        (with(0, 8), "refusal 2: line 0, first source (byte 2): 0 is not lower than the line"),
         (with(8, 9), "refusal 2: line 1, kind (byte 8): 9 is no kind"),
         (with(9, 2), "refusal 2: line 1, output (byte 9): 2 is neither 0 nor 1"),
         (with(11, 1), "refusal 2: line 1, first source (byte 10): 256 is not lower than the line"),
@@ -139,12 +161,11 @@ fn files_that_can_not_be_read() {
     let below = directory.write("file", "").join("below");
     assert_eq!(check(&below), stopped(&format!("{} can't be read: Not a directory", below.display())));
     assert_eq!(check(Path::new("/proc/self/mem")), stopped("/proc/self/mem can't be read: Input/output error"));
-    // root may read everything
     let locked = directory.write("locked", "INPUT(a)\nOUTPUT(a)\n");
     fs::set_permissions(&locked, Permissions::from_mode(0o000)).expect("a mode");
-    let denied = stopped(&format!("{} can't be read: Permission denied", locked.display()));
-    let said = check(&locked);
-    assert!(said == denied || said == fine("lines 1, inputs 1, outputs 1\n".to_string()), "{said:?}");
+    if let Some(said) = other_user::ullimaqsu(&[Path::new("check"), &locked]) {
+        assert_eq!(said, stopped(&format!("{} can't be read: Permission denied", locked.display())));
+    }
     // a name is shown on one line whatever it is
     assert_eq!(check(Path::new("no\nsuch\u{1b}file")), stopped("there is no file no?such?file"));
 }

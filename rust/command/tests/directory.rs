@@ -2,13 +2,15 @@
 #[path = "../../tests/harness/directories.rs"]
 mod directories;
 mod harness;
+#[path = "harness/other_user.rs"]
+mod other_user;
 
 use cases::{drawn, Random, Tally};
 use directories::{boundaries, damaged, directory_of, sound};
 use harness::{into_broken, into_full, printed, root, stopped, ullimaqsu, Directory, Said};
 use second::Files;
-use std::fs;
-use std::os::unix::fs::symlink;
+use std::fs::{self, Permissions};
+use std::os::unix::fs::{symlink, PermissionsExt};
 use std::path::Path;
 
 fn dictionary(directory: &Path) -> Said {
@@ -104,16 +106,55 @@ fn unread() {
     fs::create_dir(&patterns).expect("a directory");
     assert_eq!(dictionary(&directory.0), about("is a directory"));
     fs::remove_dir(&patterns).expect("the directory");
-    for (target, why) in [("/dev/zero", "is no regular file"), ("/proc/self/mem", "can't be read: Input/output error")] {
+    let links = [
+        ("/dev/zero", "is no regular file"),
+        ("/proc/self/mem", "can't be read: Input/output error"),
+        // to itself
+        ("patterns.rec", "can't be read: Too many levels of symbolic links"),
+    ];
+    for (target, why) in links {
         symlink(target, &patterns).expect("a link");
         assert_eq!(dictionary(&directory.0), about(why));
         fs::remove_file(&patterns).expect("the link");
     }
+}
+
+/// Words that are no directory.
+#[test]
+fn no_directory() {
+    let directory = Directory::new("no directory");
     let absent = directory.path("absent");
     assert_eq!(dictionary(&absent), stopped(&format!("there is no directory {}", absent.display())));
-    assert_eq!(dictionary(&directory.path("circuit.rec")).0, Some(2));
+    let file = directory.write("circuit.rec", "");
+    let wants =
+        "dictionary wants a circuit, a file of faults and one of patterns, or a directory of circuit.rec, faults.rec and patterns.rec";
+    let is_file = stopped(&format!("{wants}, and {} is a file; see ullimaqsu dictionary --help", file.display()));
+    assert_eq!(dictionary(&file), is_file);
+    assert_eq!(ullimaqsu(&[Path::new("dictionary"), &file, Path::new("--csv")]), is_file);
+    let below = file.join("below");
+    assert_eq!(dictionary(&below), stopped(&format!("{} can't be read: Not a directory", below.display())));
+    let round = directory.path("round");
+    symlink(&round, &round).expect("a link");
+    assert_eq!(dictionary(&round), stopped(&format!("{} can't be read: Too many levels of symbolic links", round.display())));
     let form = "dictionary prints a directory in no other form; see ullimaqsu dictionary --help";
     assert_eq!(ullimaqsu(&[Path::new("dictionary"), &directory.0, Path::new("--csv")]), stopped(form));
+}
+
+/// A file that can't be reached is not absent.
+#[test]
+fn locked() {
+    let files = Files { circuit: Some(vec![]), ..Files::default() };
+    let directory = directory_of("locked", &files);
+    let denied = |path: &Path| stopped(&format!("{} can't be read: Permission denied", path.display()));
+    let circuit = directory.path("circuit.rec");
+    let lock = |path: &Path, mode: u32| fs::set_permissions(path, Permissions::from_mode(mode)).expect("a mode");
+    let said = || other_user::ullimaqsu(&[Path::new("dictionary"), &directory.0]);
+    lock(&circuit, 0o000);
+    said().into_iter().for_each(|said| assert_eq!(said, denied(&circuit)));
+    // its own files can't be reached, nor what would be absent
+    lock(&directory.0, 0o600);
+    said().into_iter().for_each(|said| assert_eq!(said, denied(&circuit)));
+    lock(&directory.0, 0o700);
 }
 
 #[test]

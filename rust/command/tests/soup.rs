@@ -1,75 +1,129 @@
-//! Words and files in no order: whatever is given, a command ends with its answer or with one line.
+//! Words and files in no order: whatever is given, a command ends with its answer or with one line, and then has written nothing.
 mod harness;
 
 use cases::{circuits, drawn, texts, Directory, Random, Tally};
-use harness::ullimaqsu;
+use harness::{run, Said, COMMAND};
+use std::collections::{BTreeMap, BTreeSet};
+use std::fs;
+use std::process::Command;
 
-/// A file of any sort: a circuit, a list, or bytes that are neither.
-fn file(random: &mut Random) -> Vec<u8> {
-    match random.below(10) {
+/// Files that go with each other, by name.
+const FILES: [(&str, &[u8]); 4] = [
+    ("circuit", b"INPUT(a)\nINPUT(b)\nOUTPUT(y)\ny = AND(a, b)\n"),
+    ("faults", b"y/0\ny.1/1 # a pin\n\na/1\n"),
+    ("patterns", b"01\n1X\n x 0\n"),
+    ("marks", b"K D\nK\n"),
+];
+
+/// Right command lines on those files, each with its options.
+const LINES: [(&str, &[&str]); 11] = [
+    ("check circuit", &[]),
+    ("faults circuit", &["--pins", "--collapse", "-o"]),
+    ("search circuit y/0", &["--budget", "-o", "--csv", "--json"]),
+    ("search circuit --all", &["--faults", "-o", "--csv", "--json"]),
+    ("dictionary circuit faults patterns", &["--csv", "--json"]),
+    ("compact circuit faults patterns", &["-o", "--marks", "--csv", "--json"]),
+    ("audit circuit faults patterns marks", &["--csv", "--json"]),
+    ("clauses circuit a/1", &["--comments", "-o"]),
+    ("values circuit 1X y.1/0", &["--svg", "--csv", "--json"]),
+    ("narrow circuit", &["-o"]),
+    ("bench circuit", &[]),
+];
+
+const FLAGS: [&str; 10] = ["--all", "--pins", "--collapse", "--csv", "--json", "--comments", "--", "-", "-x", "--help"];
+const TAKE_A_VALUE: [&str; 5] = ["--budget", "--faults", "-o", "--marks", "--svg"];
+const WORDS: [&str; 16] =
+    ["y/0", "a/1", "y.1/0", "y.3/0", "/", ".", ".1", "", "01", "1X", "0 1", "2", "99", "\u{e9}/\u{1b}0", "0/0", "new"];
+
+/// A file: most often as it goes with the others, else of any sort.
+fn file(random: &mut Random, fitting: &[u8]) -> Vec<u8> {
+    match random.below(24) {
         0 => texts::small(random),
         1 => texts::damaged(random),
         2 => texts::soup(random),
         3 => circuits::small(random),
-        4..=5 => b"INPUT(a)\nINPUT(b)\nOUTPUT(y)\ny = AND(a, b)\n".to_vec(),
-        6 => b"y/0\ny.1/1 # a pin\n\na/1\n".to_vec(),
-        7 => b"01\n1X\n x 0\n".to_vec(),
-        8 => b"K D\nK\n".to_vec(),
-        _ => {
+        4 => random.pick(&FILES).1.to_vec(),
+        5 => b"INPUT(a)\nOUTPUT(y)\ny = nand(a, a, a)\n".to_vec(),
+        6 => {
             let len = random.below(40);
             random.junk(len)
         }
+        _ => fitting.to_vec(),
     }
 }
 
-const OPTIONS: [&str; 12] =
-    ["--all", "--pins", "--collapse", "--csv", "--json", "--budget", "--faults", "--comments", "--", "-", "-x", "--help"];
-const WORDS: [&str; 14] = ["y/0", "a/1", "y.1/0", "y.3/0", "/", ".1", "", "01", "1X", "0 1", "2", "99", "\u{e9}/\u{1b}0", "0/0"];
+/// A word of any sort, or a file's name.
+fn word(random: &mut Random) -> String {
+    let name = random.pick(&FILES).0;
+    if random.once_in(3) { name } else { random.pick(&WORDS) }.to_string()
+}
 
-/// The commands, with the number of words that each wants, and how many of them are files.
-const COMMANDS: [(&str, usize, usize); 8] = [
-    ("check", 1, 1),
-    ("faults", 1, 1),
-    ("search", 2, 1),
-    ("dictionary", 3, 3),
-    ("compact", 3, 3),
-    ("audit", 4, 4),
-    ("clauses", 2, 1),
-    ("values", 3, 1),
-];
-
-/// A command line: most often with as many files and words as are wanted, now and then with an option or a word less or more.
-fn words(random: &mut Random, paths: &[String]) -> Vec<String> {
-    let (command, count, files) = random.pick(&COMMANDS);
-    let mut words = vec![command.to_string()];
-    words.extend((0..files).map(|_| paths[random.below(paths.len())].clone()));
-    words.extend((files..count).map(|_| random.pick(&WORDS).to_string()));
+/// A command line: a right one, now and then with another word, an option, or a word less or more.
+fn words(random: &mut Random) -> Vec<String> {
+    let (line, options) = random.pick(&LINES);
+    let mut words: Vec<String> = line.split(' ').map(String::from).collect();
+    for any in &mut words[1..] {
+        if random.once_in(12) {
+            *any = word(random);
+        }
+    }
     match random.below(8) {
         0 => drop(words.pop()),
-        1 => words.push(random.pick(&WORDS).to_string()),
-        2..=4 => words.push(random.pick(&OPTIONS).to_string()),
+        1 => words.push(word(random)),
+        2..=5 => {
+            let options = if options.is_empty() || random.once_in(4) { [&FLAGS[..], &TAKE_A_VALUE].concat() } else { options.to_vec() };
+            let option = random.pick(&options);
+            words.push(option.to_string());
+            if TAKE_A_VALUE.contains(&option) && !random.once_in(8) {
+                words.push(if random.once_in(2) { "new".to_string() } else { word(random) });
+            }
+        }
         _ => (),
     }
     words
 }
 
+/// The files of a directory.
+fn files(directory: &Directory) -> BTreeMap<String, Vec<u8>> {
+    directory.names().into_iter().map(|name| (name.clone(), fs::read(directory.path(&name)).expect("a file"))).collect()
+}
+
+/// Runs a command line where the files are, and gives what it says, and the files that are new or changed.
+fn in_its_directory(random: &mut Random, words: &[String]) -> (Said, Vec<String>) {
+    let directory = Directory::new("soup");
+    FILES.iter().for_each(|(name, fitting)| drop(directory.write(name, file(random, fitting))));
+    let before = files(&directory);
+    let said = run(Command::new(COMMAND).args(words).current_dir(&directory.0));
+    let after = files(&directory);
+    assert!(before.keys().all(|name| after.contains_key(name)), "{words:?}: a file is gone");
+    let written = after.into_iter().filter(|(name, bytes)| before.get(name) != Some(bytes)).map(|(name, _)| name).collect();
+    (said, written)
+}
+
 #[test]
 fn any_words_and_files() {
-    let directory = Directory::new("soup");
-    let mut tally = Tally::default();
+    let (mut tally, mut writers) = (Tally::default(), BTreeSet::new());
     let one = |random: &mut Random| {
-        let paths: Vec<String> = (0..4).map(|k| directory.write(&k.to_string(), file(random)).display().to_string()).collect();
-        let words = words(random, &paths);
-        (ullimaqsu(&words), words)
+        let words = words(random);
+        (in_its_directory(random, &words), words)
     };
-    for ((status, printed, said), words) in drawn(1, 500, one) {
+    for (((status, printed, said), written), words) in drawn(1, 900, one) {
         let status = status.expect("no signal");
         tally.count(status as u32);
         // an audit prints what it finds
         let lines = usize::from(status > 0 && !(words[0] == "audit" && status == 1 && !printed.is_empty()));
         assert_eq!(said.lines().count(), lines, "{words:?}: {said}");
         assert!(said.is_empty() || said.starts_with("ullimaqsu: "), "{words:?}: {said}");
+        // what is written is named last, and is no file that was read
+        assert!(status == 0 || written.is_empty(), "{words:?} wrote {written:?}: {said}");
+        let asked = |name: &String| words.iter().skip(2).next_back() == Some(name) || words[0] == "bench" && name == "circuit.rec";
+        let read = |name: &String| FILES.iter().any(|(file, _)| file == name) && words.iter().filter(|word| *word == name).count() > 1;
+        assert!(written.iter().all(|name| asked(name) && !read(name)), "{words:?} wrote {written:?}");
+        if !written.is_empty() {
+            writers.insert(words[0].clone());
+        }
     }
     println!("soup: {tally}");
     assert_eq!(tally.seen(), [0, 1, 2]);
+    assert_eq!(Vec::from_iter(&writers), ["bench", "clauses", "compact", "faults", "narrow", "search", "values"]);
 }

@@ -53,7 +53,7 @@ struct Found {
 impl Found {
     fn of(finding: Finding, listed: &Listed, marks: &[u8]) -> Found {
         let named = |fault: usize| listed.faults[fault].named(&listed.circuit);
-        let shown_by = |so: &dyn Fn(&[u8]) -> bool| listed.first(so).expect("what is lost is met by some pattern");
+        let met = "what is lost is met by some pattern";
         match finding {
             Finding::Sound => {
                 let (kept, all) = (marks.iter().filter(|mark| **mark == 1).count(), count(marks.len(), "pattern"));
@@ -67,14 +67,14 @@ impl Found {
             }
             Finding::LostFault(fault) => {
                 let fault = fault as usize;
-                let pattern = shown_by(&|row| row[fault] == 1);
+                let pattern = listed.failed_by(fault).expect(met);
                 let says = format!("lost fault: {} is failed by pattern {pattern}, and by no kept one", named(fault));
                 Found { name: "lost fault", faults: vec![named(fault)], pattern: Some(pattern), says }
             }
             Finding::LostPair(first, second) => {
-                let (first, second) = (first as usize, second as usize);
-                let pattern = shown_by(&|row| matches!((row[first], row[second]), (0, 1) | (1, 0)));
-                let (one, other) = (named(first), named(second));
+                let pair = [first as usize, second as usize];
+                let pattern = listed.told_apart_by(pair).expect(met);
+                let [one, other] = pair.map(named);
                 let says = format!("lost pair: {one} and {other} are told apart by pattern {pattern}, and by no kept one");
                 Found { name: "lost pair", faults: vec![one, other], pattern: Some(pattern), says }
             }

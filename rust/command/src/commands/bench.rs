@@ -1,5 +1,6 @@
 //! The records of a text in the bench notation.
 use super::Command;
+use crate::circuit::counted;
 use crate::explain::{explain, MOST_BYTES};
 use crate::files;
 use crate::out::Out;
@@ -34,7 +35,7 @@ fn run(words: &Words, out: &mut Out) -> Result<(), Problem> {
         Ok((records, counts)) => {
             let new = place.write(&records)?;
             // a report that can't be printed is a failure too: what stands there then stays
-            report(out, &format!("lines {}, inputs {}, outputs {}\n", counts.lines, counts.inputs, counts.outputs))?;
+            report(out, &counted(&counts))?;
             new.take_place()
         }
         Err(refusal) => {

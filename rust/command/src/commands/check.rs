@@ -1,6 +1,6 @@
 //! Is it a circuit?
 use super::Command;
-use crate::circuit::Circuit;
+use crate::circuit::{counted, Circuit};
 use crate::out::Out;
 use crate::problem::Problem;
 use crate::words::Words;
@@ -18,7 +18,5 @@ pub const COMMAND: Command = Command {
 };
 
 fn run(words: &Words, out: &mut Out) -> Result<(), Problem> {
-    let circuit = Circuit::load(words.at(0))?;
-    let counts = circuit.counts;
-    out.print(&format!("lines {}, inputs {}, outputs {}\n", counts.lines, counts.inputs, counts.outputs))
+    out.print(&counted(&Circuit::load(words.at(0))?.counts))
 }

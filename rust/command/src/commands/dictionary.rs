@@ -4,6 +4,7 @@ mod directory;
 use super::Command;
 use crate::circuit::Circuit;
 use crate::columns::widest;
+use crate::entry::Entry;
 use crate::fault::{self, Fault};
 use crate::form::{count, csv_row, list, quoted, Form, CSV, JSON};
 use crate::out::Out;
@@ -31,11 +32,10 @@ number of the refusal and its place. A file that is absent counts as empty.",
 
 fn run(words: &Words, out: &mut Out) -> Result<(), Problem> {
     let form = Form::of(words, &COMMAND)?;
-    match (words.path(1), words.path(2), form) {
-        (None, _, Form::Table) => directory::run(words.at(0), out),
-        (None, _, _) => Err(COMMAND.misused("prints a directory in no other form")),
-        (Some(_), None, _) => Err(COMMAND.misused(&format!("wants {}", COMMAND.wants))),
-        (Some(faults), Some(patterns), _) => {
+    match (words.path(1), words.path(2)) {
+        (None, _) => directory::run(words.at(0), form, out),
+        (Some(_), None) => Err(COMMAND.misused(&format!("wants {}", COMMAND.wants))),
+        (Some(faults), Some(patterns)) => {
             let circuit = Circuit::load(words.at(0))?;
             let (faults, patterns) = (fault::load(faults, &circuit)?, pattern::load(patterns, &circuit)?);
             print(&Given { circuit, faults, patterns }, form, out)
@@ -58,7 +58,7 @@ fn print(given: &Given, form: Form, out: &mut Out) -> Result<(), Problem> {
     let (mut detected, mut comma) = (0, "");
     for piece in pieces(faults, patterns) {
         for (fault, row) in piece.iter().zip(rows(circuit, piece, patterns)) {
-            detected += usize::from(row.contains('F'));
+            detected += usize::from(row.contains(Entry::Fail.letter()));
             let name = fault.named(circuit);
             out.print(&match form {
                 Form::Table => format!("{name:width$} {row}\n"),

@@ -3,7 +3,7 @@ use super::heights::pin_height;
 use super::plan::Thing;
 use super::shapes::{self, BODY};
 use super::{Picture, BEFORE, BEHIND};
-use crate::simulation::Value;
+use crate::value::Value;
 
 impl Picture<'_> {
     /// What colour and what stroke the wire of a line has.

@@ -1,5 +1,5 @@
 //! Names that a text does not have.
-use crate::notation::{Statement, Text, LONGEST_NAME};
+use crate::notation::{Statement, Text, Word, LONGEST_NAME};
 use std::collections::HashSet;
 
 pub struct Fresh(HashSet<String>);
@@ -11,7 +11,7 @@ impl Fresh {
             Statement::Input(name) | Statement::Output(name) => vec![name],
             Statement::Gate(gate) => gate.sources.iter().chain([&gate.name]).collect(),
         });
-        Fresh(words.map(|word| String::from_utf8_lossy(word.name).into_owned()).collect())
+        Fresh(words.map(Word::letters).collect())
     }
 
     /// A name with the next number that is free, cut where it would be too long.

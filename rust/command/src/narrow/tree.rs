@@ -6,13 +6,7 @@ use crate::notation::{line_begin, Gate, Word};
 
 /// What is put for a wide gate: lines before its own, and two sources for all of its sources.
 pub fn edits<'a>(text: &[u8], gate: &Gate<'a>, fresh: &mut Fresh) -> [Edit<'a>; 2] {
-    let mut tree = Tree {
-        kind: upright(gate.kind),
-        name: String::from_utf8_lossy(gate.name.name).into_owned(),
-        end: line_end(text, gate.name.at),
-        fresh,
-        lines: vec![],
-    };
+    let mut tree = Tree { kind: upright(gate.kind), name: gate.name.letters(), end: line_end(text, gate.name.at), fresh, lines: vec![] };
     let sources = tree.pair(&gate.sources);
     let begin = line_begin(text, gate.name.at);
     let (first, last) = (gate.sources[0], gate.sources[gate.sources.len() - 1]);

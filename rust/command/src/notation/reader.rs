@@ -152,7 +152,7 @@ impl<'a> Reader<'a> {
         let mut stuck = self.must(&format!("after {} {of}", brackets.called(count)), brackets.then(count));
         // a comma is in order after the first source
         if brackets == Brackets::TwoSources && self.ahead() == Some(b',') {
-            stuck.says += "; `./ullimaqsu narrow` rewrites gates of three and more sources";
+            stuck.says += "; `ullimaqsu narrow` rewrites gates of three and more sources";
         }
         stuck
     }

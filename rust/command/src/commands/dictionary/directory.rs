@@ -1,8 +1,13 @@
 //! The dictionary of a directory's records, as the dictionary program prints it.
-use crate::files::read;
+use super::COMMAND;
+use crate::entry::Entry;
+use crate::files::{read, unreadable};
+use crate::form::Form;
+use crate::marks;
 use crate::out::Out;
 use crate::problem::{shown, Problem};
-use crate::table::letter;
+use std::fs;
+use std::io::ErrorKind;
 use std::path::{Path, PathBuf};
 use ullimaqsu::Refusal;
 
@@ -17,20 +22,19 @@ impl Part {
     /// One byte above the limit is read: what is longer is refused, whatever follows.
     fn load(directory: &Path, name: &str, limit: usize) -> Result<Part, Problem> {
         let path = directory.join(name);
-        let absent = !path.exists();
-        if absent {
-            return Ok(Part { path, bytes: Vec::new(), absent });
+        match fs::metadata(&path) {
+            Err(error) if error.kind() == ErrorKind::NotFound => Ok(Part { path, bytes: Vec::new(), absent: true }),
+            Ok(found) if !found.is_file() && !found.is_dir() => Err(Problem::Stopped(format!("{} is no regular file", shown(&path)))),
+            // where something else is wrong, the reading says what
+            _ => Ok(Part { bytes: read(&path, limit + 1)?, path, absent: false }),
         }
-        if !path.is_file() && !path.is_dir() {
-            return Err(Problem::Stopped(format!("{} is no regular file", shown(&path))));
-        }
-        Ok(Part { bytes: read(&path, limit + 1)?, path, absent })
     }
 }
 
-pub fn run(directory: &Path, out: &mut Out) -> Result<(), Problem> {
-    if !directory.is_dir() {
-        return Err(Problem::Stopped(format!("there is no directory {}", shown(directory))));
+pub fn run(directory: &Path, form: Form, out: &mut Out) -> Result<(), Problem> {
+    is_directory(directory)?;
+    if form != Form::Table {
+        return Err(COMMAND.misused("prints a directory in no other form"));
     }
     let parts = [
         Part::load(directory, "circuit.rec", 16_384)?,
@@ -43,6 +47,16 @@ pub fn run(directory: &Path, out: &mut Out) -> Result<(), Problem> {
     }
 }
 
+/// Or why not.
+fn is_directory(directory: &Path) -> Result<(), Problem> {
+    match fs::metadata(directory) {
+        Ok(found) if found.is_dir() => Ok(()),
+        Ok(_) => Err(COMMAND.misused(&format!("wants {}, and {} is a file", COMMAND.wants, shown(directory)))),
+        Err(error) if error.kind() == ErrorKind::NotFound => Err(Problem::Stopped(format!("there is no directory {}", shown(directory)))),
+        Err(error) => Err(unreadable(directory, error)),
+    }
+}
+
 /// A line for each pattern: its number, K kept or D dropped, and the letter of each fault.
 fn listing([circuit, faults, patterns]: &[Part; 3]) -> Result<String, Refusal> {
     let counts = ullimaqsu::check(&circuit.bytes)?;
@@ -52,8 +66,8 @@ fn listing([circuit, faults, patterns]: &[Part; 3]) -> Result<String, Refusal> {
     let mut marks = vec![0; pattern_count];
     ullimaqsu::compact(fault_count as u64, pattern_count as u64, &table, &mut marks)?;
     let line = |(number, (entries, mark)): (usize, (&[u8], &u8))| {
-        let letters: String = entries.iter().map(|&entry| letter(entry)).collect();
-        format!("{number} {} {letters}\n", if *mark == 1 { 'K' } else { 'D' })
+        let letters: String = entries.iter().map(|&entry| Entry::of(entry).letter()).collect();
+        format!("{number} {} {letters}\n", marks::letter(*mark))
     };
     Ok(table.chunks_exact(fault_count).zip(&marks).enumerate().map(line).collect())
 }

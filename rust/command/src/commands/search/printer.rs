@@ -1,4 +1,4 @@
-//! What a search has found, in words.
+//! What a search has found, in words. Whatever is printed ends its line: the next one may be the bar's.
 use super::pieces::Found;
 use crate::circuit::Circuit;
 use crate::columns::{widest, Columns};
@@ -14,8 +14,8 @@ pub struct Printer<'a> {
     columns: Columns,
     /// How wide a number of nodes is.
     nodes: usize,
-    /// Nothing was printed of the list.
-    first: bool,
+    /// How many faults are still to come.
+    left: usize,
 }
 
 impl Printer<'_> {
@@ -26,18 +26,19 @@ impl Printer<'_> {
         let nodes = budget.min(tree).to_string().len().max("nodes".len());
         let names = widest(faults.iter().map(|fault| fault.named(circuit))).max("fault".len());
         let columns = Columns::new([names, "redundant".len(), nodes].into_iter().chain(inputs.iter().map(|name| name.len())));
-        Printer { form, circuit, inputs, columns, nodes, first: true }
+        Printer { form, circuit, inputs, columns, nodes, left: faults.len() }
     }
 
     pub fn head(&self) -> String {
         match self.form {
             Form::Table => self.columns.row(["fault", "outcome", &format!("{:>1$}", "nodes", self.nodes)].iter().chain(&self.inputs)),
             Form::Csv => csv_row(["fault", "outcome", "nodes"].iter().chain(&self.inputs)),
-            Form::Json => format!("{{\"inputs\": {},\n\"faults\": [", list(&self.inputs)),
+            Form::Json => format!("{{\"inputs\": {},\n\"faults\": [\n", list(&self.inputs)),
         }
     }
 
     pub fn line(&mut self, found: &Found) -> String {
+        self.left = self.left.saturating_sub(1);
         let (fault, outcome) = (found.fault.named(self.circuit), word(found.search.outcome));
         let (nodes, letters) = (found.search.nodes.to_string(), found.test.as_ref().map(Pattern::letters));
         let values = || match &letters {
@@ -48,8 +49,8 @@ impl Printer<'_> {
             Form::Table => self.columns.row([fault, outcome.to_string(), format!("{nodes:>0$}", self.nodes)].into_iter().chain(values())),
             Form::Csv => csv_row([fault, outcome.to_string(), nodes].into_iter().chain(values())),
             Form::Json => {
-                let (comma, test) = (if std::mem::take(&mut self.first) { "" } else { "," }, letters.map_or("null".to_string(), quoted));
-                format!("{comma}\n{{\"fault\": \"{fault}\", \"outcome\": \"{outcome}\", \"nodes\": {nodes}, \"test\": {test}}}")
+                let (test, comma) = (letters.map_or("null".to_string(), quoted), if self.left > 0 { "," } else { "" });
+                format!("{{\"fault\": \"{fault}\", \"outcome\": \"{outcome}\", \"nodes\": {nodes}, \"test\": {test}}}{comma}\n")
             }
         }
     }
@@ -62,7 +63,7 @@ impl Printer<'_> {
                 format!("{}: {}, {redundant} redundant, {given_up} given up\n", count(all.len(), "fault"), count(tests, "test"))
             }
             Form::Csv => String::new(),
-            Form::Json => format!("\n],\n\"tests\": {tests}, \"redundant\": {redundant}, \"given up\": {given_up}}}\n"),
+            Form::Json => format!("],\n\"tests\": {tests}, \"redundant\": {redundant}, \"given up\": {given_up}}}\n"),
         }
     }
 }
