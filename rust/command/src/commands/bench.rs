@@ -4,7 +4,7 @@ use crate::explain::{explain, MOST_BYTES};
 use crate::files;
 use crate::out::Out;
 use crate::problem::{shown, Problem};
-use crate::replace::{Place, Source};
+use crate::replace::{once_printed, Place};
 use crate::words::Words;
 use std::path::{Path, PathBuf};
 use ullimaqsu::{bench, check, Counts, Refusal, LARGEST_CIRCUIT};
@@ -29,16 +29,15 @@ fn run(words: &Words, out: &mut Out) -> Result<(), Problem> {
     let file = words.at(0);
     let text = files::read(file, MOST_BYTES + 1)?;
     let path = words.path(1).map_or_else(|| beside(file), |path| Ok(path.to_path_buf()))?;
-    let place = Place::find(&path, &[Source { path: file, called: "the text itself" }])?;
+    let place = Place::find(&path, &[file])?;
     match records(&text) {
         Ok((records, counts)) => {
-            let new = place.write(&records)?;
-            // a report that can't be printed is a failure too: what stands there then stays
-            report(out, &format!("lines {}, inputs {}, outputs {}\n", counts.lines, counts.inputs, counts.outputs))?;
-            new.take_place()
+            let report = format!("lines {}, inputs {}, outputs {}\n", counts.lines, counts.inputs, counts.outputs);
+            once_printed([(place, records)], report, out)
         }
         Err(refusal) => {
-            report(out, &format!("refused {} {}\n", refusal.number, refusal.place))?;
+            out.print(&format!("refused {} {}\n", refusal.number, refusal.place))?;
+            out.flush()?;
             Err(Problem::Refused(format!("{}: {}", shown(file), explain(&text, &refusal))))
         }
     }
@@ -58,9 +57,4 @@ fn records(text: &[u8]) -> Result<(Vec<u8>, Counts), Refusal> {
     records.truncate(8 * count as usize);
     let counts = check(&records)?;
     Ok((records, counts))
-}
-
-fn report(out: &mut Out, line: &str) -> Result<(), Problem> {
-    out.print(line)?;
-    out.flush()
 }
