@@ -332,6 +332,7 @@ fn the_second_file() {
     let mut process = Command::new(COMMAND).args(words).stdout(writes).stderr(Stdio::piped()).spawn().expect("it starts");
     while case.directory.names().into_iter().filter(|name| name.starts_with('.')).count() < 2 {
         assert_eq!(process.try_wait().expect("a process"), None, "it ended and waited for nobody");
+        assert!(!kept.exists(), "nobody has read the table yet");
         thread::sleep(Duration::from_millis(5));
     }
     fs::create_dir(&marks).expect("a directory");
