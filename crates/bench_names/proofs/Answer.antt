@@ -41,7 +41,7 @@ names-done {t} {p} d = record {
 
 -- ---- what the reader leaves, with a buffer of its size
 
-module _ {t f f′ c c′ : List ℕ} {v : Read} (size : length c ≡ bufferBytes) (d : PlacesDone (benchRules t (length c)) t f f′ c c′ v) where
+module _ (t : List ℕ) {f f′ c c′ : List ℕ} {v : Read} (size : length c ≡ bufferBytes) (d : PlacesDone (benchRules t (length c)) t f f′ c c′ v) where
   answer-is : v ≡ answered Refused (refusal (benchRules t bufferBytes)) (Records (linesOf (recordsIn t)))
   answer-is = d .answer ∙ ap (λ (n : ℕ). answered Refused (refusal (benchRules t n)) (Records (linesOf (recordsIn t)))) size
 

@@ -14,7 +14,7 @@ use crate::help;
 use crate::nearest::offered;
 use crate::out::Out;
 use crate::problem::{shown, Problem};
-use crate::words::{Choice, Words};
+use crate::words::{cited, Choice, Words};
 use std::ffi::OsString;
 use std::ops::RangeInclusive;
 
@@ -59,8 +59,8 @@ impl Command {
     /// The command that the first word names.
     fn named(word: &OsString) -> Result<&'static Command, Problem> {
         let unknown = || {
-            let (word, names) = (shown(word), COMMANDS.iter().map(|command| command.name));
-            Problem::Stopped(format!("there is no command `{word}`{}; see ullimaqsu --help", offered(&word, names)))
+            let (near, names) = (shown(word), COMMANDS.iter().map(|command| command.name));
+            Problem::Stopped(format!("there is no command {}{}; see ullimaqsu --help", cited(word), offered(&near, names)))
         };
         COMMANDS.into_iter().find(|command| word == command.name).ok_or_else(unknown)
     }
@@ -76,7 +76,7 @@ pub fn run(words: Vec<OsString>, out: &mut Out) -> Result<(), Problem> {
         (Some("--help" | "-h" | "help"), []) => out.print(&help::all(&COMMANDS)),
         (Some("--help" | "-h" | "help"), [name]) => out.print(&help::of(Command::named(name)?)),
         (Some(word @ ("--version" | "-V" | "--help" | "-h" | "help")), [.., last]) => {
-            Err(Problem::Stopped(format!("`{}` is one word too many after {word}; see ullimaqsu --help", shown(last))))
+            Err(Problem::Stopped(format!("{} is one word too many after {word}; see ullimaqsu --help", cited(last))))
         }
         _ => {
             let command = Command::named(&first)?;

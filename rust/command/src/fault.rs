@@ -3,6 +3,7 @@ use crate::circuit::Circuit;
 use crate::lists::{self, lines, place, words};
 use crate::nearest::offered;
 use crate::problem::Problem;
+use crate::words::cited;
 use std::path::Path;
 use ullimaqsu::Refusal;
 
@@ -40,17 +41,18 @@ impl Fault {
 
     /// The fault that a word names, or what is wrong with it.
     pub fn read(word: &str, circuit: &Circuit) -> Result<Fault, String> {
-        let (place, value) = word.rsplit_once('/').ok_or_else(|| {
-            format!("`{word}` is no fault: it is written NAME/0 or NAME/1, and at a pin of the gate NAME.1/0 or NAME.2/0")
-        })?;
+        let no_fault = |since: &str| format!("{} is no fault: {since}", cited(word));
+        let (place, value) = word
+            .rsplit_once('/')
+            .ok_or_else(|| no_fault("it is written NAME/0 or NAME/1, and at a pin of the gate NAME.1/0 or NAME.2/0"))?;
         let value = match value {
             "0" => false,
             "1" => true,
-            _ => return Err(format!("`{word}` is no fault: after `/` there must be 0 or 1, what the line is stuck at")),
+            _ => return Err(no_fault("after `/` there must be 0 or 1, what the line is stuck at")),
         };
         let (name, pin) = place.split_once('.').map_or((place, None), |(name, pin)| (name, Some(pin)));
         let names = || circuit.names().iter().map(String::as_str);
-        let line = circuit.line(name).ok_or_else(|| format!("there is no line `{name}`{}", offered(name, names())))?;
+        let line = circuit.line(name).ok_or_else(|| format!("there is no line {}{}", cited(name), offered(name, names())))?;
         let site = pin.map_or(Ok(0), |pin| read_pin(pin, line, circuit))?;
         Ok(Fault { line, site, value })
     }
@@ -68,7 +70,7 @@ fn read_pin(pin: &str, line: usize, circuit: &Circuit) -> Result<usize, String> 
         Some(before) if before < pins => Ok(before + 1),
         _ => {
             let has = ["no pins", "pin 1 alone", "pins 1 and 2"][pins];
-            Err(format!("`{}` has no pin `{pin}`: it is {} with {has}", circuit.name(line), circuit.kind(line).word()))
+            Err(format!("`{}` has no pin {}: it is {} with {has}", circuit.name(line), cited(pin), circuit.kind(line).word()))
         }
     }
 }
@@ -93,7 +95,7 @@ fn of_text(bytes: &[u8], circuit: &Circuit) -> Result<Vec<Fault>, String> {
         let Some((column, word)) = words.next() else { continue };
         faults.push(Fault::read(word, circuit).map_err(|says| place(number, column, &says))?);
         if let Some((column, word)) = words.next() {
-            return Err(place(number, column, &format!("a line has one fault, and here follows `{word}`")));
+            return Err(place(number, column, &format!("a line has one fault, and here follows {}", cited(word))));
         }
     }
     Ok(faults)

@@ -2,8 +2,11 @@
 
 /// The names nearest to one that is none of them: at most three, in their order, and none that is too far to help.
 pub fn nearest<'a>(name: &str, names: impl Iterator<Item = &'a str>) -> Vec<&'a str> {
-    let far = ((name.chars().count() + 1) / 3).min(3);
-    let steps: Vec<(usize, &str)> = names.map(|other| (distance(name, other), other)).collect();
+    let length = name.chars().count();
+    let far = ((length + 1) / 3).min(3);
+    // each step changes the length by one at most: a name that is much longer than all others need not be held against them
+    let like = names.filter(|other| length.abs_diff(other.chars().count()) <= far);
+    let steps: Vec<(usize, &str)> = like.map(|other| (distance(name, other), other)).collect();
     let least = steps.iter().map(|(steps, _)| *steps).min().filter(|least| *least <= far);
     steps.into_iter().filter(|(steps, _)| Some(*steps) == least).take(3).map(|(_, other)| other).collect()
 }

@@ -2,8 +2,12 @@
 use crate::commands::Command;
 use crate::nearest::offered;
 use crate::problem::{shown, Problem};
+use crate::replace::Place;
 use std::ffi::{OsStr, OsString};
 use std::path::Path;
+
+/// The most letters of a word that a message has.
+const MOST_CITED: usize = 40;
 
 /// An option of a command.
 pub struct Choice {
@@ -34,12 +38,11 @@ impl Words {
                 words.rest.push(word);
                 continue;
             }
-            let choice = command.choices.iter().find(|choice| word == choice.name).ok_or_else(|| unknown(command, &word))?;
-            let value = match choice.value {
-                None => OsString::new(),
-                Some(value) => given.next().ok_or_else(|| command.misused(&format!("wants {value} after {}", choice.name)))?,
-            };
-            words.chosen.push((choice.name, value));
+            let choice = chosen(command, &word).ok_or_else(|| unknown(command, &word))?;
+            if choice.value.is_some() && words.has(choice.name) {
+                return Err(command.misused(&format!("takes {} once, and here it is given twice", choice.name)));
+            }
+            words.chosen.push((choice.name, value(command, choice, &mut given)?));
         }
         if !command.counts.contains(&words.rest.len()) {
             return Err(command.misused(&format!("wants {}", command.wants)));
@@ -51,9 +54,19 @@ impl Words {
         self.value(option).is_some()
     }
 
-    /// The value of an option; of one that is given twice the last.
+    /// The value of an option.
     pub fn value(&self, option: &str) -> Option<&OsStr> {
-        self.chosen.iter().rev().find(|(name, _)| *name == option).map(|(_, value)| value.as_os_str())
+        self.chosen.iter().find(|(name, _)| *name == option).map(|(_, value)| value.as_os_str())
+    }
+
+    /// The same as a file.
+    pub fn file(&self, option: &str) -> Option<&Path> {
+        self.value(option).map(Path::new)
+    }
+
+    /// The place of a file that an option asks for, none of the sources.
+    pub fn place(&self, option: &str, sources: &[&Path]) -> Result<Option<Place>, Problem> {
+        self.file(option).map(|path| Place::find(path, sources)).transpose()
     }
 
     /// The k-th word that is no option.
@@ -72,9 +85,34 @@ impl Words {
     }
 }
 
+/// The option that a word is.
+fn chosen(command: &Command, word: &OsStr) -> Option<&'static Choice> {
+    command.choices.iter().find(|choice| word == choice.name)
+}
+
+/// What follows an option as its value, or nothing where it has none. An option is no value: a file of that name is written with its directory.
+fn value(command: &Command, choice: &Choice, given: &mut impl Iterator<Item = OsString>) -> Result<OsString, Problem> {
+    let Some(called) = choice.value else { return Ok(OsString::new()) };
+    let wants = |and: &str| command.misused(&format!("wants {called} after {}{and}", choice.name));
+    match given.next() {
+        None => Err(wants("")),
+        Some(word) if word == "--" || chosen(command, &word).is_some() => Err(wants(&format!(", and here is {}", cited(word)))),
+        Some(word) => Ok(word),
+    }
+}
+
 fn unknown(command: &Command, word: &OsStr) -> Problem {
-    let (word, names) = (shown(word), command.choices.iter().map(|choice| choice.name));
+    let (names, text) = (command.choices.iter().map(|choice| choice.name), shown(word));
     // one letter is like any other
-    let near = if word.starts_with("--") { offered(&word, names) } else { String::new() };
-    command.misused(&format!("has no option `{word}`{near}"))
+    let near = if text.starts_with("--") { offered(&text, names) } else { String::new() };
+    command.misused(&format!("has no option {}{near}", cited(word)))
+}
+
+/// A word as a message has it; of a long one the beginning.
+pub fn cited(word: impl AsRef<OsStr>) -> String {
+    let word = shown(word);
+    match word.char_indices().nth(MOST_CITED) {
+        Some((end, _)) => format!("`{}..`", &word[..end]),
+        None => format!("`{word}`"),
+    }
 }

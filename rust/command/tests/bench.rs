@@ -1,9 +1,12 @@
 //! `ullimaqsu bench` and what stands where it writes: nothing is lost, whatever OUT is, whatever fails and whoever interrupts.
 mod harness;
+#[path = "harness/pipes.rs"]
+mod pipes;
 
 use harness::{after, into_broken, into_full, root, run, said, ullimaqsu, Directory, Said, COMMAND};
+use pipes::full_pipe;
 use std::fs::{self, File, OpenOptions, Permissions};
-use std::io::{pipe, ErrorKind, PipeReader, PipeWriter, Read, Write};
+use std::io::{ErrorKind, Read, Write};
 use std::os::unix::fs::{chown, symlink, FileTypeExt, MetadataExt, OpenOptionsExt, PermissionsExt};
 use std::os::unix::net::UnixListener;
 use std::os::unix::process::ExitStatusExt;
@@ -68,7 +71,7 @@ fn commands() {
     for missing in ["missing/", "missing/.", "missing/..", "other/", "other/."].map(|name| directory.0.join(name)) {
         stopped(bench(&[&file, &missing]), &format!("there is no directory {}", missing.display()));
     }
-    stopped(bench(&[&file, Path::new("")]), "the directory of  is missing");
+    stopped(bench(&[&file, Path::new("")]), "the name of the file to be written is empty");
     assert!(has_records(&other));
 
     // nothing is run: too few words, too many
@@ -182,7 +185,7 @@ fn the_text_itself() {
     fs::hard_link(&file, &second).expect("a second name");
     let pairs: [&[&Path]; 5] = [&[&file], &[&file, &file], &[&file, &link], &[&link, &file], &[&file, &second]];
     for paths in pairs {
-        stopped(bench(paths), "is the text itself");
+        stopped(bench(paths), "is one of the files that are read");
     }
     assert_eq!(fs::read(&file).expect("a text"), c17());
     assert_eq!(directory.names(), ["circuit.rec", "link", "second"]);
@@ -254,7 +257,7 @@ fn odd_names() {
         let out = format!("{name}.{name}");
         assert_eq!(here(&[name, &out]), (Some(0), COUNTS.to_string(), String::new()), "{name:?}");
         assert!(has_records(&directory.0.join(&out)), "{name:?}");
-        stopped(here(&[name, name]), "is the text itself");
+        stopped(here(&[name, name]), "is one of the files that are read");
         fs::write(directory.0.join(name), b"input(a)").expect("a text");
         let (status, printed, line) = here(&[name, &out]);
         assert_eq!((status, printed.as_str(), line.lines().count()), (Some(1), "refused 14 5\n", 1), "{name:?}: {line}");
@@ -381,12 +384,4 @@ fn the_new_file() {
     // what counts, such as the time or the number of a process, has the same upper half twice
     assert_ne!(numbers[0] >> 32, numbers[1] >> 32);
     assert_eq!(directory.names(), ["out", "text.bench"]);
-}
-
-/// Both ends of a pipe that takes nothing more until it is read.
-fn full_pipe() -> (PipeReader, PipeWriter) {
-    let (reads, mut writes) = pipe().expect("a pipe");
-    // Linux gives a pipe this many bytes
-    writes.write_all(&[b' '; 1 << 16]).expect("room");
-    (reads, writes)
 }

@@ -2,7 +2,7 @@
 mod harness;
 
 use cases::Directory;
-use harness::{after, example, into_broken, printed, root, run, stopped, ullimaqsu, COMMAND};
+use harness::{after, example, into_broken, printed, root, run, stopped, ullimaqsu, Said, COMMAND};
 use std::ffi::OsStr;
 use std::os::unix::ffi::OsStrExt;
 use std::os::unix::fs::symlink;
@@ -80,9 +80,12 @@ fn unknown_words() {
     assert_eq!(ullimaqsu(&["--verbose"]), unknown("there is no command `--verbose`"));
 }
 
+fn misused(name: &str, says: &str) -> Said {
+    stopped(&format!("{name} {says}; see ullimaqsu {name} --help"))
+}
+
 #[test]
 fn misused_commands() {
-    let misused = |name: &str, says: &str| stopped(&format!("{name} {says}; see ullimaqsu {name} --help"));
     assert_eq!(ullimaqsu(&["check"]), misused("check", "wants a circuit"));
     assert_eq!(ullimaqsu(&["check", "a", "b"]), misused("check", "wants a circuit"));
     assert_eq!(ullimaqsu(&["faults"]), misused("faults", "wants a circuit"));
@@ -93,6 +96,33 @@ fn misused_commands() {
     let audit = "wants a circuit, a file of faults, one of patterns and one of marks";
     assert_eq!(ullimaqsu(&["audit", "a", "b", "c"]), misused("audit", audit));
     assert_eq!(ullimaqsu(&["audit", "a", "b", "c", "d", "--json", "--csv"]), misused("audit", "prints --csv or --json, not both"));
+}
+
+/// An option is no value of another, and a value is given once. A flag may be repeated.
+#[test]
+fn values_of_options() {
+    let directory = Directory::new("values of options");
+    directory.write("c17", std::fs::read(example("c17")).expect("c17"));
+    let here = |words: &[&str]| run(Command::new(COMMAND).args(words).current_dir(&directory.0));
+    for word in ["--pins", "--collapse", "-o", "--"] {
+        let line = format!("wants FILE after -o, and here is `{word}`");
+        assert_eq!(here(&["faults", "c17", "-o", word]), misused("faults", &line));
+    }
+    assert_eq!(here(&["search", "c17", "--budget", "--all"]), misused("search", "wants N after --budget, and here is `--all`"));
+    let twice = |option: &str| format!("takes {option} once, and here it is given twice");
+    assert_eq!(here(&["faults", "c17", "-o", "one", "-o", "two"]), misused("faults", &twice("-o")));
+    assert_eq!(here(&["search", "c17", "--budget", "1", "--all", "--budget", "1"]), misused("search", &twice("--budget")));
+    assert_eq!(directory.names(), ["c17"]);
+    assert_eq!(here(&["faults", "c17", "--pins", "-o", "./--pins", "--pins"]), (Some(0), String::new(), String::new()));
+    assert_eq!((directory.read("--pins").lines().count(), directory.names()), (46, vec!["--pins".to_string(), "c17".to_string()]));
+}
+
+/// Of a long word the beginning is said.
+#[test]
+fn long_words() {
+    let word = format!("--{}", "ä".repeat(100));
+    let line = format!("has no option `--{}..`", "ä".repeat(38));
+    assert_eq!(ullimaqsu(&["faults", "a", &word]), misused("faults", &line));
 }
 
 /// A name that begins with a dash is given after `--`; a lone dash is a name.

@@ -1,15 +1,22 @@
 //! `ullimaqsu compact` and `ullimaqsu audit` against the second program.
 mod harness;
+#[path = "harness/pipes.rs"]
+mod pipes;
 
 use cases::{circuits, tables, texts, Directory, Random};
 use harness::json::Json;
 use harness::named::{letters, pattern_lines, Named};
-use harness::{example, into_broken, into_full, printed, refused, stopped, ullimaqsu, Said};
+use harness::{example, into_broken, into_full, printed, refused, said, stopped, ullimaqsu, Said, COMMAND};
+use pipes::full_pipe;
 use second::compact::{needs, Need, Row};
 use second::{Finding, Given};
 use std::collections::BTreeMap;
-use std::fs;
+use std::io::Read;
+use std::os::unix::fs::symlink;
 use std::path::{Path, PathBuf};
+use std::process::{Command, Stdio};
+use std::time::Duration;
+use std::{fs, thread};
 
 /// A circuit with faults and patterns, as the second program has them and as files.
 struct Case {
@@ -45,9 +52,18 @@ impl Case {
         }
     }
 
+    fn words(&self, command: &str, more: &[&Path]) -> Vec<PathBuf> {
+        let given = [command.into(), self.circuit.clone(), self.directory.path("faults"), self.directory.path("patterns")];
+        given.into_iter().chain(more.iter().map(PathBuf::from)).collect()
+    }
+
     fn run(&self, command: &str, more: &[&Path]) -> Said {
-        let (faults, patterns) = (self.directory.path("faults"), self.directory.path("patterns"));
-        ullimaqsu(&[&[Path::new(command), &self.circuit, &faults, &patterns], more].concat())
+        ullimaqsu(&self.words(command, more))
+    }
+
+    /// The words of a compaction that writes both files.
+    fn both(&self, kept: &Path, marks: &Path) -> Vec<PathBuf> {
+        self.words("compact", &[Path::new("-o"), kept, Path::new("--marks"), marks])
     }
 
     fn compact(&self, more: &[&str]) -> String {
@@ -256,14 +272,77 @@ fn limits_and_files() {
         assert_eq!(case.run("compact", &[Path::new(option), &patterns]), stopped(&line));
     }
     // both files are written, or none
-    let [to, word] = [case.directory.path("to"), "-o".into()];
-    assert_eq!(case.run("compact", &[&word, &to, Path::new("--marks"), &patterns]), stopped(&line));
+    let (to, long) = (case.directory.path("to"), case.directory.path(&"a".repeat(300)));
+    assert_eq!(ullimaqsu(&case.both(&to, &patterns)), stopped(&line));
+    assert_eq!(ullimaqsu(&case.both(&to, &long)), stopped(&format!("{} can't be written: File name too long", long.display())));
     assert_eq!(
         (case.directory.read("patterns"), case.directory.names()),
         (before, ["circuit", "faults", "patterns"].map(String::from).into())
     );
-    let both = case.run("compact", &[Path::new("-o"), Path::new("one"), Path::new("--marks"), Path::new("one")]);
-    assert_eq!(both, stopped("compact writes the patterns and their marks to two files, not to one; see ullimaqsu compact --help"));
+}
+
+/// Kept patterns and marks go to two files. In one, however it is spelt, there would be the marks alone.
+#[test]
+fn one_file_for_both() {
+    let case = Case::c17("one file", &mut Random::new(4), [3, 3]);
+    let path = |name: &str| case.directory.path(name);
+    let old = case.directory.write("old", "of old");
+    symlink("old", path("link")).expect("a link");
+    symlink(".", path("here")).expect("a link");
+    fs::hard_link(&old, path("second")).expect("a second name");
+    let before = case.directory.names();
+    let pairs = [
+        ("old", "old"),
+        ("old", "./old"),
+        ("old", "link"),
+        ("link", "old"),
+        ("old", "second"),
+        ("second", "here/link"),
+        ("new", "new"),
+        ("new", "./new"),
+        ("here/new", "new"),
+    ];
+    for (one, other) in pairs.map(|(one, other)| (path(one), path(other))) {
+        let line = format!("{} and {} are one file, and two are to be written", one.display(), other.display());
+        assert_eq!(ullimaqsu(&case.both(&one, &other)), stopped(&line));
+    }
+    assert_eq!((case.directory.read("old").as_str(), case.directory.names()), ("of old", before));
+}
+
+/// Neither file takes its place where the table could not be printed, and nothing is left beside them.
+#[test]
+fn nobody_reads() {
+    let case = Case::c17("unread", &mut Random::new(5), [3, 3]);
+    let words = case.both(&case.directory.write("old", "of old"), &case.directory.path("new"));
+    assert_eq!(into_full(&words), stopped("standard output could not be written: No space left on device"));
+    assert_eq!(into_broken(&words), (Some(141), String::new(), String::new()));
+    assert_eq!(
+        (case.directory.read("old"), case.directory.names()),
+        ("of old".into(), ["circuit", "faults", "old", "patterns"].map(String::from).into())
+    );
+}
+
+/// Both files are written before the table is printed, and then the first takes its place. Where the second can't, that is said too.
+#[test]
+fn the_second_file() {
+    let case = Case::c17("second file", &mut Random::new(6), [3, 3]);
+    let (kept, marks) = (case.directory.path("kept"), case.directory.path("marks"));
+    let (mut reads, writes) = full_pipe();
+    let words = case.both(&kept, &marks);
+    let mut process = Command::new(COMMAND).args(words).stdout(writes).stderr(Stdio::piped()).spawn().expect("it starts");
+    while case.directory.names().into_iter().filter(|name| name.starts_with('.')).count() < 2 {
+        assert_eq!(process.try_wait().expect("a process"), None, "it ended and waited for nobody");
+        assert!(!kept.exists(), "nobody has read the table yet");
+        thread::sleep(Duration::from_millis(5));
+    }
+    fs::create_dir(&marks).expect("a directory");
+    reads.read_to_end(&mut vec![]).expect("a pipe");
+    let line = format!("{} could not be written: Is a directory; {} is written", marks.display(), kept.display());
+    assert_eq!(said(process.wait_with_output().expect("it ends")), stopped(&line));
+    assert_eq!(case.directory.names(), ["circuit", "faults", "kept", "marks", "patterns"]);
+    let right: String =
+        case.marks().iter().zip(&case.given.patterns).filter(|(mark, _)| **mark == 1).map(|(_, pattern)| letters(pattern) + "\n").collect();
+    assert_eq!(case.directory.read("kept"), right);
 }
 
 /// The whole way: faults, tests for them, and a list of tests that is as good and sound.

@@ -182,11 +182,9 @@ fn into_a_file() {
     assert_eq!(directory.read("list"), faults(&circuit, &[]));
     assert_eq!(words(&circuit), stopped(&format!("{} is one of the files that are read", circuit.display())));
     assert_eq!(directory.read("c17.bench"), fs::read_to_string(example("c17")).expect("c17"));
-    // of two places the last
-    let words_twice = [Path::new("faults"), &circuit, Path::new("-o"), &directory.path("first"), Path::new("-o"), &out];
-    assert_eq!(printed(&words_twice), "");
     let missing = directory.path("missing/list");
-    assert_eq!(words(&missing).0, Some(2));
+    assert_eq!(words(&missing), stopped(&format!("the directory of {} is missing or can't be entered", missing.display())));
+    assert_eq!(words(Path::new("")), stopped("the name of the file to be written is empty"));
     assert_eq!(directory.names(), ["c17.bench", "list"]);
 }
 
@@ -197,5 +195,6 @@ fn the_largest() {
     let text = texts::largest(&mut Random::new(5), 2048, 64);
     let (path, named) = (directory.write("largest.bench", &text), Named::of_text(&text));
     assert_eq!(faults(&path, &["--pins"]), named.fault_lines(&named.faults(true)));
-    assert!(faults(&path, &["--pins", "--collapse"]).lines().count() < named.faults(true).len());
+    let firsts = firsts(&named.faults(true), &pairs(&named.circuit, textbook, wire));
+    assert_eq!(faults(&path, &["--pins", "--collapse"]), named.fault_lines(&firsts));
 }

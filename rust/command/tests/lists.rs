@@ -1,10 +1,11 @@
 //! Files of faults, of patterns and of marks: what is wrong in them, and where.
 mod harness;
 
-use cases::Directory;
+use cases::{circuits, Directory, Random};
 use harness::{example, refused, stopped, ullimaqsu, Said};
 use std::fs::File;
 use std::path::Path;
+use std::time::Instant;
 
 /// A directory with faults and patterns of c17 that nothing is wrong with.
 struct Lists {
@@ -60,6 +61,27 @@ fn faults() {
     }
     // bytes that are no text are shown as one line of text
     assert_eq!(lists.with("faults", b"\xff\x1b/0"), lists.about("faults", ": line 1, column 1: there is no line `\u{fffd}?`"));
+}
+
+/// Of a long word the beginning is said, and no name is offered for one that is longer than all of them: at once, however long it is.
+#[test]
+fn long_words() {
+    let lists = Lists::new("long words");
+    let longest = "abcdefghijklmnop";
+    let few = lists.directory.write("few", format!("INPUT({longest})\nOUTPUT({longest})\n"));
+    let many = lists.directory.write("many", circuits::circuit(&mut Random::new(1), 2048, 64));
+    let no_line = |circuit: &Path, name: &str, says: &str| {
+        let list = lists.directory.write("list", format!("{name}/0\n"));
+        let said = ullimaqsu(&[Path::new("search"), circuit, Path::new("--faults"), &list]);
+        assert_eq!(said, refused(&format!("{}: line 1, column 1: there is no line {says}", list.display())));
+    };
+    no_line(&few, &format!("{longest}qrs"), &format!("`{longest}qrs`; the nearest name is `{longest}`"));
+    no_line(&few, &format!("{longest}qrst"), &format!("`{longest}qrst`"));
+    no_line(&few, &"ä".repeat(40), &format!("`{}`", "ä".repeat(40)));
+    no_line(&few, &"ä".repeat(41), &format!("`{}..`", "ä".repeat(40)));
+    let began = Instant::now();
+    no_line(&many, &"1".repeat(2_000_000), &format!("`{}..`", "1".repeat(40)));
+    assert!(began.elapsed().as_secs_f64() < 5.0, "{:?}", began.elapsed());
 }
 
 #[test]

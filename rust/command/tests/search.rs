@@ -145,14 +145,14 @@ fn many_inputs() {
     assert!(said.ends_with("2 faults: 1 test, 0 redundant, 1 given up\n"), "{said}");
 }
 
-/// Without a budget the search looks at a million nodes, here of the 2^65 that it would need: a parity and its opposite are never both 1.
+/// Without a budget the search looks at 100,000 nodes, here of the 2^65 that it would need: a parity and its opposite are never both 1.
 #[test]
 fn the_budget_if_nothing_is_said() {
     let directory = Directory::new("budget");
     let never = [circuits::record(circuits::NOT, false, 126, 0), circuits::record(circuits::AND, true, 126, 127)].concat();
     let path = directory.write("never.rec", [circuits::parity(), never].concat());
     let said = printed(&["search", path.to_str().expect("text"), "128/0", "--csv"]);
-    assert!(said.ends_with(&format!("\n128/0,given up,1000000{}\n", ",".repeat(64))), "{said}");
+    assert!(said.ends_with(&format!("\n128/0,given up,100000{}\n", ",".repeat(64))), "{said}");
 }
 
 /// Faults as words and as a file give the same; and each test, used as a pattern, fails its fault.
@@ -235,12 +235,14 @@ fn what_is_wrong() {
 #[test]
 fn nobody_reads() {
     let directory = Directory::new("unread search");
-    let (circuit, out) = (example("c17"), directory.path("tests"));
-    let words = ["search", circuit.to_str().expect("text"), "--all", "-o", out.to_str().expect("text")];
-    assert_eq!(into_broken(&words), (Some(141), String::new(), String::new()));
-    let (status, _, said) = into_full(&words);
-    assert_eq!((status, said.as_str()), (Some(2), "ullimaqsu: standard output could not be written: No space left on device\n"));
-    assert_eq!(directory.names(), [""; 0]);
+    directory.write("old", "tests of old");
+    for name in ["old", "new"] {
+        let (circuit, out) = (example("c17"), directory.path(name));
+        let words = ["search", circuit.to_str().expect("text"), "--all", "-o", out.to_str().expect("text")];
+        assert_eq!(into_broken(&words), (Some(141), String::new(), String::new()));
+        assert_eq!(into_full(&words), stopped("standard output could not be written: No space left on device"));
+    }
+    assert_eq!((directory.read("old").as_str(), directory.names()), ("tests of old", vec!["old".to_string()]));
 }
 
 /// That the tests can't be written is said before anything is searched, and nothing is written over what is read.

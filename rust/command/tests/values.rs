@@ -443,7 +443,18 @@ fn what_is_refused() {
     let (status, _, said) = ullimaqsu(&[Path::new("values"), &path, Path::new("00000"), Path::new("--svg"), &path]);
     assert_eq!((status, said.lines().count()), (Some(2), 1), "{said}");
     assert_eq!(fs::read(&path).expect("c17"), fs::read(example("c17")).expect("c17"));
-    let words = ["values", path.to_str().expect("text"), "00000"];
-    assert_eq!(into_full(&words).0, Some(2));
-    assert_eq!(into_broken(&words).1, "");
+}
+
+/// No picture takes its place where the table could not be printed, and nothing is left beside it.
+#[test]
+fn nobody_reads() {
+    let directory = Directory::new("unread values");
+    directory.write("old.svg", "a picture of old");
+    for name in ["old.svg", "new.svg"] {
+        let (circuit, picture) = (example("c17"), directory.path(name));
+        let words = ["values", circuit.to_str().expect("text"), "00000", "--svg", picture.to_str().expect("text")];
+        assert_eq!(into_full(&words), stopped("standard output could not be written: No space left on device"));
+        assert_eq!(into_broken(&words), (Some(141), String::new(), String::new()));
+    }
+    assert_eq!((directory.read("old.svg").as_str(), directory.names()), ("a picture of old", vec!["old.svg".to_string()]));
 }

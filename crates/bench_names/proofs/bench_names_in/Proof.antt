@@ -16,28 +16,28 @@ slice-reshare-prefix-hand-over : tie.Need-slice-reshare-prefix-hand-over
 slice-reshare-prefix-hand-over c =
     let read = c .before .before .before .before .before .before .before in
     let p = entry read .pre in
-    omega (arith, few (p .1) (read .read-text .ensures) (c .before .v2 .given .1), read .read-text .kept .1 .0, p .0)
+    omega (arith, few (entry read .args .text .now) (p .1) (read .read-text .ensures) (c .before .v2 .given .1), read .read-text .kept .1 .0, p .0)
 
 slice-aggregate-hand-over : tie.Need-slice-aggregate-hand-over
 slice-aggregate-hand-over c =
     let read = c .before .before .before .before .before .before .before .before in
     let p = entry read .pre in
-    sym (length-take-le _ _ (omega (arith, few (p .1) (read .read-text .ensures) (c .before .before .v2 .given .1), read .read-text .kept .1 .0, p .0)))
+    sym (length-take-le _ _ (omega (arith, few (entry read .args .text .now) (p .1) (read .read-text .ensures) (c .before .before .v2 .given .1), read .read-text .kept .1 .0, p .0)))
 
 hand-over-requires : tie.Need-hand-over-requires
 hand-over-requires c κs =
     let read = c .before .before .before .before .before .before .before .before .before in
-    found-few (entry read .pre .1) (read .read-text .ensures) (c .before .before .before .v2 .given .1)
+    found-few (entry read .args .text .now) (entry read .pre .1) (read .read-text .ensures) (c .before .before .before .v2 .given .1)
 
 returns : tie.Need-returns
 returns c =
     let read = c .before .before .before .before .before .before .before in
-    names-refused (entry read .pre .1) (read .read-text .ensures) (c .before .v .given .1)
+    names-refused _ (entry read .pre .1) (read .read-text .ensures) (c .before .v .given .1)
 
 returns-2 : tie.Need-returns-2
 returns-2 c =
     let read = c .before .before .before .before .before .before .before .before .before .before .before .before in
-    names-found (entry read .pre .1) (read .read-text .ensures) (c .before .before .before .before .before .before .v2 .given .1) (c .before .before .hand-over .ensures)
+    names-found _ (entry read .pre .1) (read .read-text .ensures) (c .before .before .before .before .before .before .v2 .given .1) (c .before .before .hand-over .ensures)
 
 pub bench-names-in-spec : {M : Type 1} → statement M
 bench-names-in-spec =

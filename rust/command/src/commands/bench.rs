@@ -5,7 +5,7 @@ use crate::explain::{explain, MOST_BYTES};
 use crate::files;
 use crate::out::Out;
 use crate::problem::{shown, Problem};
-use crate::replace::{Place, Source};
+use crate::replace::{once_printed, Place};
 use crate::words::Words;
 use std::path::{Path, PathBuf};
 use ullimaqsu::{bench, check, Counts, Refusal, LARGEST_CIRCUIT};
@@ -30,16 +30,12 @@ fn run(words: &Words, out: &mut Out) -> Result<(), Problem> {
     let file = words.at(0);
     let text = files::read(file, MOST_BYTES + 1)?;
     let path = words.path(1).map_or_else(|| beside(file), |path| Ok(path.to_path_buf()))?;
-    let place = Place::find(&path, &[Source { path: file, called: "the text itself" }])?;
+    let place = Place::find(&path, &[file])?;
     match records(&text) {
-        Ok((records, counts)) => {
-            let new = place.write(&records)?;
-            // a report that can't be printed is a failure too: what stands there then stays
-            report(out, &counted(&counts))?;
-            new.take_place()
-        }
+        Ok((records, counts)) => once_printed([(place, records)], counted(&counts), out),
         Err(refusal) => {
-            report(out, &format!("refused {} {}\n", refusal.number, refusal.place))?;
+            out.print(&format!("refused {} {}\n", refusal.number, refusal.place))?;
+            out.flush()?;
             Err(Problem::Refused(format!("{}: {}", shown(file), explain(&text, &refusal))))
         }
     }
@@ -59,9 +55,4 @@ fn records(text: &[u8]) -> Result<(Vec<u8>, Counts), Refusal> {
     records.truncate(8 * count as usize);
     let counts = check(&records)?;
     Ok((records, counts))
-}
-
-fn report(out: &mut Out, line: &str) -> Result<(), Problem> {
-    out.print(line)?;
-    out.flush()
 }

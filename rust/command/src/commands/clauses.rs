@@ -4,10 +4,9 @@ use crate::circuit::Circuit;
 use crate::fault::Fault;
 use crate::out::Out;
 use crate::problem::Problem;
-use crate::replace::replace;
+use crate::replace::write_or_print;
 use crate::words::{Choice, Words};
 use std::fmt::Write;
-use std::path::Path;
 
 pub const COMMAND: Command = Command {
     name: "clauses",
@@ -33,10 +32,7 @@ fn run(words: &Words, out: &mut Out) -> Result<(), Problem> {
     let fault = Fault::given(&words.from(1).next().expect("two words were asked for"), &circuit)?;
     let comments = if words.has("--comments") { comments(&circuit, fault) } else { String::new() };
     let text = comments + &dimacs(&circuit, fault);
-    match words.value("-o") {
-        Some(into) => replace(Path::new(into), text.as_bytes(), &[file]),
-        None => out.print(&text),
-    }
+    write_or_print(words.place("-o", &[file])?, text.as_bytes(), out)
 }
 
 /// Asks how many words there will be, and then for the words.

@@ -6,9 +6,8 @@ use crate::marks::letter;
 use crate::out::Out;
 use crate::pattern::Pattern;
 use crate::problem::Problem;
-use crate::replace::{find, New};
+use crate::replace::once_printed;
 use crate::words::{Choice, Words};
-use std::path::Path;
 
 pub const COMMAND: Command = Command {
     name: "compact",
@@ -33,23 +32,16 @@ At most 256 faults and 256 patterns.",
 
 fn run(words: &Words, out: &mut Out) -> Result<(), Problem> {
     let form = Form::of(words, &COMMAND)?;
-    let (kept_to, marks_to) = (words.value("-o"), words.value("--marks"));
-    if kept_to.is_some() && kept_to == marks_to {
-        return Err(COMMAND.misused("writes the patterns and their marks to two files, not to one"));
-    }
     let listed = Listed::load(words, &COMMAND)?;
     let mut marks = vec![0; listed.patterns.len()];
     ullimaqsu::compact(listed.faults.len() as u64, listed.patterns.len() as u64, &listed.table, &mut marks)
         .expect("the table of a dictionary is never refused");
     let kept_lines: String = kept(&listed, &marks).map(|pattern| pattern.letters() + "\n").collect();
     let mark_lines: String = marks.iter().map(|&mark| format!("{}\n", letter(mark))).collect();
-    // neither file takes its place before both are written and all is printed
     let sources = [words.at(0), words.at(1), words.at(2)];
-    let asked = [(kept_to, kept_lines), (marks_to, mark_lines)].into_iter().filter_map(|(to, lines)| Some((Path::new(to?), lines)));
-    let new = asked.map(|(to, lines)| find(to, &sources)?.write(lines.as_bytes())).collect::<Result<Vec<New>, Problem>>()?;
-    out.print(&printed(&listed, &marks, form))?;
-    out.flush()?;
-    new.into_iter().try_for_each(New::take_place)
+    let asked = [(words.place("-o", &sources)?, kept_lines), (words.place("--marks", &sources)?, mark_lines)];
+    let files = asked.into_iter().filter_map(|(place, lines)| Some((place?, lines)));
+    once_printed(files, printed(&listed, &marks, form), out)
 }
 
 /// The patterns that are kept.

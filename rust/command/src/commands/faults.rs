@@ -5,9 +5,8 @@ use crate::collapse::collapsed;
 use crate::fault;
 use crate::out::Out;
 use crate::problem::Problem;
-use crate::replace::replace;
+use crate::replace::write_or_print;
 use crate::words::{Choice, Words};
-use std::path::Path;
 
 pub const COMMAND: Command = Command {
     name: "faults",
@@ -39,8 +38,5 @@ fn run(words: &Words, out: &mut Out) -> Result<(), Problem> {
         faults = collapsed(&circuit, faults);
     }
     let text: String = faults.iter().map(|fault| fault.named(&circuit) + "\n").collect();
-    match words.value("-o") {
-        Some(to) => replace(Path::new(to), text.as_bytes(), &[path]),
-        None => out.print(&text),
-    }
+    write_or_print(words.place("-o", &[path])?, text.as_bytes(), out)
 }

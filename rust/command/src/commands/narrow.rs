@@ -4,9 +4,8 @@ use crate::files;
 use crate::narrow::narrowed;
 use crate::out::Out;
 use crate::problem::{shown, Problem};
-use crate::replace::{Place, Source};
+use crate::replace::write_or_print;
 use crate::words::{Choice, Words};
-use std::path::Path;
 
 /// The most bytes of a text that is rewritten.
 const MOST_BYTES: usize = 1 << 20;
@@ -37,8 +36,5 @@ fn run(words: &Words, out: &mut Out) -> Result<(), Problem> {
         return Err(Problem::Stopped(format!("{} has more than {} MiB", shown(file), MOST_BYTES >> 20)));
     }
     let narrow = narrowed(&text).map_err(|says| Problem::Refused(format!("{}: {says}", shown(file))))?;
-    match words.value("-o") {
-        Some(path) => Place::find(Path::new(path), &[Source { path: file, called: "the text itself" }])?.write(&narrow)?.take_place(),
-        None => out.print_bytes(&narrow),
-    }
+    write_or_print(words.place("-o", &[file])?, &narrow, out)
 }

@@ -8,8 +8,8 @@ use crate::fault::{self, Fault};
 use crate::form::{Form, CSV, JSON};
 use crate::out::Out;
 use crate::problem::Problem;
-use crate::replace::find;
-use crate::words::{Choice, Words};
+use crate::replace::once_printed;
+use crate::words::{cited, Choice, Words};
 use pieces::{search_all, Found};
 use printer::Printer;
 use std::path::Path;
@@ -22,7 +22,7 @@ pub const COMMAND: Command = Command {
     choices: &[
         Choice { name: "--all", value: None, says: "searches for every fault of the circuit, at its pins too" },
         Choice { name: "--faults", value: Some("FILE"), says: "searches for the faults of FILE" },
-        Choice { name: "--budget", value: Some("N"), says: "looks at N nodes at most for each fault (1000000 if nothing is said)" },
+        Choice { name: "--budget", value: Some("N"), says: "looks at N nodes at most for each fault (100000 if nothing is said)" },
         Choice { name: "-o", value: Some("FILE"), says: "writes the tests to FILE, as patterns with their faults as comments" },
         CSV,
         JSON,
@@ -36,7 +36,7 @@ is `test`; `redundant` where no pattern at all detects the fault; or `given up` 
 };
 
 /// The budget if nothing is said, as the help has it.
-const BUDGET: u64 = 1_000_000;
+const BUDGET: u64 = 100_000;
 
 fn run(words: &Words, out: &mut Out) -> Result<(), Problem> {
     let (form, budget) = (Form::of(words, &COMMAND)?, budget(words)?);
@@ -47,7 +47,7 @@ fn run(words: &Words, out: &mut Out) -> Result<(), Problem> {
     let circuit = Circuit::load(words.at(0))?;
     let faults = asked(words, &circuit)?;
     // a search may be long: whether its tests can be written is seen before
-    let place = words.value("-o").map(|to| find(Path::new(to), &sources(words))).transpose()?;
+    let place = words.place("-o", &sources(words))?;
     let mut printer = Printer::new(form, &circuit, &faults, budget);
     out.print(&printer.head())?;
     out.flush()?;
@@ -55,24 +55,19 @@ fn run(words: &Words, out: &mut Out) -> Result<(), Problem> {
         piece.iter().try_for_each(|found| out.print(&printer.line(found)))?;
         out.flush()
     })?;
-    out.print(&printer.foot(&found))?;
-    out.flush()?;
-    match place {
-        Some(place) => place.write(tests(&circuit, &found).as_bytes())?.take_place(),
-        None => Ok(()),
-    }
+    once_printed(place.map(|place| (place, tests(&circuit, &found))), printer.foot(&found), out)
 }
 
 fn budget(words: &Words) -> Result<u64, Problem> {
     let Some(value) = words.value("--budget") else { return Ok(BUDGET) };
-    let text = value.to_string_lossy();
-    text.parse().map_err(|_| COMMAND.misused(&format!("wants a number of nodes after --budget, and `{text}` is none")))
+    let none = || COMMAND.misused(&format!("wants a number of nodes after --budget, and {} is none", cited(value)));
+    value.to_string_lossy().parse().map_err(|_| none())
 }
 
 /// The faults that are searched for.
 fn asked(words: &Words, circuit: &Circuit) -> Result<Vec<Fault>, Problem> {
-    match words.value("--faults") {
-        Some(file) => fault::load(Path::new(file), circuit),
+    match words.file("--faults") {
+        Some(file) => fault::load(file, circuit),
         None if words.has("--all") => Ok(fault::all(circuit, true)),
         None => words.from(1).map(|word| Fault::given(&word, circuit)).collect(),
     }
@@ -80,7 +75,7 @@ fn asked(words: &Words, circuit: &Circuit) -> Result<Vec<Fault>, Problem> {
 
 /// The files that were read.
 fn sources(words: &Words) -> Vec<&Path> {
-    [Some(words.at(0)), words.value("--faults").map(Path::new)].into_iter().flatten().collect()
+    [Some(words.at(0)), words.file("--faults")].into_iter().flatten().collect()
 }
 
 /// The tests as a file of patterns.

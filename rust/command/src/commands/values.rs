@@ -8,10 +8,9 @@ use crate::form::{csv_row, list, quoted, Form, CSV, JSON};
 use crate::out::Out;
 use crate::pattern::Pattern;
 use crate::problem::Problem;
-use crate::replace::replace;
+use crate::replace::once_printed;
 use crate::simulation::Simulation;
-use crate::words::{Choice, Words};
-use std::path::Path;
+use crate::words::{cited, Choice, Words};
 
 pub const COMMAND: Command = Command {
     name: "values",
@@ -41,20 +40,20 @@ fn run(words: &Words, out: &mut Out) -> Result<(), Problem> {
     let pattern = pattern(&given[0], &circuit)?;
     let fault = given.get(1).map(|word| Fault::given(word, &circuit)).transpose()?;
     let simulation = Simulation::of(&circuit, pattern, fault);
-    if let Some(picture) = words.value("--svg") {
-        replace(Path::new(picture), drawing::draw(&circuit, &simulation).as_bytes(), &[file])?;
-    }
-    out.print(&match form {
+    let picture = words.place("--svg", &[file])?.map(|place| (place, drawing::draw(&circuit, &simulation)));
+    let text = match form {
         Form::Table => table(&circuit, &simulation),
         Form::Csv => csv(&circuit, &simulation),
         Form::Json => json(&circuit, &simulation),
-    })
+    };
+    once_printed(picture, text, out)
 }
 
 /// The pattern of a word, whose letters are counted from 1 where one is wrong.
 fn pattern(word: &str, circuit: &Circuit) -> Result<Pattern, Problem> {
     let column = |byte: usize| word[..byte].chars().count() + 1;
-    Pattern::read(word, circuit).map_err(|(byte, says)| Problem::Refused(format!("pattern `{word}`, column {}: {says}", column(byte))))
+    Pattern::read(word, circuit)
+        .map_err(|(byte, says)| Problem::Refused(format!("pattern {}, column {}: {says}", cited(word), column(byte))))
 }
 
 /// What stands above the cells of a line.

@@ -1,7 +1,6 @@
 //! The new file, until it takes its place.
 use super::Place;
 use crate::files::why;
-use crate::problem::Problem;
 use std::collections::hash_map::RandomState;
 use std::fs::{self, File, OpenOptions};
 use std::hash::{BuildHasher, Hasher};
@@ -17,23 +16,23 @@ const ANYBODY: u32 = 0o666;
 
 /// A file beside the place, all written. It is removed unless it takes the place.
 pub struct New {
-    place: Place,
+    pub place: Place,
     path: PathBuf,
     placed: bool,
 }
 
 impl New {
-    pub fn write(place: Place, bytes: &[u8]) -> Result<New, Problem> {
+    /// Makes it in the same directory, and writes it.
+    pub fn write(place: Place, bytes: &[u8]) -> Result<New, String> {
         let mode = if place.old.is_some() { OWN } else { ANYBODY };
-        let (mut file, path) =
-            made_beside(&place.path, mode).map_err(|_| Problem::Stopped(format!("no file can be made beside {}", place.shown)))?;
+        let (mut file, path) = made_beside(&place.path, mode).map_err(|_| format!("no file can be made beside {}", place.shown))?;
         let new = New { place, path, placed: false };
         file.write_all(bytes).map_err(|error| new.unwritten(error))?;
         Ok(new)
     }
 
     /// It takes its place, with the mode and as far as may be the owner of what stood there. What has become a directory meanwhile stays.
-    pub fn take_place(mut self) -> Result<(), Problem> {
+    pub fn take_place(mut self) -> Result<(), String> {
         if let Some(old) = &self.place.old {
             // not everybody may give files away, and where there are no modes nobody can set them: what is new is then the caller's own. The mode
             // comes last, as a change of owners takes some of its bits
@@ -45,8 +44,8 @@ impl New {
         Ok(())
     }
 
-    fn unwritten(&self, error: io::Error) -> Problem {
-        Problem::Stopped(format!("{} could not be written: {}", self.place.shown, why(&error)))
+    fn unwritten(&self, error: io::Error) -> String {
+        format!("{} could not be written: {}", self.place.shown, why(&error))
     }
 }
 

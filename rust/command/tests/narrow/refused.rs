@@ -162,7 +162,7 @@ fn files() {
     stays(ullimaqsu(&[narrow, &wrong, o, &out]), 1, "two or more sources");
     stays(ullimaqsu(&[narrow, &directory.0.join("absent"), o, &out]), 2, "there is no file");
     stays(ullimaqsu(&[narrow, &directory.0, o, &out]), 2, "is a directory");
-    stays(ullimaqsu(&[narrow, &file, o, &file]), 2, "is the text itself");
+    stays(ullimaqsu(&[narrow, &file, o, &file]), 2, "is one of the files that are read");
     stays(ullimaqsu(&[narrow, &file, o, &directory.0]), 2, "is a directory");
     stays(ullimaqsu(&[narrow, &file, o]), 2, "-o");
     stays(ullimaqsu(&[narrow]), 2, "--help");
