@@ -1,2 +1,3 @@
 pub mod OneResult
 pub mod Engines
+pub mod Lent

@@ -6,7 +6,7 @@ use mathlib.Core.List.{List}
 use Prim.Native.Nat.{ℕ}
 use lib.IntN.{ℤ}
 use lib.ListN.{length}
-use Rattle.answers.specs.Rules.{refusal, unless}
+use Rattle.answers.specs.Rules.{Rule, refusal, unless}
 use Rattle.answers.specs.Area.{Numbers, success, told, done, Entered, entered}
 use Rattle.circuit.specs.Record.{linesOf, inputsOf, outputsOf}
 use Rattle.circuit.specs.Promise.{circuitRules}
@@ -47,10 +47,15 @@ DictionaryEntered c fs ps t w a r t′ w′ a′ = EngineEntered 2 (tableWork c 
 abbrev pub DictionaryLanesEntered : List ℕ → List ℕ → List ℕ → List ℕ → List ℕ → List ℕ → ℕ → List ℕ → List ℕ → List ℕ → Type 0
 DictionaryLanesEntered c fs ps t w a r t′ w′ a′ = EngineEntered 4 (laneWork c (linesOf c) (inputsOf c) fs ps) c fs ps t w a r t′ w′ a′
 
--- the compactor: done; the marks m, lent with the answer area a, become m′
-pub record CompactEntered (F P : ℕ) (t m a : List ℕ) (r : ℕ) (m′ a′ : List ℕ) : Type 0 where
-  pub answer : Entered a (told (refusal (keptRules F P t m)) done) r a′
-  pub marks : m′ ≡ entered a m (unless (refusal (keptRules F P t m)) m (needs.compacted (entriesOf F t) F P))
+-- a part with one lent memory, and its answer in numbers where none of the rules refuses: the memory m, lent with the answer area a, becomes
+-- m′, which is to hold `new`
+pub record LentEntered {A : Type 0} (rules : List Rule) (good : Numbers) (m new : List A) (a : List ℕ) (r : ℕ) (m′ : List A) (a′ : List ℕ) : Type 0 where
+  pub answer : Entered a (told (refusal rules) good) r a′
+  pub lent : m′ ≡ entered a m (unless (refusal rules) m new)
+
+-- the compactor: done; the marks m
+abbrev pub CompactEntered : ℕ → ℕ → List ℕ → List ℕ → List ℕ → ℕ → List ℕ → List ℕ → Type 0
+CompactEntered F P t m a r m′ a′ = LentEntered (keptRules F P t m) done m (needs.compacted (entriesOf F t) F P) a r m′ a′
 
 -- the audit of a kept list, of the table t and the marks m: the finding and its place
 abbrev pub auditNumbers : ℕ → ℕ → List ℕ → List ℕ → Numbers
@@ -70,21 +75,17 @@ pub record SearchAllEntered (c fs bs o k t w a : List ℕ) (r : ℕ) (o′ k′ 
   pub tests : t′ ≡ entered a t (unless (refusal (searchAllRules c fs bs o k t w)) t (testsFor c fs bs t))
   pub work : w′ ≡ entered a w (unless (refusal (searchAllRules c fs bs o k t w)) w (worksFor c fs bs w))
 
--- the clause writer: words, clauses and variables; the words w become w′
-pub record ClausesEntered (c f : List ℕ) (w : List ℤ) (a : List ℕ) (r : ℕ) (w′ : List ℤ) (a′ : List ℕ) : Type 0 where
-  pub answer :
-      Entered a
-      (told (refusal (clauseRules c f (length w)))
-      (success (length (wordsFor c (faultAt f 0))) (length (clausesFor c (faultAt f 0))) (variablesOf c (linesOf c))))
-      r a′
-  pub words : w′ ≡ entered a w (unless (refusal (clauseRules c f (length w))) w (laidOn w (wordsFor c (faultAt f 0))))
+-- the clause writer: words, clauses and variables; the words w
+abbrev pub ClausesEntered : List ℕ → List ℕ → List ℤ → List ℕ → ℕ → List ℤ → List ℕ → Type 0
+ClausesEntered c f w a r w′ a′ =
+    LentEntered (clauseRules c f (length w))
+    (success (length (wordsFor c (faultAt f 0))) (length (clausesFor c (faultAt f 0))) (variablesOf c (linesOf c)))
+    w (laidOn w (wordsFor c (faultAt f 0))) a r w′ a′
 
--- the reader of the bench notation: records; the buffer c, lent with the answer area a, becomes c′
-pub record BenchEntered (t c a : List ℕ) (r : ℕ) (c′ a′ : List ℕ) : Type 0 where
-  pub answer : Entered a (told (refusal (benchRules t (length c))) (success (linesOf (recordsIn t)) 0 0)) r a′
-  pub circuit : c′ ≡ entered a c (unless (refusal (benchRules t (length c))) c (laidOn c (recordsIn t)))
+-- the reader of the bench notation: records; the buffer c
+abbrev pub BenchEntered : List ℕ → List ℕ → List ℕ → ℕ → List ℕ → List ℕ → Type 0
+BenchEntered t c a r c′ a′ = LentEntered (benchRules t (length c)) (success (linesOf (recordsIn t)) 0 0) c (laidOn c (recordsIn t)) a r c′ a′
 
--- the names of a text's lines: records; the places p, lent with the answer area a, become p′
-pub record BenchNamesEntered (t p a : List ℕ) (r : ℕ) (p′ a′ : List ℕ) : Type 0 where
-  pub answer : Entered a (told (refusal (placeRules t (length p))) (success (linesOf (recordsIn t)) 0 0)) r a′
-  pub places : p′ ≡ entered a p (unless (refusal (placeRules t (length p))) p (laidOn p (placesIn t)))
+-- the names of a text's lines: records; the places p
+abbrev pub BenchNamesEntered : List ℕ → List ℕ → List ℕ → ℕ → List ℕ → List ℕ → Type 0
+BenchNamesEntered t p a r p′ a′ = LentEntered (placeRules t (length p)) (success (linesOf (recordsIn t)) 0 0) p (laidOn p (placesIn t)) a r p′ a′
