@@ -1,7 +1,7 @@
 /* Ullimaqsu: proved test tools for combinational circuits and single stuck-at faults, for C99 and C++.
  *
- * Link with libullimaqsu.a, as `./ullimaqsu install` puts it. Every entry is total: it takes any bytes of any length, answers what is described here and
- * nothing else, keeps no state and writes nothing but what it was lent.
+ * Link with libullimaqsu.a, as `./ullimaqsu install` puts it. Every entry is total: it takes any bytes of any length, answers what is
+ * described here and nothing else, keeps no state and writes nothing but what it was lent.
  *
  * Conventions
  *
