@@ -11,6 +11,7 @@ use Rattle.answers.specs.Rules.{refusal, AllHold}
 use Rattle.answers.proofs.Rules.{all-hold, both-fine}
 use Rattle.answers.proofs.Answer.{was-ruled}
 use Rattle.gates.specs.Gate.{pinsOf}
+use Rattle.gates.proofs.Laws.{gate-pin}
 use Rattle.circuit.specs.declared.Checked.{Checked}
 use Rattle.circuit.specs.declared.Checked.the-variants.{Accepted, Refused}
 use Rattle.circuit.specs.Record.{kindAt, linesOf, inputsOf, outputsOf}
@@ -18,7 +19,7 @@ use Rattle.circuit.specs.Layout.{Layout}
 use Rattle.circuit.specs.Promise.{layoutRules, countRules, circuitRules, checkOf, Checks}
 use Rattle.circuit.specs.Formed.{Lower, Good, Accepts, Known}
 use Rattle.circuit.proofs.Says.{circuit-says, rulingOf, ruled}
-use Rattle.circuit.proofs.FirstLine.{gate-pin, some-input}
+use Rattle.circuit.proofs.FirstLine.{some-input}
 
 -- a gate has a first pin, so its line is not the lowest, and a source that it lacks is lower too
 lower : (c : List ℕ) (k : ℕ) → Layout c k → (kindAt c k ≡ 0 → ⊥) → Lower c k

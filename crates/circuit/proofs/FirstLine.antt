@@ -1,14 +1,12 @@
 -- Why no refusal has the number 3: a gate reads a line below it, and below line 0 there is none, so past refusal 2 there is an input.
 -- Assumes nothing.
 use mathlib.Core.Path.{_≡_, refl, sym, _∙_}
-use mathlib.Core.Bool.{Bool, true, false}
 use mathlib.Core.List.{List, _∷_, _++_}
 use Prim.Native.Nat.{ℕ, _≤_}
 use native.Mathlib.Decide.{ℕ-discrete}
 use native.Mathlib.Omega.{arith}
 use lib.Dec.{leb}
-use borrow.Author.Tests.{ne-eqb, eq-eqb, le-leb}
-use Rattle.ground.specs.Choose.{choose}
+use borrow.Author.Tests.{eq-eqb, le-leb}
 use Rattle.ground.proofs.Counting.{count-below}
 use Rattle.answers.specs.declared.Ruling.{Ruling}
 use Rattle.answers.specs.declared.Ruling.the-variants.{Fine, Refused}
@@ -16,7 +14,7 @@ use Rattle.answers.specs.Rules.{Rule, orElse, said, refusal, AllHold}
 use Rattle.answers.specs.Rules.Rule.{whole}
 use Rattle.answers.proofs.Rules.{all-hold, in-order}
 use Rattle.answers.proofs.Numbers.{refused-number}
-use Rattle.gates.specs.Gate.{pinsOf}
+use Rattle.gates.proofs.Laws.{gate-pin}
 use Rattle.circuit.specs.declared.Checked.{Checked}
 use Rattle.circuit.specs.Record.{kindAt, linesOf, isInput, inputsOf, outputsOf}
 use Rattle.circuit.specs.Layout.{Layout}
@@ -24,16 +22,7 @@ use Rattle.circuit.specs.Promise.{layoutRules, countRules, circuitRules,
 use Rattle.circuit.proofs.Answer.{layout-refused}
 use Rattle.circuit.proofs.Says.{layout-says}
 
--- a gate has a first pin
-pub gate-pin : (kind : ℕ) → (kind ≡ 0 → ⊥) → 1 ≤ pinsOf kind
-unfolding pinsOf
-gate-pin kind ne = rw (ne-eqb kind 0 ne) (go (leb kind 2))
-  where
-    go : (t : Bool) → 1 ≤ choose t 1 2
-    go true = omega arith
-    go false = omega arith
-
--- and there is no line below line 0 for it to read
+-- a gate has a first pin, and there is no line below line 0 for it to read
 first-kind : (c : List ℕ) → Layout c 0 → kindAt c 0 ≡ 0
 first-kind c l = go (ℕ-discrete (kindAt c 0) 0)
   where

@@ -1,5 +1,5 @@
 -- The layout of a circuit record, field by field: as a test, and in the paper's words. They are proved equivalent.
--- The fields in layout order: 0 the kind, 1 the output byte, 2 the first source, 3 the second, 4 the last two bytes, which are pin 3 and which no kind has.
+-- The fields in layout order: 0 the kind, 1 the output byte, then the sources: 2 the first, 3 the second, 4 the select line, which the selector alone has.
 -- Assumes nothing.
 use mathlib.Core.Path.{_≡_}
 use mathlib.Core.Bool.{Bool}

@@ -16,10 +16,10 @@ use Rattle.lists.specs.declared.Fault.{Fault}
 use Rattle.cnf.specs.declared.Size.{Size}
 use Rattle.ground.specs.Lists.{gather}
 use Rattle.cnf.specs.Cnf.{Clauses}
-use Rattle.cnf.specs.Table.{clauseTable, gateClauses, sites}
+use Rattle.cnf.specs.Table.{clauseTable, gateClauses}
 use Rattle.cnf.specs.Owed.{sizeOf, Takes}
 use Rattle.cnf.proofs.Sizes.{size-append, Measure, in-words, in-clauses, measure-both}
-use Rattle.line_clauses.specs.Clauses.{differenceVar, goodVar, faultyVar, goodClauses, faultyClauses, differenceClauses, differences, clausesOf}
+use Rattle.line_clauses.specs.Clauses.{differenceVar, goodVar, faultyVar, goodClauses, faultyClauses, xorClauses, differenceClauses, differences, clausesOf}
 use Rattle.line_clauses.specs.Owed.{LineSizeDone}
 
 -- ---- the loop: what the first k lines take
@@ -54,7 +54,7 @@ module _ {measure : Clauses → ℕ} (m : Measure measure) (much : ℕ) (xor : (
   unfolding differenceClauses
   at-line k = go (isOutput c k)
     where
-      go : (t : Bool) → measure (choose t (gateClauses 7 (sites (differenceVar n (outputsBefore c k)) (goodVar k) (faultyVar k))) []) ≡ much * one t
+      go : (t : Bool) → measure (choose t (xorClauses (differenceVar n (outputsBefore c k)) (goodVar k) (faultyVar k)) []) ≡ much * one t
       go true = xor _ ∙ sym (mul-one much)
       go false = m .none ∙ sym (mul-zero much)
 

@@ -9,77 +9,85 @@ use lib.Dec.{T, eqb, leb}
 use lib.IntN.{pos, negℤ}
 use lib.ListN.{length, getD}
 use mir.Facts.{and-yes}
-use borrow.Author.Tests.{ne-eqb, leb-true}
+use borrow.Author.Tests.{ne-eqb, eqb-true, eqb-false, leb-true}
 use Rattle.ground.specs.Below.{allBelow}
 use Rattle.ground.proofs.Below.{at-below}
 use Rattle.ground.proofs.Tests.{T-is}
-use Rattle.gates.specs.Gate.{lastKind}
+use Rattle.gates.specs.Gate.{lastKind, selector, pinsOf}
 use Rattle.gates.specs.Boolean.{boolGate}
+use Rattle.gates.proofs.Laws.{few-pins, two-pins}
 use Rattle.cnf.specs.Lists.{anyOf, allOf}
 use Rattle.cnf.specs.Cnf.{Assignment, truth, satisfied, literalTo, variablesTo}
 use Rattle.cnf.specs.Table.{Literal, clauseTable, wordOf, gateClauses}
 use Rattle.cnf.proofs.Lists.{all-same, any-same, map-same, all-weaker, all-map}
 use Rattle.cnf.proofs.Decode.{plus-literal, minus-literal, minus-truth}
 
--- ---- the sites that a row names: the gate itself and two pins
+-- ---- the sites that a row names: the gate itself and the pins that its kind has
 
 siteOf : Literal → ℕ
 siteOf (Literal.plus s) = s
 siteOf (Literal.minus s) = s
 
-siteOk : Literal → Bool
-siteOk l = leb (siteOf l) 2
+siteOk : ℕ → Literal → Bool
+siteOk kind l = leb (siteOf l) (pinsOf kind)
 
 sitesTest : ℕ → Bool
-sitesTest kind = allOf (allOf siteOk) (clauseTable kind)
+sitesTest kind = allOf (allOf (siteOk kind)) (clauseTable kind)
 
 sites-all : T (allBelow (suc lastKind) sitesTest)
-unfolding sitesTest siteOk siteOf clauseTable
+unfolding sitesTest siteOk siteOf pinsOf clauseTable
 sites-all = tt
 
-sites-ok : (kind : ℕ) → kind ≤ lastKind → allOf (allOf siteOk) (clauseTable kind) ≡ true
+sites-ok : (kind : ℕ) → kind ≤ lastKind → allOf (allOf (siteOk kind)) (clauseTable kind) ≡ true
 unfolding sitesTest
 sites-ok kind l = T-is _ (at-below (suc lastKind) sitesTest sites-all kind (omega arith))
 
--- what holds at each of them
-at-site : (P : ℕ → Type 0) → P 0 → P 1 → P 2 → (l : Literal) → siteOk l ≡ true → P (siteOf l)
-unfolding siteOk
-at-site P own first second l e = go (siteOf l) (leb-true (siteOf l) 2 e)
+-- at each of them
+abbrev pub AtSites : ℕ → (ℕ → Type 0) → Type 0
+AtSites kind P = (s : ℕ) → s ≤ pinsOf kind → P s
+
+-- the third pin is the selector's alone
+pub at-sites : (kind : ℕ) (P : ℕ → Type 0) → P 0 → P 1 → P 2 → (kind ≡ selector → P 3) → AtSites kind P
+at-sites kind P own first second third zero h = own
+at-sites kind P own first second third (suc zero) h = first
+at-sites kind P own first second third (suc (suc zero)) h = second
+at-sites kind P own first second third (suc (suc (suc zero))) h = go (eqb kind selector) refl
   where
-    go : (s : ℕ) → s ≤ 2 → P s
-    go zero h = own
-    go (suc zero) h = first
-    go (suc (suc zero)) h = second
-    go (suc (suc (suc s))) h = absurd (omega arith)
+    go : (t : Bool) → eqb kind selector ≡ t → P 3
+    go true e = third (eqb-true kind selector e)
+    go false e = absurd (omega (arith, h, two-pins kind (eqb-false kind selector e)))
+at-sites kind P own first second third (suc (suc (suc (suc s)))) h = absurd (omega (arith, h, few-pins kind))
+
+-- so at the site of a literal
+of-literal : (kind : ℕ) {P : ℕ → Type 0} → AtSites kind P → (l : Literal) → siteOk kind l ≡ true → P (siteOf l)
+unfolding siteOk
+of-literal kind h l e = h (siteOf l) (leb-true (siteOf l) (pinsOf kind) e)
 
 -- a gate's clauses depend on these alone
-pub gate-sites : (kind : ℕ) (m n : ℕ → ℕ) → kind ≤ lastKind → m 0 ≡ n 0 → m 1 ≡ n 1 → m 2 ≡ n 2 → gateClauses kind m ≡ gateClauses kind n
+pub gate-sites : (kind : ℕ) (m n : ℕ → ℕ) → kind ≤ lastKind → AtSites kind (λ s. m s ≡ n s) → gateClauses kind m ≡ gateClauses kind n
 unfolding gateClauses siteOf
-gate-sites kind m n last own first second =
-    map-same (allOf siteOk) (map (wordOf m)) (map (wordOf n)) (map-same siteOk (wordOf m) (wordOf n) words) (clauseTable kind) (sites-ok kind last)
+gate-sites kind m n last same =
+    map-same (allOf (siteOk kind)) (map (wordOf m)) (map (wordOf n)) (map-same (siteOk kind) (wordOf m) (wordOf n) words) (clauseTable kind) (sites-ok kind last)
   where
-    words : (l : Literal) → siteOk l ≡ true → wordOf m l ≡ wordOf n l
-    words (Literal.plus s) e = ap pos (at-site (λ s. m s ≡ n s) own first second (Literal.plus s) e)
-    words (Literal.minus s) e = ap (λ (x : ℕ). negℤ (pos x)) (at-site (λ s. m s ≡ n s) own first second (Literal.minus s) e)
+    words : (l : Literal) → siteOk kind l ≡ true → wordOf m l ≡ wordOf n l
+    words (Literal.plus s) e = ap pos (of-literal kind same (Literal.plus s) e)
+    words (Literal.minus s) e = ap (λ (x : ℕ). negℤ (pos x)) (of-literal kind same (Literal.minus s) e)
 
 -- and name their variables alone
 abbrev pub NumberTo : ℕ → ℕ → Type 0
 NumberTo v n = (1 ≤ n) × (n ≤ v)
 
-pub gate-variables : (v kind : ℕ) (number : ℕ → ℕ) → kind ≤ lastKind → NumberTo v (number 0) → NumberTo v (number 1) → NumberTo v (number 2) → variablesTo v (gateClauses kind number) ≡ true
+pub gate-variables : (v kind : ℕ) (number : ℕ → ℕ) → kind ≤ lastKind → AtSites kind (λ s. NumberTo v (number s)) → variablesTo v (gateClauses kind number) ≡ true
 unfolding gateClauses siteOf
-gate-variables v kind number last own first second =
-    all-map (allOf (literalTo v)) (map (wordOf number)) (clauseTable kind) ∙ all-weaker (allOf siteOk) _ clause (clauseTable kind) (sites-ok kind last)
+gate-variables v kind number last to =
+    all-map (allOf (literalTo v)) (map (wordOf number)) (clauseTable kind) ∙ all-weaker (allOf (siteOk kind)) _ clause (clauseTable kind) (sites-ok kind last)
   where
-    to : (l : Literal) → siteOk l ≡ true → NumberTo v (number (siteOf l))
-    to = at-site (λ s. NumberTo v (number s)) own first second
+    literal : (l : Literal) → siteOk kind l ≡ true → literalTo v (wordOf number l) ≡ true
+    literal (Literal.plus s) e = let h = of-literal kind to (Literal.plus s) e in plus-literal v (number s) (h .0) (h .1)
+    literal (Literal.minus s) e = let h = of-literal kind to (Literal.minus s) e in minus-literal v (number s) (h .0) (h .1)
 
-    literal : (l : Literal) → siteOk l ≡ true → literalTo v (wordOf number l) ≡ true
-    literal (Literal.plus s) e = plus-literal v (number s) (to (Literal.plus s) e .0) (to (Literal.plus s) e .1)
-    literal (Literal.minus s) e = minus-literal v (number s) (to (Literal.minus s) e .0) (to (Literal.minus s) e .1)
-
-    clause : (c : List Literal) → allOf siteOk c ≡ true → allOf (literalTo v) (map (wordOf number) c) ≡ true
-    clause c e = all-map (literalTo v) (wordOf number) c ∙ all-weaker siteOk _ literal c e
+    clause : (c : List Literal) → allOf (siteOk kind) c ≡ true → allOf (literalTo v) (map (wordOf number) c) ≡ true
+    clause c e = all-map (literalTo v) (wordOf number) c ∙ all-weaker (siteOk kind) _ literal c e
 
 -- ---- the rows, by the truths at the sites
 
@@ -105,7 +113,7 @@ rowTest : ℕ → List Bool → Bool
 rowTest kind l = Bool·beq (allOf (anyOf (truthAt (giving l))) (clauseTable kind)) (Bool·beq (giving l 0) (boolGate kind (giving l)))
 
 rowsTest : ℕ → Bool
-rowsTest kind = eqb kind 0 || atAll 3 (rowTest kind)
+rowsTest kind = eqb kind 0 || atAll 4 (rowTest kind)
 
 rows-all : T (allBelow (suc lastKind) rowsTest)
 unfolding rowsTest atAll rowTest giving truthAt clauseTable boolGate
@@ -118,23 +126,27 @@ beq-is false true t = absurd t
 beq-is false false t = refl
 
 module _ (kind : ℕ) (x : ℕ → Bool) (some : 1 ≤ kind) (last : kind ≤ lastKind) where
-  three : List Bool
-  three = x 0 ∷ x 1 ∷ x 2 ∷ []
+  four : List Bool
+  four = x 0 ∷ x 1 ∷ x 2 ∷ x 3 ∷ []
 
-  truth-is : (l : Literal) → siteOk l ≡ true → truthAt x l ≡ truthAt (giving three) l
-  unfolding siteOf truthAt three giving
-  truth-is (Literal.plus s) e = at-site (λ s. x s ≡ giving three s) refl refl refl (Literal.plus s) e
-  truth-is (Literal.minus s) e = ap not (at-site (λ s. x s ≡ giving three s) refl refl refl (Literal.minus s) e)
+  given : AtSites kind (λ s. x s ≡ giving four s)
+  unfolding four giving
+  given = at-sites kind _ refl refl refl (λ _. refl)
 
-  row-test : T (rowTest kind three)
-  unfolding rowsTest three
-  row-test = at-all (rowTest kind) three (simp (ne-eqb kind 0 (omega arith)) at (at-below (suc lastKind) rowsTest rows-all kind (omega arith)))
+  truth-is : (l : Literal) → siteOk kind l ≡ true → truthAt x l ≡ truthAt (giving four) l
+  unfolding siteOf truthAt
+  truth-is (Literal.plus s) e = of-literal kind given (Literal.plus s) e
+  truth-is (Literal.minus s) e = ap not (of-literal kind given (Literal.minus s) e)
+
+  row-test : T (rowTest kind four)
+  unfolding rowsTest four
+  row-test = at-all (rowTest kind) four (simp (ne-eqb kind 0 (omega arith)) at (at-below (suc lastKind) rowsTest rows-all kind (omega arith)))
 
   row : allOf (anyOf (truthAt x)) (clauseTable kind) ≡ Bool·beq (x 0) (boolGate kind x)
-  unfolding rowTest giving three boolGate
+  unfolding rowTest giving four boolGate
   row =
-      all-same (allOf siteOk) (anyOf (truthAt x)) (anyOf (truthAt (giving three)))
-      (any-same siteOk (truthAt x) (truthAt (giving three)) truth-is) (clauseTable kind) (sites-ok kind last)
+      all-same (allOf (siteOk kind)) (anyOf (truthAt x)) (anyOf (truthAt (giving four)))
+      (any-same (siteOk kind) (truthAt x) (truthAt (giving four)) truth-is) (clauseTable kind) (sites-ok kind last)
       ∙ beq-is _ _ row-test
 
 -- ---- the law: an assignment satisfies a gate's clauses exactly if its own variable has the gate's value

@@ -8,7 +8,6 @@ use lib.Dec.{eqb, leb}
 use lib.IntN.{ℤ, pos, negℤ}
 use lib.ListN.{length}
 use Rattle.ground.specs.Choose.{choose}
-use Rattle.gates.specs.Gate.{lastKind}
 use Rattle.cnf.specs.declared.Size.{Size}
 use Rattle.cnf.specs.Cnf.{wordsOf}
 use Rattle.cnf.specs.Table.{gateClauses, sites}
@@ -43,7 +42,7 @@ andWords y -y a -a b -b = pair -y a ++ (pair -y b ++ triple y -a -b)
 abbrev pub xorWords : ℤ → ℤ → ℤ → ℤ → ℤ → ℤ → List ℤ
 xorWords y -y a -a b -b = triple -y a b ++ (triple -y -a -b ++ (triple y -a b ++ triple y a -b))
 
--- by the kind of a gate: NOT goes with the buffer, NAND, OR and NOR go with AND, and XNOR with XOR
+-- by the kind of a gate: NOT goes with the buffer, NAND, OR and NOR go with AND, and XNOR with XOR; the selector takes as much room as these two
 unfoldable pub byShape : {A : Type 0} → ℕ → A → A → A → A
 byShape kind buffer and xor = choose (leb kind 2) buffer (choose (leb kind 6) and xor)
 
@@ -56,12 +55,13 @@ isOneOf kind a b c = eqb kind a || (eqb kind b || eqb kind c)
 abbrev pub gateWords : ℕ → (ℕ → ℕ) → List ℤ
 gateWords kind number = wordsOf (gateClauses kind number)
 
-pub record GateClausesReady (w : List ℤ) (at kind y a b : ℕ) : Type 0 where
-  pub kind-last : kind ≤ lastKind
+-- the variables at the sites of a gate, and room for its clauses
+pub record GateClausesReady (w : List ℤ) (at kind y a b s : ℕ) : Type 0 where
   pub own : Variable y
   pub first : Variable a
   pub second : Variable b
-  pub room : at + length (gateWords kind (sites y a b)) ≤ length w
+  pub third : Variable s
+  pub room : at + length (gateWords kind (sites y a b s)) ≤ length w
 
 -- ---- how many words clauses take
 

@@ -1,4 +1,4 @@
--- The clauses of a gate, by its kind: the paper's clauseTable, over the gate's own value y and its pins a and b.
+-- The clauses of a gate, by its kind: the paper's table, and beside it the row of the selector; over the gate's own value y, its two sources a and b and its select s.
 -- Assumes nothing.
 use mathlib.Core.List.{List, [], _∷_, map}
 use Prim.Native.Nat.{ℕ}
@@ -31,6 +31,12 @@ b = Literal.plus 2
 abbrev -b : Literal
 -b = Literal.minus 2
 
+abbrev s : Literal
+s = Literal.plus 3
+
+abbrev -s : Literal
+-s = Literal.minus 3
+
 -- an input, kind 0, has none
 unfoldable pub clauseTable : ℕ → List (List Literal)
 clauseTable kind =
@@ -42,16 +48,17 @@ clauseTable kind =
     (choose (eqb kind 6) ((-y ∷ -a ∷ []) ∷ (-y ∷ -b ∷ []) ∷ (y ∷ a ∷ b ∷ []) ∷ [])
     (choose (eqb kind 7) ((-y ∷ a ∷ b ∷ []) ∷ (-y ∷ -a ∷ -b ∷ []) ∷ (y ∷ -a ∷ b ∷ []) ∷ (y ∷ a ∷ -b ∷ []) ∷ [])
     (choose (eqb kind 8) ((y ∷ a ∷ b ∷ []) ∷ (y ∷ -a ∷ -b ∷ []) ∷ (-y ∷ -a ∷ b ∷ []) ∷ (-y ∷ a ∷ -b ∷ []) ∷ [])
-    [])))))))
+    (choose (eqb kind 9) ((s ∷ -y ∷ a ∷ []) ∷ (s ∷ y ∷ -a ∷ []) ∷ (-s ∷ -y ∷ b ∷ []) ∷ (-s ∷ y ∷ -b ∷ []) ∷ [])
+    []))))))))
 
--- as a word, where site s has the variable with the number `number s`
+-- as a word, where each site has the variable with the number `number site`
 abbrev pub wordOf : (ℕ → ℕ) → Literal → ℤ
-wordOf number (Literal.plus s) = pos (number s)
-wordOf number (Literal.minus s) = negℤ (pos (number s))
+wordOf number (Literal.plus site) = pos (number site)
+wordOf number (Literal.minus site) = negℤ (pos (number site))
 
 unfoldable pub gateClauses : ℕ → (ℕ → ℕ) → Clauses
 gateClauses kind number = map (map (wordOf number)) (clauseTable kind)
 
--- variable y at the gate itself, a and b at its pins
-abbrev pub sites : ℕ → ℕ → ℕ → ℕ → ℕ
-sites y a b s = choose (eqb s 0) y (atPins a b s)
+-- variable y at the gate itself, a, b and s at its pins
+abbrev pub sites : ℕ → ℕ → ℕ → ℕ → ℕ → ℕ
+sites y a b s site = choose (eqb site 0) y (atPins a b s site)

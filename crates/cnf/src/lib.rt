@@ -1,9 +1,9 @@
 // Clauses as signed words: what they mean to a solver, the clauses of a gate, and the writer of a gate's clauses.
 ghost use mathlib.Core.Path.{_≡_};
-ghost use Prim.Native.Nat.{_+_, _≤_};
+ghost use Prim.Native.Nat.{_+_, _≤_, _<_};
 ghost use lib.IntN.{ℤ, negℤ};
 ghost use lib.ListN.{length};
-ghost use Rattle.gates.specs.Gate.{lastKind};
+ghost use Rattle.gates.specs.Gate.{lastKind, selector};
 ghost use Rattle.cnf.specs.Table.{clauseTable, sites};
 ghost use Rattle.ground.specs.Put.{Put};
 ghost use Rattle.cnf.specs.Owed.{Variable, signed, single, pair, triple, bufferWords, andWords, xorWords, byShape, shapeWords, isOneOf, gateWords, GateClausesReady, Takes};
@@ -116,7 +116,7 @@ fn put_xor(
     put_triple(words, fourth, y, a, not_b)
 }
 
-// The clauses of a gate, by its kind. Its literals come as they stand in those of a buffer, an AND or a XOR.
+// The clauses of a gate with at most two pins, by its kind. Its literals come as they stand in those of a buffer, an AND or a XOR.
 fn put_shape(
     words: &mut [i32],
     at: usize,
@@ -153,11 +153,27 @@ fn is_one_of(kind: u8, a: u8, b: u8, c: u8) -> bool
     kind == c
 }
 
-// The clauses of a gate of this kind, with variable y, whose pins read the variables a and b. NAND, OR and XNOR negate y,
-// and NOT, OR and NOR negate a and b, so that three shapes serve the eight kinds.
+// The clauses of a selector: where its select s is 0 it is as its first source a, where s is 1 as its second, b.
+pub fn put_selector(words: &mut [i32], at: usize, y: usize, a: usize, b: usize, s: usize) -> usize
+    requires { ⌜ GateClausesReady (now words) at selector y a b s ⌝ }
+    ensures { λ r. ⌜ Put (now (words .entry)) (now (words .exit)) at (gateWords selector (sites y a b s)) r ⌝ }
+{
+    let own = plus(y);
+    let not_own = minus(y);
+    let select = plus(s);
+    let not_select = minus(s);
+    let second = put_triple(words, at, select, not_own, plus(a));
+    let third = put_triple(words, second, select, own, minus(a));
+    let fourth = put_triple(words, third, not_select, not_own, plus(b));
+    put_triple(words, fourth, not_select, own, minus(b))
+}
+
+// The clauses of a gate with at most two pins, by its kind, with variable y, whose pins read the variables a and b; what is at a pin that
+// the kind lacks is in none of them. NAND, OR and XNOR negate y, and NOT, OR and NOR negate a and b, so that three shapes serve the eight
+// kinds.
 pub fn put_gate(words: &mut [i32], at: usize, kind: u8, y: usize, a: usize, b: usize) -> usize
-    requires { ⌜ GateClausesReady (now words) at kind y a b ⌝ }
-    ensures { λ r. ⌜ Put (now (words .entry)) (now (words .exit)) at (gateWords kind (sites y a b)) r ⌝ }
+    requires { ⌜ (kind < selector) × GateClausesReady (now words) at kind y a b b ⌝ }
+    ensures { λ r. ⌜ Put (now (words .entry)) (now (words .exit)) at (gateWords kind (sites y a b b)) r ⌝ }
 {
     if kind == 0 {
         return at;

@@ -6,7 +6,7 @@ use Prim.Native.Nat.{ℕ, _≤_, _<_}
 use lib.ListN.{length, getD, length-map}
 use Rattle.answers.specs.declared.Ruling.the-variants.{Fine}
 use Rattle.answers.specs.Rules.{refusal}
-use Rattle.gates.specs.Gate.{lastKind}
+use Rattle.gates.specs.Gate.{selector}
 use Rattle.words.specs.Words.{wordsIn, endsIn}
 use Rattle.syntax.specs.Syntax.{Formed}
 use Rattle.statements.proofs.Lengths.{seconds-length, kinds-length}
@@ -33,7 +33,7 @@ module _ (t : List ℕ) where
   unfolding netIn
   seconds-long = length-map (secondsIn t) (numberIn t) ∙ seconds-length (wordsIn t) (endsIn t) (formsIn t) ∙ sym (gates-are t)
 
-  kind-in : Formed t → (g : ℕ) → g < gatesOf (netIn t) → (1 ≤ getD (netIn t .kinds) g 0) × (getD (netIn t .kinds) g 0 ≤ lastKind)
+  kind-in : Formed t → (g : ℕ) → g < gatesOf (netIn t) → (1 ≤ getD (netIn t .kinds) g 0) × (getD (netIn t .kinds) g 0 < selector)
   kind-in f g l = let n = gate-line t l in let w = gate-sources t f (n .place) (n .line .passes) .0 in rw (← n .before, kind-get (n .line)) (w .some-kind, w .last-kind)
 
   module _ (none : refusal (nameRules t (defsIn t) (usesIn t)) ≡ Fine) where

@@ -9,46 +9,63 @@ use lib.Dec.{T, leb, eqb, leb→le, ltb→lt, eqb→eq}
 use borrow.Author.Tests.{eq-eqb, ne-eqb, lt-leb, leb-true, leb-false}
 use Rattle.ground.specs.Choose.{choose, one}
 use Rattle.ground.proofs.Tests.{either, one-same}
-use Rattle.gates.specs.Gate.{lastKind, pinsOf, threeOf, gateOf, Refines}
+use Rattle.gates.specs.Gate.{lastKind, selector, pinsOf, threeOf, gateOf, Refines}
 use Rattle.gates.specs.Boolean.{boolGate}
 use Rattle.gates.proofs.Values.{three-small, three-known, three-refines}
 use Rattle.gates.proofs.Table.{other}
-use Rattle.gates.proofs.Computed.{at-gates, smallTest, small-all, seesX, knownTest, known-all, refines, pinRefines, refineTest, at-refined, at-booleans}
+use Rattle.gates.proofs.Computed.{at-gates, smallTest, small-all, seesX, knownTest, known-all, refines, pinRefines, refineTest, at-refined, boolTest, at-booleans}
 
 -- at each pin that the kind has
 abbrev pub AtPins : ℕ → (ℕ → Type 0) → Type 0
 AtPins k P = (s : ℕ) → 1 ≤ s → s ≤ pinsOf k → P s
 
--- no kind has more than two pins
-pub two-pins : (kind : ℕ) → pinsOf kind ≤ 2
+-- no kind has more pins than a record has room for
+pub few-pins : (kind : ℕ) → pinsOf kind ≤ 3
 unfolding pinsOf
-two-pins kind = go (eqb kind 0) (leb kind 2)
+few-pins kind = go (eqb kind 0) (leb kind 2) (eqb kind selector)
+  where
+    go : (t u w : Bool) → choose t 0 (choose u 1 (choose w 3 2)) ≤ 3
+    go true u w = omega arith
+    go false true w = omega arith
+    go false false true = omega arith
+    go false false false = omega arith
+
+-- and none but the selector has three
+pub two-pins : (kind : ℕ) → (kind ≡ selector → ⊥) → pinsOf kind ≤ 2
+unfolding pinsOf
+two-pins kind ne = rw (ne-eqb kind selector ne) (go (eqb kind 0) (leb kind 2))
   where
     go : (t u : Bool) → choose t 0 (choose u 1 2) ≤ 2
     go true u = omega arith
     go false true = omega arith
     go false false = omega arith
 
--- nor more than a record has room for
-pub few-pins : (kind : ℕ) → pinsOf kind ≤ 3
-few-pins kind = omega (arith, two-pins kind)
+-- a gate has a first pin
+pub gate-pin : (kind : ℕ) → (kind ≡ 0 → ⊥) → 1 ≤ pinsOf kind
+unfolding pinsOf
+gate-pin kind ne = rw (ne-eqb kind 0 ne) (go (leb kind 2) (eqb kind selector))
+  where
+    go : (t u : Bool) → 1 ≤ choose t 1 (choose u 3 2)
+    go true u = omega arith
+    go false true = omega arith
+    go false false = omega arith
 
 -- a gate's value is 0, 1 or 2
 pub gate-small : (k : ℕ) (v : ℕ → ℕ) → gateOf k v ≤ 2
 unfolding smallTest gateOf
 gate-small k v =
     ⊎-elim
-    (λ l. leb→le _ 2 (at-gates smallTest small-all k (threeOf (v 1)) (threeOf (v 2)) l (three-small (v 1)) (three-small (v 2))))
+    (λ l. leb→le _ 2 (at-gates smallTest small-all k _ _ _ l (three-small (v 1)) (three-small (v 2)) (three-small (v 3))))
     (λ l. omega (arith, other k v l))
-    (either k 9)
+    (either k 10)
 
 -- known values at its pins give a known value
 pub gate-known : (k : ℕ) (v : ℕ → ℕ) → 1 ≤ k → k ≤ lastKind → AtPins k (λ s. v s < 2) → gateOf k v < 2
 unfolding knownTest gateOf
 gate-known k v some last h =
     ltb→lt _ 2
-    (simp (ne-eqb k 0 (omega arith), sees 1 (omega arith), sees 2 (omega arith)) at
-    (at-gates knownTest known-all k (threeOf (v 1)) (threeOf (v 2)) (omega arith) (three-small (v 1)) (three-small (v 2))))
+    (simp (ne-eqb k 0 (omega arith), sees 1 (omega arith), sees 2 (omega arith), sees 3 (omega arith)) at
+    (at-gates knownTest known-all k _ _ _ (omega arith) (three-small (v 1)) (three-small (v 2)) (three-small (v 3))))
   where
     sees : (s : ℕ) → 1 ≤ s → seesX k s (threeOf (v s)) ≡ false
     sees s l = go (leb s (pinsOf k)) refl
@@ -73,10 +90,10 @@ unfolding refineTest gateOf
 gate-mono k v w h =
     ⊎-elim
     (λ l. of-refines _ _
-    (simp (pin 1 (omega arith), pin 2 (omega arith)) at
-    (at-refined k (threeOf (v 1)) (threeOf (v 2)) (threeOf (w 1)) (threeOf (w 2)) l (three-small (v 1)) (three-small (v 2)) (three-small (w 1)) (three-small (w 2)))))
+    (simp (pin 1 (omega arith), pin 2 (omega arith), pin 3 (omega arith)) at
+    (at-refined k _ _ _ _ _ _ l (three-small (v 1)) (three-small (v 2)) (three-small (v 3)) (three-small (w 1)) (three-small (w 2)) (three-small (w 3)))))
     (λ l m. absurd (omega (arith, other k v l)))
-    (either k 9)
+    (either k 10)
   where
     pin : (s : ℕ) → 1 ≤ s → pinRefines k s (threeOf (v s)) (threeOf (w s)) ≡ true
     pin s l = go (leb s (pinsOf k)) refl
@@ -101,8 +118,8 @@ gate-same k v w h =
 
 -- on known values a gate is the Boolean gate
 pub gate-bool : (k : ℕ) (v : ℕ → Bool) → 1 ≤ k → k ≤ lastKind → gateOf k (λ s. one (v s)) ≡ one (boolGate k v)
-unfolding gateOf boolGate
-gate-bool k v some last = eqb→eq _ _ (simp (ne-eqb k 0 (omega arith)) at (at-booleans k (v 1) (v 2) (omega arith)))
+unfolding gateOf boolGate boolTest
+gate-bool k v some last = eqb→eq _ _ (simp (ne-eqb k 0 (omega arith)) at (at-booleans k (v 1) (v 2) (v 3) (omega arith)))
 
 -- and sees its own pins alone
 pub bool-same : (k : ℕ) (v w : ℕ → Bool) → 1 ≤ k → k ≤ lastKind → AtPins k (λ s. v s ≡ w s) → boolGate k v ≡ boolGate k w

@@ -1,14 +1,17 @@
--- The places of the table.
+-- The places of the tables.
 -- Assumes nothing.
-use mathlib.Core.Path.{_≡_, refl}
+use mathlib.Core.Path.{_≡_, refl, _∙_}
 use Prim.Native.Nat.{ℕ, _≤_}
 use native.Mathlib.Omega.{arith}
+use lib.Dec.{eqb}
 use lib.ListN.{length, getD, List·getD-eq-default}
-use Rattle.gates.specs.Gate.{X, gateTable, placeOf, gateOf}
+use borrow.Author.Tests.{eq-eqb, ne-eqb}
+use Rattle.ground.specs.Choose.{choose}
+use Rattle.gates.specs.Gate.{X, selector, gateTable, selectorTable, threeOf, placeOf, valueIn, gateOf}
 
--- the value for kind k where the pins see a and b, each 0, 1 or X
-abbrev pub tableAt : ℕ → ℕ → ℕ → ℕ
-tableAt k a b = getD gateTable (placeOf k a b) X
+-- the value for kind k where the pins see a, b and c, each 0, 1 or X
+abbrev pub tableAt : ℕ → ℕ → ℕ → ℕ → ℕ
+tableAt k a b c = choose (eqb k selector) (getD selectorTable (placeOf c a b) X) (getD gateTable (placeOf k a b) X)
 
 places : length gateTable ≡ 81
 unfolding gateTable
@@ -18,7 +21,17 @@ places = refl
 pub beyond : (at : ℕ) → 81 ≤ at → getD gateTable at X ≡ X
 beyond at h = List·getD-eq-default gateTable X (omega (arith, places))
 
--- so it is for a kind without a rule
-pub other : (k : ℕ) (v : ℕ → ℕ) → 9 ≤ k → gateOf k v ≡ 2
-unfolding gateOf
-other k v h = beyond _ (omega arith)
+module _ (k : ℕ) (v : ℕ → ℕ) where
+  -- every kind but the selector goes to the table of the kinds
+  pub by-kind : (k ≡ selector → ⊥) → gateOf k v ≡ valueIn gateTable k v
+  unfolding gateOf
+  by-kind ne = rw (ne-eqb k selector ne)
+
+  -- and the selector to its own
+  pub by-select : k ≡ selector → gateOf k v ≡ valueIn selectorTable (threeOf (v 3)) v
+  unfolding gateOf
+  by-select e = rw (eq-eqb k selector e)
+
+  -- a kind without a rule finds nothing there
+  pub other : 10 ≤ k → gateOf k v ≡ 2
+  other h = by-kind (λ e. omega arith) ∙ beyond _ (omega arith)

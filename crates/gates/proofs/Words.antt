@@ -1,4 +1,4 @@
--- The table says what the gate rule says in words.
+-- The tables say what the gate rule says in words.
 -- Assumes nothing.
 use mathlib.Core.Path.{_≡_, refl, sym, _∙_}
 use mathlib.Core.Logic.{⊎-elim}
@@ -9,7 +9,7 @@ use lib.Dec.{eqb, eqb→eq}
 use borrow.Author.Tests.{ne-eqb}
 use Rattle.ground.proofs.Tests.{either}
 use Rattle.gates.specs.Gate.{threeOf, gateOf, atPins}
-use Rattle.gates.specs.Words.{notOf, andOf, orOf, xorOf, ruleOf}
+use Rattle.gates.specs.Words.{notOf, andOf, orOf, xorOf, selectOf, ruleOf}
 use Rattle.gates.proofs.Values.{unknown, three-small}
 use Rattle.gates.proofs.Computed.{at-gates, wordsTest, words-all}
 use Rattle.gates.proofs.Table.{other}
@@ -29,24 +29,30 @@ clip F h zero = refl
 clip F h (suc zero) = refl
 clip F h (suc (suc a)) = rw (unknown a) (h a)
 
-first-clip : (k b a : ℕ) → ruleOf k (atPins (suc (suc a)) b) ≡ ruleOf k (atPins 2 b)
-unfolding ruleOf threeOf notOf andOf orOf xorOf
-first-clip k b a = simp (not0 a, not1 a, unknown a)
+first-clip : (k b c a : ℕ) → ruleOf k (atPins (suc (suc a)) b c) ≡ ruleOf k (atPins 2 b c)
+unfolding ruleOf threeOf notOf andOf orOf xorOf selectOf
+first-clip k b c a = simp (not0 a, not1 a, unknown a)
 
-second-clip : (k a b : ℕ) → ruleOf k (atPins a (suc (suc b))) ≡ ruleOf k (atPins a 2)
-unfolding ruleOf threeOf notOf andOf orOf xorOf
-second-clip k a b = simp (not0 b, not1 b, unknown b, and-false, or-false)
+second-clip : (k a c b : ℕ) → ruleOf k (atPins a (suc (suc b)) c) ≡ ruleOf k (atPins a 2 c)
+unfolding ruleOf threeOf notOf andOf orOf xorOf selectOf
+second-clip k a c b = simp (not0 b, not1 b, unknown b, and-false, or-false)
 
-values-clip : (k a b : ℕ) → ruleOf k (atPins a b) ≡ ruleOf k (atPins (threeOf a) (threeOf b))
-values-clip k a b =
-    clip (λ (x : ℕ). ruleOf k (atPins x b)) (first-clip k b) a ∙ clip (λ (y : ℕ). ruleOf k (atPins (threeOf a) y)) (second-clip k (threeOf a)) b
+third-clip : (k a b c : ℕ) → ruleOf k (atPins a b (suc (suc c))) ≡ ruleOf k (atPins a b 2)
+unfolding ruleOf selectOf
+third-clip k a b c = simp (not0 c, not1 c)
 
-clipped : (k : ℕ) (v : ℕ → ℕ) → ruleOf k v ≡ ruleOf k (atPins (threeOf (v 1)) (threeOf (v 2)))
+values-clip : (k a b c : ℕ) → ruleOf k (atPins a b c) ≡ ruleOf k (atPins (threeOf a) (threeOf b) (threeOf c))
+values-clip k a b c =
+    clip (λ (x : ℕ). ruleOf k (atPins x b c)) (first-clip k b c) a
+    ∙ clip (λ (y : ℕ). ruleOf k (atPins (threeOf a) y c)) (second-clip k (threeOf a) c) b
+    ∙ clip (λ (z : ℕ). ruleOf k (atPins (threeOf a) (threeOf b) z)) (third-clip k (threeOf a) (threeOf b)) c
+
+clipped : (k : ℕ) (v : ℕ → ℕ) → ruleOf k v ≡ ruleOf k (atPins (threeOf (v 1)) (threeOf (v 2)) (threeOf (v 3)))
 unfolding ruleOf
-clipped k v = values-clip k (v 1) (v 2)
+clipped k v = values-clip k (v 1) (v 2) (v 3)
 
 -- a kind without a rule
-no-rule : (k : ℕ) (v : ℕ → ℕ) → 9 ≤ k → ruleOf k v ≡ 2
+no-rule : (k : ℕ) (v : ℕ → ℕ) → 10 ≤ k → ruleOf k v ≡ 2
 unfolding ruleOf
 no-rule k v h =
     simp (
@@ -58,6 +64,7 @@ no-rule k v h =
       ne-eqb k 6 (omega arith),
       ne-eqb k 7 (omega arith),
       ne-eqb k 8 (omega arith),
+      ne-eqb k 9 (omega arith),
     )
 
 -- the look-up and the words, of every kind and whatever the pins see
@@ -65,6 +72,6 @@ pub in-words : (k : ℕ) (v : ℕ → ℕ) → gateOf k v ≡ ruleOf k v
 unfolding gateOf wordsTest
 in-words k v =
     ⊎-elim
-    (λ l. eqb→eq _ _ (at-gates wordsTest words-all k (threeOf (v 1)) (threeOf (v 2)) l (three-small (v 1)) (three-small (v 2))) ∙ sym (clipped k v))
+    (λ l. eqb→eq _ _ (at-gates wordsTest words-all k _ _ _ l (three-small (v 1)) (three-small (v 2)) (three-small (v 3))) ∙ sym (clipped k v))
     (λ l. other k v l ∙ sym (no-rule k v l))
-    (either k 9)
+    (either k 10)

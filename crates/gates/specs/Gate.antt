@@ -1,4 +1,4 @@
--- The gate rule: kinds 0 to 8; values 0, 1 and 2 for X. Total: every number from 2 on counts as X, a kind without a rule gives X.
+-- The gate rule: kinds 0 to 9; values 0, 1 and 2 for X. Total: every number from 2 on counts as X, a kind without a rule gives X.
 -- Assumes nothing.
 use mathlib.Core.Path.{_≡_}
 use mathlib.Core.Bool.{Bool}
@@ -13,16 +13,21 @@ abbrev pub known : ℕ → Bool
 known v = ltb v 2
 
 abbrev pub lastKind : ℕ
-lastKind = 8
+lastKind = 9
 
--- how many pins a kind has: an input none, buffer and NOT one, the others two
+-- the one kind with three pins: two sources, and at pin 3 the select line
+abbrev pub selector : ℕ
+selector = 9
+
+-- how many pins a kind has: an input none, buffer and NOT one, the selector three, the others two
 unfoldable pub pinsOf : ℕ → ℕ
-pinsOf kind = choose (eqb kind 0) 0 (choose (leb kind 2) 1 2)
+pinsOf kind = choose (eqb kind 0) 0 (choose (leb kind 2) 1 (choose (eqb kind selector) 3 2))
 
 abbrev pub X : ℕ
 X = 2
 
--- nine values a kind, in three rows: the row by what the first pin sees, the place in it by what the second sees, each in the order 0, 1, X
+-- Blocks of nine values, in three rows: the row by what the first pin sees, the place in it by what the second sees, each in the order 0, 1, X.
+-- For the kinds with at most two pins there is a block a kind:
 unfoldable pub gateTable : List ℕ
 gateTable =
     -- 0 input, never used
@@ -63,25 +68,46 @@ gateTable =
     X ∷ X ∷ X ∷
     []
 
+-- for the selector a block for each value at its select, in the same order
+unfoldable pub selectorTable : List ℕ
+selectorTable =
+    -- 0 the first source
+    0 ∷ 0 ∷ 0 ∷
+    1 ∷ 1 ∷ 1 ∷
+    X ∷ X ∷ X ∷
+    -- 1 the second
+    0 ∷ 1 ∷ X ∷
+    0 ∷ 1 ∷ X ∷
+    0 ∷ 1 ∷ X ∷
+    -- X their value if both are known and equal
+    0 ∷ X ∷ X ∷
+    X ∷ 1 ∷ X ∷
+    X ∷ X ∷ X ∷
+    []
+
 -- 0 and 1 as they are, every other number as X
 unfoldable pub threeOf : ℕ → ℕ
 threeOf v = choose (known v) v X
 
--- where the value stands of a kind whose pins see a and b, each 0, 1 or X
+-- where the value stands in a block whose row is a and whose place in it is b, each 0, 1 or X
 abbrev pub placeOf : ℕ → ℕ → ℕ → ℕ
-placeOf kind a b = 9 * kind + 3 * a + b
+placeOf block a b = 9 * block + 3 * a + b
 
--- the look-up in a table of nine values a kind, where pin s sees v s; beyond its end everything is X
+-- the look-up in a table of blocks, where pin s sees v s; beyond its end everything is X
 abbrev pub valueIn : List ℕ → ℕ → (ℕ → ℕ) → ℕ
-valueIn values kind v = getD values (placeOf kind (threeOf (v 1)) (threeOf (v 2))) X
+valueIn values block v = getD values (placeOf block (threeOf (v 1)) (threeOf (v 2))) X
+
+-- by its kind a gate goes to the table of its pins: the selector to its own, at the block of what its select sees, every other kind to its block of this one
+abbrev pub valueBy : List ℕ → ℕ → (ℕ → ℕ) → ℕ
+valueBy values kind v = choose (eqb kind selector) (valueIn selectorTable (threeOf (v 3)) v) (valueIn values kind v)
 
 -- the value of a gate, by its kind and the value v s that each pin s sees
 unfoldable pub gateOf : ℕ → (ℕ → ℕ) → ℕ
-gateOf kind v = valueIn gateTable kind v
+gateOf kind v = valueBy gateTable kind v
 
--- a at pin 1, b at pin 2
-abbrev pub atPins : {A : Type 0} → A → A → ℕ → A
-atPins a b s = choose (eqb s 1) a b
+-- a at pin 1, b at pin 2, c at pin 3
+abbrev pub atPins : {A : Type 0} → A → A → A → ℕ → A
+atPins a b c s = choose (eqb s 1) a (choose (eqb s 2) b c)
 
 -- y is as x where x is known: X may become anything
 abbrev pub Refines : ℕ → ℕ → Type 0

@@ -1,4 +1,4 @@
--- The gate rule in words. The table says the same: `in-words` in proofs/Words.antt.
+-- The gate rule in words. The tables say the same: `in-words` in proofs/Words.antt.
 -- Assumes nothing.
 use mathlib.Core.Bool.{_&&_, _||_}
 use Prim.Native.Nat.{ℕ}
@@ -22,6 +22,10 @@ orOf a b = choose (eqb a 1 || eqb b 1) 1 (choose (eqb a 0 && eqb b 0) 0 X)
 unfoldable pub xorOf : ℕ → ℕ → ℕ
 xorOf a b = choose (known a && known b) (choose (eqb a b) 0 1) X
 
+-- at 0 the select gives the first source, at 1 the second, at X their value if both are known and equal, otherwise X
+unfoldable pub selectOf : ℕ → ℕ → ℕ → ℕ
+selectOf a b s = choose (eqb s 0) (threeOf a) (choose (eqb s 1) (threeOf b) (choose (known a && (known b && eqb a b)) a X))
+
 -- a buffer gives what it sees; NAND, NOR and XNOR are the negations; any other kind gives X
 unfoldable pub ruleOf : ℕ → (ℕ → ℕ) → ℕ
 ruleOf kind v =
@@ -33,4 +37,5 @@ ruleOf kind v =
     (choose (eqb kind 6) (notOf (orOf (v 1) (v 2)))
     (choose (eqb kind 7) (xorOf (v 1) (v 2))
     (choose (eqb kind 8) (notOf (xorOf (v 1) (v 2)))
-    X)))))))
+    (choose (eqb kind 9) (selectOf (v 1) (v 2) (v 3))
+    X))))))))

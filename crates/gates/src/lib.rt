@@ -3,10 +3,13 @@ use ground::wide;
 ghost use mathlib.Core.Path.{_≡_};
 ghost use Prim.Native.Nat.{_≤_};
 ghost use Rattle.gates.specs.Gate.{pinsOf, threeOf, gateOf, atPins};
-ghost use Rattle.gates.specs.Owed.{blockOf};
+ghost use Rattle.gates.specs.Owed.{blockOf, digitOf, selectedOf};
+
+// The one kind with three pins: two sources, and at pin 3 the select line.
+pub const SELECTOR: u8 = 9;
 
 // Kinds are 0, an input, to this one.
-pub const LAST_KIND: u8 = 8;
+pub const LAST_KIND: u8 = SELECTOR;
 
 // How many pins a kind has.
 pub fn pins(kind: u8) -> usize
@@ -18,10 +21,14 @@ pub fn pins(kind: u8) -> usize
     if kind <= 2 {
         return 1;
     }
+    if kind == SELECTOR {
+        return 3;
+    }
     2
 }
 
-// The gate rule. A kind has nine digits in three rows: its first pin chooses the row, its second the digit in it, each in the order 0, 1, X. 2 is X.
+// The table of the kinds with at most two pins. A kind has nine digits in three rows: its first pin chooses the row, its second the digit in it, each
+// in the order 0, 1, X. 2 is X.
 fn block(kind: u8) -> u64
     ensures { λ r. ⌜ r ≡ blockOf kind ⌝ }
 {
@@ -37,7 +44,7 @@ fn block(kind: u8) -> u64
         6 => 0x102_000_202, // NOR
         7 => 0x012_102_222, // XOR
         8 => 0x102_012_222, // XNOR
-        _ => 0x222_222_222, // a kind without a rule
+        _ => 0x222_222_222, // a kind without a block
     }
 }
 
@@ -48,16 +55,46 @@ fn three(v: u8) -> usize
     if v < 2 { wide(v) } else { 2 }
 }
 
-// The value of a gate whose pins see a and b; a kind with one pin takes no notice of b. It is the digit in row a, place b of the kind's block:
-// the digits before it are shifted out at the left of the 64 bits, those after it at the right.
-pub fn gate(kind: u8, a: u8, b: u8) -> u8
-    ensures { λ r. ⌜ r ≡ gateOf kind (atPins a b) ⌝ }
+// The digit of a block in this row and place: the digits before it are shifted out at the left of the 64 bits, those after it at the right.
+fn digit(block: u64, row: usize, place: usize) -> u8
+    requires { ⌜ (row ≤ 2) × (place ≤ 2) ⌝ }
+    ensures { λ r. ⌜ r ≡ digitOf block row place ⌝ }
 {
-    // a kind without a rule gives X; `block` says so too, but tested here it needs no test of its own
-    if LAST_KIND < kind {
+    // four bits a digit, three digits a row; the nine digits are the low 36 bits
+    let before = 12 * row + 4 * place;
+    (block << 28 << before >> 60) as u8
+}
+
+// The value of a selector whose sources show `first` and `second` and whose select sees c: where that is X, the value of both if they are the same. By
+// choices and not looked up: in the loop that all kinds share the other gates then lose less time.
+fn selected(first: usize, second: usize, c: u8) -> u8
+    requires { ⌜ (first ≤ 2) × (second ≤ 2) ⌝ }
+    ensures { λ r. ⌜ r ≡ selectedOf first second c ⌝ }
+{
+    if c == 0 {
+        return first as u8;
+    }
+    if c == 1 {
+        return second as u8;
+    }
+    if first == second {
+        return second as u8;
+    }
+    2
+}
+
+// The value of a gate whose pins see a, b and c; a kind takes no notice of what is at a pin that it lacks.
+pub fn gate(kind: u8, a: u8, b: u8, c: u8) -> u8
+    ensures { λ r. ⌜ r ≡ gateOf kind (atPins a b c) ⌝ }
+{
+    let first = three(a);
+    let second = three(b);
+    // tested first, so that a kind of at most two pins has this test alone
+    if kind < SELECTOR {
+        return digit(block(kind), first, second);
+    }
+    if SELECTOR < kind {
         return 2;
     }
-    // four bits a digit, three digits a row; the nine digits are the low 36 bits
-    let before = 12 * three(a) + 4 * three(b);
-    (block(kind) << 28 << before >> 60) as u8
+    selected(first, second, c)
 }

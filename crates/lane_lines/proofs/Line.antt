@@ -50,19 +50,20 @@ module _ (f : Forcing) {c : List ℕ} {n : ℕ} {w : List ℕ} {k : ℕ} {r : La
   pub input-done : kindAt c k ≡ 0 → Lanewise (f k 0) (lanesAt w k) r → LineDone f c n w k r
   input-done e seen vs held = all-lanes (λ i. lineIn f c (vs i) k) fits (λ i m. subst (InLane r i) (input-in f c (vs i) k e) (seen i _ m (read k inside held i m)))
 
-  -- a gate whose pins see a and b
-  pub gate-done : {a b g : Lanes}
+  -- a gate whose pins see x, y and z
+  pub gate-done : {x y z g : Lanes}
       → (kindAt c k ≡ 0 → ⊥)
-      → Lanewise (f k 1) (lanesAt w (pinAt c k 1)) a
-      → Lanewise (f k 2) (lanesAt w (pinAt c k 2)) b
-      → GateLanes (kindAt c k) a b g
+      → Lanewise (f k 1) (lanesAt w (pinAt c k 1)) x
+      → Lanewise (f k 2) (lanesAt w (pinAt c k 2)) y
+      → Lanewise (f k 3) (lanesAt w (pinAt c k 3)) z
+      → GateLanes (kindAt c k) x y z g
       → Lanewise (f k 0) g r
       → LineDone f c n w k r
-  gate-done ne first second gate seen vs held =
+  gate-done ne first second third gate seen vs held =
       all-lanes (λ i. lineIn f c (vs i) k) fits
-      (λ i m. subst (InLane r i) (gate-in f c (vs i) k ne refl refl refl)
-      (seen i _ m (gate i _ _ m (first i _ m (read (pinAt c k 1) (source 1 (omega arith) (omega arith)) held i m))
-      (second i _ m (read (pinAt c k 2) (source 2 (omega arith) (omega arith)) held i m)))))
+      (λ i m. subst (InLane r i) (gate-in f c (vs i) k ne refl refl refl refl)
+      (seen i _ m (gate i _ _ _ m (at 1 (omega arith) (omega arith) first i m) (at 2 (omega arith) (omega arith) second i m) (at 3 (omega arith) (omega arith) third i m))))
     where
-      source : (s : ℕ) → 1 ≤ s → s ≤ 3 → pinAt c k s < n
-      source = source-inside (ready .ordered) inside ne
+      -- what pin s sees
+      at : (s : ℕ) {a : Lanes} → 1 ≤ s → s ≤ 3 → Lanewise (f k s) (lanesAt w (pinAt c k s)) a → (i : ℕ) → i < 64 → InLane a i (f k s (getD (vs i) (pinAt c k s) 0))
+      at s l h pin i m = pin i _ m (read (pinAt c k s) (source-inside (ready .ordered) inside ne s l h) held i m)

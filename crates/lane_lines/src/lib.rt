@@ -77,7 +77,8 @@ fn line_lanes(circuit: &[u8], words: &[u64], n: usize, k: usize) -> Lanes
     }
     let a = lanes_at(words, source(circuit, k, 1));
     let b = lanes_at(words, source(circuit, k, 2));
-    gate_lanes(kind, a, b)
+    let c = lanes_at(words, source(circuit, k, 3));
+    gate_lanes(kind, a, b, c)
 }
 
 // Gives every line from `start` on its words.
@@ -134,9 +135,11 @@ fn stuck_lanes(circuit: &[u8], fault: Fault, words: &[u64], n: usize) -> Lanes
     }
     let i = source(circuit, line, 1);
     let j = source(circuit, line, 2);
+    let select = source(circuit, line, 3);
     let a = seen_lanes(fault, 1, lanes_at(words, i));
     let b = seen_lanes(fault, 2, lanes_at(words, j));
-    seen_lanes(fault, 0, gate_lanes(kind, a, b))
+    let c = seen_lanes(fault, 3, lanes_at(words, select));
+    seen_lanes(fault, 0, gate_lanes(kind, a, b, c))
 }
 
 // Turns good words into faulty ones, from the fault's line on.

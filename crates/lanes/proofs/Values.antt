@@ -1,18 +1,18 @@
 -- What is done to words of lanes is done to the values that they carry.
 -- Assumes nothing.
 use mathlib.Core.Path.{_≡_, refl, ap, ap₂, _∙_}
-use mathlib.Core.Bool.{Bool, true, false, _&&_, _||_}
+use mathlib.Core.Bool.{Bool, true, false, _&&_, _||_, and-false}
 use Prim.Native.Nat.{ℕ, zero, suc, _^_, _<_}
 use lib.Bits.{bitAnd, bitOr}
 use lib.Dec.{eqb}
 use Rattle.ground.specs.Choose.{one}
 use Rattle.gates.specs.Gate.{threeOf}
-use Rattle.gates.specs.Words.{notOf, andOf, xorOf}
+use Rattle.gates.specs.Words.{notOf, andOf, xorOf, selectOf}
 use Rattle.gates.proofs.Values.{unknown}
 use Rattle.gates.proofs.Words.{not0, not1}
 use Rattle.lanes.specs.declared.Lanes.{Lanes}
 use Rattle.lanes.specs.Lanes.{lanesOf, laid, bitAt, InLane}
-use Rattle.lanes.specs.Owed.{turnedOf, Lanewise, Lanewise2}
+use Rattle.lanes.specs.Owed.{turnedOf, Lanewise, Lanewise2, Lanewise3}
 use Rattle.lanes.proofs.Bits.{lanes-same, and-bit, or-bit, bits-of, of-bits}
 
 pub word-same : (t u : ℕ → Bool) → ((i : ℕ) → i < 64 → t i ≡ u i) → lanesOf t ≡ lanesOf u
@@ -60,6 +60,24 @@ xor-says (suc zero) (suc zero) = (refl, refl)
 xor-says (suc zero) (suc (suc b)) = simp (not0 b, not1 b, unknown b) (refl, refl)
 xor-says (suc (suc a)) b = simp (not0 a, not1 a, unknown a) (refl, refl)
 
+select-says : (a b s : ℕ)
+    → Says (((eqb s 0 && eqb a 1) || (eqb s 1 && eqb b 1)) || (eqb a 1 && eqb b 1)) (((eqb s 0 && eqb a 0) || (eqb s 1 && eqb b 0)) || (eqb a 0 && eqb b 0))
+    (selectOf a b s)
+unfolding selectOf threeOf
+select-says zero b zero = (refl, refl)
+select-says (suc zero) b zero = (refl, refl)
+select-says (suc (suc a)) b zero = simp (not0 a, not1 a, unknown a) (refl, refl)
+select-says a zero (suc zero) = simp and-false (refl, refl)
+select-says a (suc zero) (suc zero) = simp and-false (refl, refl)
+select-says a (suc (suc b)) (suc zero) = simp (not0 b, not1 b, unknown b, and-false) (refl, refl)
+select-says zero zero (suc (suc s)) = simp (not0 s, not1 s) (refl, refl)
+select-says zero (suc zero) (suc (suc s)) = simp (not0 s, not1 s) (refl, refl)
+select-says zero (suc (suc b)) (suc (suc s)) = simp (not0 s, not1 s, not0 b, not1 b, unknown b) (refl, refl)
+select-says (suc zero) zero (suc (suc s)) = simp (not0 s, not1 s) (refl, refl)
+select-says (suc zero) (suc zero) (suc (suc s)) = simp (not0 s, not1 s) (refl, refl)
+select-says (suc zero) (suc (suc b)) (suc (suc s)) = simp (not0 s, not1 s, not0 b, not1 b, unknown b) (refl, refl)
+select-says (suc (suc a)) b (suc (suc s)) = simp (not0 s, not1 s, not0 a, not1 a, unknown a) (refl, refl)
+
 -- ---- and in every lane
 
 -- bits that say where v is 1 and where it is 0
@@ -95,6 +113,25 @@ module _ {a b : Lanes} where
       (and-bit _ _ i (eqb v 1) (eqb w 1) (h .one-bit) (k .one-bit))
       (and-bit _ _ i (eqb v 0) (eqb w 0) (h .zero-bit) (k .zero-bit)))
       (xor-says v w)
+
+pub select-lanes : {a b c : Lanes}
+    → Lanewise3 selectOf a b c (record {
+      ones = bitOr (bitOr (bitAnd (c .zeros) (a .ones)) (bitAnd (c .ones) (b .ones))) (bitAnd (a .ones) (b .ones));
+      zeros = bitOr (bitOr (bitAnd (c .zeros) (a .zeros)) (bitAnd (c .ones) (b .zeros))) (bitAnd (a .zeros) (b .zeros));
+    })
+select-lanes {a} {b} {c} i u v w l h k s =
+    in-lane (selectOf u v w) i (word 1 _ _ (h .one-bit) (k .one-bit)) (word 0 _ _ (h .zero-bit) (k .zero-bit)) (select-says u v w)
+  where
+    -- the lanes with the value n, where x and y are those of the sources
+    word : (n x y : ℕ)
+        → bitAt x i ≡ one (eqb u n)
+        → bitAt y i ≡ one (eqb v n)
+        → bitAt (bitOr (bitOr (bitAnd (c .zeros) x) (bitAnd (c .ones) y)) (bitAnd x y)) i
+        ≡ one (((eqb w 0 && eqb u n) || (eqb w 1 && eqb v n)) || (eqb u n && eqb v n))
+    word n x y p q =
+        or-bit _ _ i ((eqb w 0 && eqb u n) || (eqb w 1 && eqb v n)) (eqb u n && eqb v n)
+        (or-bit _ _ i (eqb w 0 && eqb u n) (eqb w 1 && eqb v n) (and-bit _ _ i (eqb w 0) (eqb u n) (s .zero-bit) p) (and-bit _ _ i (eqb w 1) (eqb v n) (s .one-bit) q))
+        (and-bit x y i (eqb u n) (eqb v n) p q)
 
 -- ---- all lanes together
 

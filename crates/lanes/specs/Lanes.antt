@@ -38,6 +38,6 @@ pub record InLane (a : Lanes) (i v : ℕ) : Type 0 where
   pub one-bit : bitAt (a .ones) i ≡ one (eqb v 1)
   pub zero-bit : bitAt (a .zeros) i ≡ one (eqb v 0)
 
--- where lane i of the sources carries v and w, lane i of the result carries what the gate rule says, whatever is in the other lanes
-abbrev pub GateLanes : ℕ → Lanes → Lanes → Lanes → Type 0
-GateLanes kind a b r = (i v w : ℕ) → i < 64 → InLane a i v → InLane b i w → InLane r i (gateOf kind (atPins v w))
+-- where lane i at the pins carries u, v and w, lane i of the result carries what the gate rule says, whatever is in the other lanes
+abbrev pub GateLanes : ℕ → Lanes → Lanes → Lanes → Lanes → Type 0
+GateLanes kind a b c r = (i u v w : ℕ) → i < 64 → InLane a i u → InLane b i v → InLane c i w → InLane r i (gateOf kind (atPins u v w))

@@ -9,14 +9,17 @@ use Rattle.gates.specs.Words.{notOf, andOf, xorOf}
 use Rattle.lanes.specs.declared.Lanes.{Lanes}
 use Rattle.lanes.specs.Lanes.{InLane}
 
--- what is done to one value, or two, is done in every lane
+-- what is done to one value, to two or to three is done in every lane
 abbrev pub Lanewise : (ℕ → ℕ) → Lanes → Lanes → Type 0
 Lanewise f a r = (i v : ℕ) → i < 64 → InLane a i v → InLane r i (f v)
 
 abbrev pub Lanewise2 : (ℕ → ℕ → ℕ) → Lanes → Lanes → Lanes → Type 0
 Lanewise2 f a b r = (i v w : ℕ) → i < 64 → InLane a i v → InLane b i w → InLane r i (f v w)
 
--- ---- a gate as AND or XOR, with its pins or its result negated
+abbrev pub Lanewise3 : (ℕ → ℕ → ℕ → ℕ) → Lanes → Lanes → Lanes → Lanes → Type 0
+Lanewise3 f a b c r = (i u v w : ℕ) → i < 64 → InLane a i u → InLane b i v → InLane c i w → InLane r i (f u v w)
+
+-- ---- a gate of kinds 1 to 8 as AND or XOR, with its pins or its result negated
 
 -- OR and NOR
 unfoldable pub turnsPins : ℕ → Bool

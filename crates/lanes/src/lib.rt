@@ -1,10 +1,11 @@
 // Sixty-four lanes of three values in two words, and the gate rule on them: every lane at once.
+use gates::SELECTOR;
 ghost use mathlib.Core.Path.{_≡_};
 ghost use Prim.Native.Nat.{_≤_};
 ghost use Rattle.gates.specs.Gate.{lastKind};
 ghost use Rattle.lanes.specs.Lanes.{laid, GateLanes};
-ghost use Rattle.lanes.specs.Owed.{turnsPins, turnsResult, turnedOf, secondOf, coreOf, Lanewise, Lanewise2};
-ghost use Rattle.gates.specs.Words.{andOf, xorOf};
+ghost use Rattle.lanes.specs.Owed.{turnsPins, turnsResult, turnedOf, secondOf, coreOf, Lanewise, Lanewise2, Lanewise3};
+ghost use Rattle.gates.specs.Words.{andOf, xorOf, selectOf};
 
 // Bit i of `ones` is set where lane i is 1, bit i of `zeros` where it is 0; where it is X, neither.
 pub struct Lanes {
@@ -42,6 +43,16 @@ fn odd(a: Lanes, b: Lanes) -> Lanes
     Lanes {
         ones: (a.ones & b.zeros) | (a.zeros & b.ones),
         zeros: (a.ones & b.ones) | (a.zeros & b.zeros),
+    }
+}
+
+// The selector, c its select. The last term is for a select that is X, where both sources have the same known value; for a known one it adds nothing.
+fn chosen(a: Lanes, b: Lanes, c: Lanes) -> Lanes
+    ensures { λ r. ⌜ Lanewise3 selectOf a b c r ⌝ }
+{
+    Lanes {
+        ones: (c.zeros & a.ones) | (c.ones & b.ones) | (a.ones & b.ones),
+        zeros: (c.zeros & a.zeros) | (c.ones & b.zeros) | (a.zeros & b.zeros),
     }
 }
 
@@ -89,12 +100,15 @@ fn core(kind: u8, a: Lanes, b: Lanes) -> Lanes
     both(a, b)
 }
 
-// The value of a gate whose pins see a and b, in every lane; a kind with one pin takes no notice of b. A gate is AND or XOR, with its pins or its
-// result negated: a few choices, and no jump by the kind.
-pub fn gate_lanes(kind: u8, a: Lanes, b: Lanes) -> Lanes
+// The value of a gate whose pins see a, b and c, in every lane; a kind takes no notice of what is at a pin that it lacks. Every gate but the selector is
+// AND or XOR, with its pins or its result negated: a few choices, and no jump by the kind.
+pub fn gate_lanes(kind: u8, a: Lanes, b: Lanes, c: Lanes) -> Lanes
     requires { ⌜ (1 ≤ kind) × (kind ≤ lastKind) ⌝ }
-    ensures { λ r. ⌜ GateLanes kind a b r ⌝ }
+    ensures { λ r. ⌜ GateLanes kind a b c r ⌝ }
 {
+    if kind == SELECTOR {
+        return chosen(a, b, c);
+    }
     let turn = turns_pins(kind);
     let x = turned(turn, a);
     let y = turned(turn, second(kind, a, b));

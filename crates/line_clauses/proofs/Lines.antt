@@ -8,7 +8,7 @@ use native.Mathlib.Omega.{arith}
 use lib.IntN.{ℤ}
 use lib.ListN.{length}
 use borrow.Author.Tests.{eq-eqb, ne-eqb}
-use Rattle.gates.specs.Gate.{lastKind}
+use Rattle.gates.specs.Gate.{lastKind, selector}
 use Rattle.circuit.specs.Record.{kindAt, outAt, pinAt, outputsBefore}
 use Rattle.lists.specs.declared.Fault.{Fault}
 use Rattle.cnf.specs.Cnf.{Clauses, wordsOf}
@@ -16,9 +16,9 @@ use Rattle.cnf.specs.Table.{gateClauses, sites}
 use Rattle.ground.specs.Put.{Put}
 use Rattle.cnf.specs.Owed.{Variable, GateClausesReady}
 use Rattle.ground.proofs.Put.{put-as}
-use Rattle.cnf.proofs.Gate.{gate-sites, no-clauses}
+use Rattle.cnf.proofs.Gate.{at-sites, gate-sites, no-clauses}
 use Rattle.lists.specs.Faults.{isAt}
-use Rattle.line_clauses.specs.Clauses.{goodVar, faultySite, goodClauses, faultyClauses, differenceClauses}
+use Rattle.line_clauses.specs.Clauses.{goodVar, faultySite, bufferClauses, goodClauses, faultyClauses, xorClauses, differenceClauses}
 use Rattle.line_clauses.specs.Owed.{LineReady, GateReady}
 
 -- ---- what is known of a line
@@ -50,31 +50,35 @@ module _ (c : List ℕ) (f : Fault) (n k s : ℕ) {t : Bool} (e : t ≡ isAt f k
   unfolding faultySite
   pin-source q l p r = rw (sym e ∙ q, ne-eqb s 0 (omega arith), r, p)
 
--- ---- a line as a gate
+-- ---- a line as a gate; what stands at the third pin counts for a selector alone
 
 module _ (c : List ℕ) (k : ℕ) where
   pub good-none : kindAt c k ≡ 0 → goodClauses c k ≡ []
   unfolding goodClauses
   good-none e = no-clauses (kindAt c k) _ e
 
-  pub good-gate : {a b : ℕ} → kindAt c k ≤ lastKind → a ≡ pinAt c k 1 → b ≡ pinAt c k 2
-      → goodClauses c k ≡ gateClauses (kindAt c k) (sites (2 * k + 1) (2 * a + 1) (2 * b + 1))
+  pub good-gate : {a b s : ℕ} → kindAt c k ≤ lastKind → a ≡ pinAt c k 1 → b ≡ pinAt c k 2 → (kindAt c k ≡ selector → s ≡ pinAt c k 3)
+      → goodClauses c k ≡ gateClauses (kindAt c k) (sites (2 * k + 1) (2 * a + 1) (2 * b + 1) (2 * s + 1))
   unfolding goodClauses
-  good-gate last p q = gate-sites (kindAt c k) _ _ last refl (ap goodVar (sym p)) (ap goodVar (sym q))
+  good-gate last p q r = gate-sites (kindAt c k) _ _ last (at-sites _ _ refl (ap goodVar (sym p)) (ap goodVar (sym q)) (λ e. ap goodVar (sym (r e))))
 
   module _ (f : Fault) (n : ℕ) {t : Bool} (e : t ≡ isAt f k 0) where
-    pub faulty-stuck : t ≡ true → faultyClauses c f n k ≡ gateClauses 1 (sites (2 * k + 2) (2 * n + 1) (2 * n + 1))
+    pub faulty-stuck : t ≡ true → faultyClauses c f n k ≡ bufferClauses (2 * k + 2) (2 * n + 1)
     unfolding faultyClauses
     faulty-stuck q = rw (sym e ∙ q)
 
-    pub faulty-input : t ≡ false → kindAt c k ≡ 0 → faultyClauses c f n k ≡ gateClauses 1 (sites (2 * k + 2) (2 * k + 1) (2 * k + 1))
+    pub faulty-input : t ≡ false → kindAt c k ≡ 0 → faultyClauses c f n k ≡ bufferClauses (2 * k + 2) (2 * k + 1)
     unfolding faultyClauses
     faulty-input q z = rw (sym e ∙ q, eq-eqb (kindAt c k) 0 z)
 
-    pub faulty-gate : {a b : ℕ} → t ≡ false → (kindAt c k ≡ 0 → ⊥) → kindAt c k ≤ lastKind → a ≡ faultySite c f n k 1 → b ≡ faultySite c f n k 2
-        → faultyClauses c f n k ≡ gateClauses (kindAt c k) (sites (2 * k + 2) a b)
+    pub faulty-gate : {a b s : ℕ} → t ≡ false → (kindAt c k ≡ 0 → ⊥) → kindAt c k ≤ lastKind
+        → a ≡ faultySite c f n k 1
+        → b ≡ faultySite c f n k 2
+        → (kindAt c k ≡ selector → s ≡ faultySite c f n k 3)
+        → faultyClauses c f n k ≡ gateClauses (kindAt c k) (sites (2 * k + 2) a b s)
     unfolding faultyClauses faultySite
-    faulty-gate q ne last p r = rw (sym e ∙ q, ne-eqb (kindAt c k) 0 ne) (gate-sites (kindAt c k) _ _ last (rw (sym e ∙ q)) (sym p) (sym r))
+    faulty-gate q ne last p r o =
+        rw (sym e ∙ q, ne-eqb (kindAt c k) 0 ne) (gate-sites (kindAt c k) _ _ last (at-sites _ _ (rw (sym e ∙ q)) (sym p) (sym r) (λ z. sym (o z))))
 
   module _ (n : ℕ) where
     pub difference-none : (outAt c k ≡ 1 → ⊥) → differenceClauses c n k ≡ []
@@ -82,20 +86,26 @@ module _ (c : List ℕ) (k : ℕ) where
     difference-none ne = rw (ne-eqb (outAt c k) 1 ne)
 
     pub difference-gate : {j : ℕ} → outAt c k ≡ 1 → j ≡ outputsBefore c k
-        → differenceClauses c n k ≡ gateClauses 7 (sites (2 * n + 2 + j) (2 * k + 1) (2 * k + 2))
+        → differenceClauses c n k ≡ xorClauses (2 * n + 2 + j) (2 * k + 1) (2 * k + 2)
     unfolding differenceClauses
     difference-gate o e = rw (eq-eqb (outAt c k) 1 o, e)
 
 -- so that gate has room, and its words are the line's
 
-pub gate-room : {cs : Clauses} (kind y a b : ℕ) → cs ≡ gateClauses kind (sites y a b) → {w : List ℤ} {at : ℕ}
+pub gate-room : {cs : Clauses} (kind y a b s : ℕ) → cs ≡ gateClauses kind (sites y a b s) → {w : List ℤ} {at : ℕ}
     → at + length (wordsOf cs) ≤ length w
-    → kind ≤ lastKind
     → y ≤ 8192
     → a ≤ 8192
     → b ≤ 8192
-    → GateClausesReady w at kind y a b
-gate-room kind y a b e r last p q s = record { kind-last = last; own = variable p; first = variable q; second = variable s; room = rw e at r }
+    → s ≤ 8192
+    → GateClausesReady w at kind y a b s
+gate-room kind y a b s e r own first second third = record {
+  own = variable own;
+  first = variable first;
+  second = variable second;
+  third = variable third;
+  room = rw e at r;
+}
 
 pub put-line : {cs u : Clauses} → cs ≡ u → {w w′ : List ℤ} {at next : ℕ} → Put w w′ at (wordsOf u) next → Put w w′ at (wordsOf cs) next
 put-line e p = put-as (ap wordsOf (sym e)) p

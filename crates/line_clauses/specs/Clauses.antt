@@ -50,9 +50,9 @@ stuckLiteral f n = choose (eqb (f .value) 1) (pos (stuckVar n)) (negℤ (pos (st
 unfoldable pub faultySite : List ℕ → Fault → ℕ → ℕ → ℕ → ℕ
 faultySite c f n k s = choose (isAt f k s) (stuckVar n) (faultyVar (lineAt c k s))
 
--- y is a buffer, kind 1, of a
+-- y is a buffer, kind 1, of a; what stands at the pins that a kind lacks is in no clause
 abbrev pub bufferClauses : ℕ → ℕ → Clauses
-bufferClauses y a = gateClauses 1 (sites y a a)
+bufferClauses y a = gateClauses 1 (sites y a a a)
 
 -- a line stuck itself is a buffer of the stuck value, another input one of its good value
 unfoldable pub faultyClauses : List ℕ → Fault → ℕ → ℕ → Clauses
@@ -61,11 +61,14 @@ faultyClauses c f n k =
     (choose (isInput c k) (bufferClauses (faultyVar k) (goodVar k))
     (gateClauses (kindAt c k) (faultySite c f n k)))
 
--- ---- differences: the XOR, kind 7, of good and faulty at each output
+-- ---- differences: the XOR of good and faulty at each output
+
+-- y is the XOR, kind 7, of a and b
+abbrev pub xorClauses : ℕ → ℕ → ℕ → Clauses
+xorClauses y a b = gateClauses 7 (sites y a b b)
 
 unfoldable pub differenceClauses : List ℕ → ℕ → ℕ → Clauses
-differenceClauses c n k =
-    choose (isOutput c k) (gateClauses 7 (sites (differenceVar n (outputsBefore c k)) (goodVar k) (faultyVar k))) []
+differenceClauses c n k = choose (isOutput c k) (xorClauses (differenceVar n (outputsBefore c k)) (goodVar k) (faultyVar k)) []
 
 -- one clause of all of them
 abbrev pub differences : ℕ → ℕ → List ℤ

@@ -2,7 +2,9 @@
 use circuit::source;
 use cnf::Size;
 use cnf::put_gate;
+use cnf::put_selector;
 use cnf::size_of;
+use gates::SELECTOR;
 use ground::wide;
 use lists::Fault;
 ghost use mathlib.Core.Path.{_≡_};
@@ -39,7 +41,7 @@ fn faulty_kind(circuit: &[u8], fault: Fault, n: usize, k: usize) -> u8
     kind
 }
 
-// LineReady k, good and faulty.
+// How much the clauses of line k take, good and faulty.
 pub fn line_size(circuit: &[u8], fault: Fault, n: usize, k: usize) -> Size
     requires { ⌜ LineReady (now circuit) n k ⌝ }
     ensures { λ r. ⌜ LineSizeDone (now (circuit .entry)) fault n k r ⌝ }
@@ -63,6 +65,10 @@ pub fn put_good(circuit: &[u8], n: usize, k: usize, words: &mut [i32], at: usize
     }
     let a = source(circuit, k, 1);
     let b = source(circuit, k, 2);
+    if kind == SELECTOR {
+        let s = source(circuit, k, 3);
+        return put_selector(words, at, 2 * k + 1, 2 * a + 1, 2 * b + 1, 2 * s + 1);
+    }
     put_gate(words, at, kind, 2 * k + 1, 2 * a + 1, 2 * b + 1)
 }
 
@@ -90,14 +96,20 @@ pub fn put_faulty(
     ensures { λ r. ⌜ Put (now (words .entry)) (now (words .exit)) at (wordsOf (faultyClauses (now (circuit .entry)) fault n k)) r ⌝ }
 {
     if is_at(fault, k, 0) {
-        return put_gate(words, at, 1, 2 * k + 2, 2 * n + 1, 2 * n + 1);
+        let stuck = 2 * n + 1;
+        return put_gate(words, at, 1, 2 * k + 2, stuck, stuck);
     }
     let kind = circuit[8 * k];
     if kind == 0 {
-        return put_gate(words, at, 1, 2 * k + 2, 2 * k + 1, 2 * k + 1);
+        let good = 2 * k + 1;
+        return put_gate(words, at, 1, 2 * k + 2, good, good);
     }
     let a = pin_variable(circuit, fault, n, k, 1);
     let b = pin_variable(circuit, fault, n, k, 2);
+    if kind == SELECTOR {
+        let s = pin_variable(circuit, fault, n, k, 3);
+        return put_selector(words, at, 2 * k + 2, a, b, s);
+    }
     put_gate(words, at, kind, 2 * k + 2, a, b)
 }
 

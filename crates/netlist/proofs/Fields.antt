@@ -1,6 +1,6 @@
 -- The fields of a net's records: kind, output byte and sources of each line are those of the number that stands there.
 -- Assumes nothing.
-use mathlib.Core.Path.{_≡_}
+use mathlib.Core.Path.{_≡_, sym}
 use Prim.Native.Nat.{ℕ, _+_, _*_, _≤_, _<_}
 use native.Mathlib.Nat.{add-zero, mul-comm, mul-div-right}
 use native.Mathlib.Omega.{arith}
@@ -10,12 +10,15 @@ use Rattle.ground.specs.Lists.{elem}
 use Rattle.ground.proofs.Gather.{gather-at}
 use Rattle.little.specs.Little.{le, pairAt}
 use Rattle.little.proofs.Little.{read-back}
+use Rattle.gates.specs.Gate.{pinsOf}
+use Rattle.gates.proofs.Laws.{two-pins}
 use Rattle.circuit.specs.Record.{linesOf, kindAt, outAt, pinAt}
 use Rattle.circuit.proofs.Lines.{three}
 use Rattle.records.specs.Net.{Net, netSize, numberOn, netKind, netSource, recordOn, recordsTo, recordsOf}
 use Rattle.records.proofs.Size.{record-length, records-length}
+use Rattle.records.proofs.Stands.{source-lacks}
 use Rattle.netlist.specs.Solved.{Right}
-use Rattle.netlist.proofs.Sources.{source-inside}
+use Rattle.netlist.proofs.Sources.{kind-last, source-inside}
 
 module _ (net : Net) where
   -- byte i of the record on line k
@@ -39,13 +42,16 @@ module _ (net : Net) where
     net-out = byte k 1 l (omega arith)
 
     module _ (r : Right net) (few : netSize net ≤ 65536) where
-      -- bytes 2 and 3 have the source at pin 1, the next two that at pin 2, and the last that at pin 3
+      -- bytes 2 and 3 have the source at pin 1, the next two that at pin 2, and the last nothing, as no gate of the net has a pin 3
       words : (s : ℕ) → 1 ≤ s → s ≤ 3 → pairAt (recordOn net k) (2 * s) ≡ netSource net k s
       unfolding recordOn le pairAt
       words =
           three (λ s. pairAt (recordOn net k) (2 * s) ≡ netSource net k s)
-          (source 1 (omega arith)) (source 2 (omega arith)) (source 3 (omega arith))
+          (source 1 (omega arith)) (source 2 (omega arith)) (sym (source-lacks net k 3 (omega (arith, pins))))
         where
+          pins : pinsOf (netKind net k) ≤ 2
+          pins = two-pins (netKind net k) (λ e. omega (arith, kind-last net r k l))
+
           source : (s : ℕ) → 1 ≤ s → pairAt (le 2 (netSource net k s)) 0 ≡ netSource net k s
           source s h = read-back (netSource net k s) (omega (arith, source-inside net r k s l h))
 

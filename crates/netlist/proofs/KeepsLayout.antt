@@ -1,6 +1,7 @@
 -- The records of a net keep the layout of circuit records, and each gate's sources are lower than the gate.
 -- Assumes nothing.
 use Prim.Native.Nat.{ℕ, _≤_, _<_}
+use native.Mathlib.Omega.{arith}
 use Rattle.ground.specs.Lists.{elem}
 use Rattle.ground.proofs.Tests.{one-most}
 use Rattle.circuit.specs.Layout.{Pin, Layout}
@@ -19,7 +20,7 @@ module _ (net : Net) (r : Right net) (few : netSize net ≤ 65536) (k : ℕ) (l 
 
   pub net-layout : Layout (recordsOf net) k
   net-layout = record {
-    kind = rw (net-kind net k l) (kind-last net r k l);
+    kind = rw (net-kind net k l) (omega (arith, kind-last net r k l));
     output = rw (net-out net k l) (one-most (elem (net .outputs) (numberOn net k)));
     pin = net-pins;
   }

@@ -11,7 +11,7 @@ use borrow.Author.Tests.{le-leb}
 use Rattle.ground.specs.Choose.{choose}
 use Rattle.ground.proofs.Tests.{either}
 use Rattle.ground.proofs.Lists.{index-in}
-use Rattle.gates.specs.Gate.{lastKind, pinsOf}
+use Rattle.gates.specs.Gate.{selector, pinsOf}
 use Rattle.order.specs.Order.{Source}
 use Rattle.order.proofs.Says.{sources-before}
 use Rattle.records.specs.Net.{Net, gatesOf, netSize, pinOf, placedOf, netLine, numberOn, netKind, netSource}
@@ -69,9 +69,9 @@ module _ (net : Net) where
 
     -- ---- on line k
 
-    pub kind-last : (k : ℕ) → k < netSize net → netKind net k ≤ lastKind
+    pub kind-last : (k : ℕ) → k < netSize net → netKind net k < selector
     kind-last =
-        line-cases net (λ k. netKind net k ≤ lastKind)
+        line-cases net (λ k. netKind net k < selector)
         (λ k l. rw (input-kind net k l) (omega arith))
         (λ i l. rw (kind-gate i) (r .last-kind (getD (placedOf net) i 0) (order-gate net r i l)))
 

@@ -3,7 +3,7 @@
 use mathlib.Core.Path.{_≡_}
 use Prim.Native.Nat.{ℕ, _+_, _≤_, _<_}
 use lib.ListN.{length, getD}
-use Rattle.gates.specs.Gate.{lastKind}
+use Rattle.gates.specs.Gate.{selector}
 use Rattle.answers.specs.Rules.{refusal}
 use Rattle.answers.specs.declared.Ruling.the-variants.{Fine}
 use Rattle.order.specs.Order.{cycleRules}
@@ -14,12 +14,12 @@ pub record Solved {A : Type 0} (gate : ℕ → (ℕ → A) → A) (net : Net) (i
   pub given : (j : ℕ) → j < net .inputs → value (gatesOf net + j) ≡ inputs j
   pub equation : (g : ℕ) → g < gatesOf net → value g ≡ gate (getD (net .kinds) g 0) (λ s. value (pinOf net g s))
 
--- tables of one length, kinds that are gates, numbers of gates and inputs alone, and no gate left over
+-- tables of one length, kinds that are gates and no selectors, numbers of gates and inputs alone, and no gate left over
 pub record Right (net : Net) : Type 0 where
   pub kinds-long : length (net .kinds) ≡ gatesOf net
   pub seconds-long : length (net .seconds) ≡ gatesOf net
   pub some-kind : (g : ℕ) → g < gatesOf net → 1 ≤ getD (net .kinds) g 0
-  pub last-kind : (g : ℕ) → g < gatesOf net → getD (net .kinds) g 0 ≤ lastKind
+  pub last-kind : (g : ℕ) → g < gatesOf net → getD (net .kinds) g 0 < selector
   pub firsts-in : (g : ℕ) → g < gatesOf net → getD (net .firsts) g 0 < netSize net
   pub seconds-in : (g : ℕ) → g < gatesOf net → getD (net .seconds) g 0 < netSize net
   pub outputs-in : (i : ℕ) → i < length (net .outputs) → getD (net .outputs) i 0 < netSize net

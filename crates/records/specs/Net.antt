@@ -44,7 +44,7 @@ netLine net x = choose (ltb x (gatesOf net)) (net .inputs + indexIn (placedOf ne
 unfoldable pub numberOn : Net → ℕ → ℕ
 numberOn net k = choose (ltb k (net .inputs)) (gatesOf net + k) (getD (placedOf net) (k - net .inputs) 0)
 
--- ---- the record of line k: kind, whether it is an output, and the lines of the sources that the kind has
+-- ---- the record of line k: kind, whether it is an output, and the lines of the sources that the kind has. A net has two sources a gate: bytes 6 and 7 are 0
 
 unfoldable pub netKind : Net → ℕ → ℕ
 netKind net k = choose (ltb k (net .inputs)) 0 (getD (net .kinds) (numberOn net k) 0)
@@ -54,7 +54,7 @@ netSource net k s = choose (leb s (pinsOf (netKind net k))) (netLine net (pinOf 
 
 unfoldable pub recordOn : Net → ℕ → List ℕ
 recordOn net k =
-    netKind net k ∷ one (elem (net .outputs) (numberOn net k)) ∷ (le 2 (netSource net k 1) ++ (le 2 (netSource net k 2) ++ le 2 (netSource net k 3)))
+    netKind net k ∷ one (elem (net .outputs) (numberOn net k)) ∷ (le 2 (netSource net k 1) ++ (le 2 (netSource net k 2) ++ le 2 0))
 
 -- of the first n lines
 unfoldable pub recordsTo : Net → ℕ → List ℕ

@@ -64,7 +64,7 @@ fn source(line: &[u16], kind: u8, pin: usize, number: u16) -> u16
 
 // ---- writing: each writer answers the place after what it wrote
 
-// A record; no kind has a third source.
+// A record; no gate of a net has a third source.
 fn put_record(records: &mut [u8], at: usize, kind: u8, flag: u8, first: u16, second: u16) -> usize
     requires { ⌜ at + 8 ≤ length (now records) ⌝ }
     ensures { λ r. ⌜ Put (now (records .entry)) (now (records .exit)) at (recordOf kind flag first second) r ⌝ }

@@ -5,14 +5,12 @@ use mathlib.Core.Bool.{Bool, true, false}
 use mathlib.Core.List.{List}
 use Prim.Native.Nat.{ℕ, _≤_, _<_}
 use native.Mathlib.Omega.{arith}
-use lib.Dec.{eqb, leb}
 use borrow.Author.Tests.{eqb-false}
 use Rattle.ground.specs.Choose.{choose}
 use Rattle.ground.proofs.Below.{each-below}
 use Rattle.ground.proofs.Grow.{grow-at, grow-meet}
-use Rattle.gates.specs.Gate.{pinsOf}
 use Rattle.gates.specs.Boolean.{boolGate}
-use Rattle.gates.proofs.Laws.{bool-same}
+use Rattle.gates.proofs.Laws.{few-pins, bool-same}
 use Rattle.circuit.specs.Record.{kindAt, pinAt, isInput, inputsBefore}
 use Rattle.circuit.specs.Formed.{WellFormed}
 use Rattle.simulate.specs.Boolean.{Vector, Truths, gateTruth, lineTruth, truthsTo, truthAt}
@@ -23,15 +21,6 @@ follows F c x g k = F k 0 (choose (isInput c k) (x (inputsBefore c k)) (boolGate
 
 pub record Column (F : Truths) (c : List ℕ) (x : Vector) (n : ℕ) (g : ℕ → Bool) : Type 0 where
   pub line : (k : ℕ) → k < n → g k ≡ follows F c x g k
-
-few-pins : (kind : ℕ) → pinsOf kind ≤ 3
-unfolding pinsOf
-few-pins kind = go (eqb kind 0) (leb kind 2)
-  where
-    go : (s t : Bool) → choose s 0 (choose t 1 2) ≤ 3
-    go true t = omega arith
-    go false true = omega arith
-    go false false = omega arith
 
 -- a gate of a well formed circuit, by what its pins see
 module _ {c : List ℕ} {m n : ℕ} (w : WellFormed c m n) {k : ℕ} (l : k < n) (gate : isInput c k ≡ false) where

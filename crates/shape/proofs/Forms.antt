@@ -1,21 +1,21 @@
 -- What a line's form says in a right text: 1 is an INPUT, 2 an OUTPUT, 3 and 4 a gate of a kind with one and with two sources, 0 nothing.
 -- Assumes nothing.
-use mathlib.Core.Path.{_≡_, refl, sym, ap, _∙_, subst}
+use mathlib.Core.Path.{_≡_, sym, ap, _∙_, subst}
 use mathlib.Core.Logic.{_⊎_, inl, inr, ⊎-elim}
-use mathlib.Core.Bool.{Bool, true, false}
+use mathlib.Core.Bool.{true, false}
 use mathlib.Core.List.{List}
 use Prim.Native.Nat.{ℕ, _+_, _≤_, _<_}
 use native.Mathlib.Omega.{arith}
-use lib.Dec.{leb}
 use lib.ListN.{length, getD, List·getD-eq-default}
-use borrow.Author.Tests.{ne-eqb, leb-true}
+use borrow.Author.Tests.{leb-true}
 use Rattle.ground.specs.Choose.{choose}
 use Rattle.ground.proofs.Tests.{either}
-use Rattle.gates.specs.Gate.{pinsOf}
+use Rattle.gates.specs.Gate.{selector, pinsOf}
+use Rattle.gates.proofs.Laws.{two-pins, gate-pin}
 use Rattle.words.specs.Words.{same, wordsIn, endsIn}
 use Rattle.words.proofs.Same.{same-refl}
 use Rattle.syntax.specs.Kinds.{inputWord, outputWord, portWords, kindOf, Among}
-use Rattle.syntax.proofs.KindTable.{Named, kind-named}
+use Rattle.syntax.proofs.KindTable.{no-selector, Named, kind-named}
 use Rattle.syntax.specs.Syntax.{Formed}
 use Rattle.forms.specs.Lines.{sizeAt, formOf, formsOf}
 use Rattle.forms.specs.Forms.{saysGate}
@@ -37,13 +37,11 @@ no-input : (w : List ℕ) → w ≡ outputWord → same w inputWord ≡ false
 unfolding same outputWord inputWord
 no-input w e = ap (λ (v : List ℕ). same v inputWord) e
 
-one-or-two : (kind : ℕ) → 1 ≤ kind → (pinsOf kind ≡ 1) ⊎ (pinsOf kind ≡ 2)
-unfolding pinsOf
-one-or-two kind l = rw (ne-eqb kind 0 (λ e. omega arith)) (go (leb kind 2))
-  where
-    go : (b : Bool) → (_≡_ {A = ℕ} (choose b 1 2) 1) ⊎ (_≡_ {A = ℕ} (choose b 1 2) 2)
-    go true = inl refl
-    go false = inr refl
+one-or-two : (kind : ℕ) → 1 ≤ kind → kind < selector → (pinsOf kind ≡ 1) ⊎ (pinsOf kind ≡ 2)
+one-or-two kind some named =
+    let least = gate-pin kind (λ e. omega arith) in
+    let most = two-pins kind (λ e. omega arith) in
+    ⊎-elim (λ l. inl (omega arith)) (λ l. inr (omega arith)) (either (pinsOf kind) 2)
 
 module _ (t : List ℕ) (f : Formed t) (k : ℕ) (h : k < length (endsIn t)) where
   port-says : sizeAt (endsIn t) k ≡ 2 → Among portWords (wordOn t k 0) → LineSays t k (choose (same (wordOn t k 0) inputWord) 1 2)
@@ -59,7 +57,7 @@ module _ (t : List ℕ) (f : Formed t) (k : ℕ) (h : k < length (endsIn t)) whe
       ⊎-elim
       (λ p. let one : n ≡ 1 = sym (m .pins) ∙ p in rw (e, one) (gate 1 (e ∙ ap (λ (i : ℕ). 2 + i) one) (rw one at m)))
       (λ p. let two : n ≡ 2 = sym (m .pins) ∙ p in rw (e, two) (gate 2 (e ∙ ap (λ (i : ℕ). 2 + i) two) (rw two at m)))
-      (one-or-two (kindOf (wordOn t k 1)) (m .some))
+      (one-or-two (kindOf (wordOn t k 1)) (m .some) (no-selector (wordOn t k 1)))
 
   pub line-says : LineSays t k (formOf t (wordsIn t) (endsIn t) k)
   unfolding formOf
@@ -89,7 +87,7 @@ gate-from (nothing e) l = absurd (omega arith)
 gate-from (input e w) l = absurd (omega arith)
 gate-from (output e w) l = absurd (omega arith)
 gate-from (gate n e m) l = (
-  record { some-kind = m .some; last-kind = m .last; words = e ∙ ap (λ (i : ℕ). 2 + i) (sym (m .pins)) },
+  record { some-kind = m .some; last-kind = no-selector _; words = e ∙ ap (λ (i : ℕ). 2 + i) (sym (m .pins)) },
   sym e,
 )
 

@@ -3,10 +3,10 @@
 -- Assumes nothing.
 use mathlib.Core.Path.{_≡_}
 use mathlib.Core.List.{List, [], _∷_, map}
-use Prim.Native.Nat.{ℕ, _+_, _≤_}
+use Prim.Native.Nat.{ℕ, _+_, _≤_, _<_}
 use lib.ListN.{length}
 use Rattle.ground.specs.Lists.{table}
-use Rattle.gates.specs.Gate.{lastKind, pinsOf}
+use Rattle.gates.specs.Gate.{selector, pinsOf}
 use Rattle.words.specs.Words.{wordAt, wordsIn, endsIn}
 use Rattle.syntax.specs.Kinds.{portWords, kindWords, kindOf, Among}
 use Rattle.forms.specs.Lines.{sizeAt, wordIn}
@@ -25,8 +25,8 @@ wordsOn t k = map (wordAt t) (table (wordIn (wordsIn t) (endsIn t) k) (sizeAt (e
 abbrev pub wordOn : List ℕ → ℕ → ℕ → List ℕ
 wordOn t k j = wordAt t (wordIn (wordsIn t) (endsIn t) k j)
 
--- line k has a name, a kind of gates, and as many sources as the gates' rule has pins for it
+-- line k has a name, a kind of gates that is no selector, and as many sources as the gates' rule has pins for it
 pub record GateLine (t : List ℕ) (k : ℕ) : Type 0 where
   pub some-kind : 1 ≤ kindOf (wordOn t k 1)
-  pub last-kind : kindOf (wordOn t k 1) ≤ lastKind
+  pub last-kind : kindOf (wordOn t k 1) < selector
   pub words : sizeAt (endsIn t) k ≡ 2 + pinsOf (kindOf (wordOn t k 1))

@@ -16,15 +16,16 @@ module _ (f : Forcing) (c vs : List ℕ) (k : ℕ) where
   unfolding lineIn
   input-in e = rw (eq-eqb _ _ e)
 
-  -- a gate whose pins see a and b
-  pub gate-in : {a b r : ℕ}
+  -- a gate whose pins see x, y and z
+  pub gate-in : {x y z r : ℕ}
       → (kindAt c k ≡ 0 → ⊥)
-      → a ≡ f k 1 (getD vs (pinAt c k 1) 0)
-      → b ≡ f k 2 (getD vs (pinAt c k 2) 0)
-      → r ≡ gateOf (kindAt c k) (atPins a b)
+      → x ≡ f k 1 (getD vs (pinAt c k 1) 0)
+      → y ≡ f k 2 (getD vs (pinAt c k 2) 0)
+      → z ≡ f k 3 (getD vs (pinAt c k 3) 0)
+      → r ≡ gateOf (kindAt c k) (atPins x y z)
       → f k 0 r ≡ lineIn f c vs k
   unfolding lineIn gateValue gateOf
-  gate-in ne p q e = rw (ne-eqb _ _ ne) (ap (f k 0) (e ∙ rw (p, q)))
+  gate-in ne p q s e = rw (ne-eqb _ _ ne) (ap (f k 0) (e ∙ rw (p, q, s)))
 
 -- a source stands among the lines
 pub source-inside : {c : List ℕ} {n k : ℕ} → Ordered c n → k < n → (kindAt c k ≡ 0 → ⊥) → (s : ℕ) → 1 ≤ s → s ≤ 3 → pinAt c k s < n

@@ -24,7 +24,8 @@ fn line_value(circuit: &[u8], values: &[u8], k: usize) -> u8
     }
     let i = source(circuit, k, 1);
     let j = source(circuit, k, 2);
-    gate(kind, values[i], values[j])
+    let select = source(circuit, k, 3);
+    gate(kind, values[i], values[j], values[select])
 }
 
 // Gives every line from `start` on its value.
@@ -102,9 +103,11 @@ fn stuck_value(circuit: &[u8], fault: Fault, values: &[u8]) -> u8
     }
     let i = source(circuit, line, 1);
     let j = source(circuit, line, 2);
+    let select = source(circuit, line, 3);
     let a = seen(fault, 1, values[i]);
     let b = seen(fault, 2, values[j]);
-    seen(fault, 0, gate(kind, a, b))
+    let c = seen(fault, 3, values[select]);
+    seen(fault, 0, gate(kind, a, b, c))
 }
 
 // Turns good values into faulty ones, from the fault's line on.

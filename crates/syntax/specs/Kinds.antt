@@ -9,7 +9,7 @@ use Prim.Native.String.{String, [] as ε, _∷_ as _then_}
 use lib.Dec.{eqb}
 use Rattle.ground.specs.Choose.{choose}
 use Rattle.ground.specs.Lists.{table}
-use Rattle.gates.specs.Gate.{lastKind, pinsOf}
+use Rattle.gates.specs.Gate.{selector, pinsOf}
 use Rattle.words.specs.Words.{same}
 
 -- a word as bytes
@@ -37,7 +37,7 @@ pub record Kind : Type 0 where
 abbrev row : String → ℕ → ℕ → Kind
 row word number pins = record { word = bytes word; number = number; pins = pins }
 
--- document 01's, the buffer as BUFF
+-- kinds 1 to 8 of document 01, the buffer as BUFF; the selector has no word
 unfoldable pub kinds : List Kind
 kinds =
     row "BUFF" 1 1
@@ -66,11 +66,16 @@ kindIn (k ∷ ks) w = choose (same w (k .word)) (k .number) (kindIn ks w)
 unfoldable pub kindOf : List ℕ → ℕ
 kindOf w = kindIn kinds w
 
--- the table has each kind of gates once, with as many sources as the gates' rule has pins for it, and no word twice
+-- every kind of gates but the selector, which is the last
+abbrev pub namedKinds : List ℕ
+namedKinds = table suc 8
+
+-- the table has each of these once, with as many sources as the gates' rule has pins for it, and no word twice; and no word at all names the selector
 pub record EachKind : Type 0 where
-  pub numbers : map (λ k. k .number) kinds ≡ table suc lastKind
-  pub sources : map (λ k. k .pins) kinds ≡ map pinsOf (table suc lastKind)
-  pub words : map (λ k. kindOf (k .word)) kinds ≡ table suc lastKind
+  pub numbers : map (λ k. k .number) kinds ≡ namedKinds
+  pub sources : map (λ k. k .pins) kinds ≡ map pinsOf namedKinds
+  pub words : map (λ k. kindOf (k .word)) kinds ≡ namedKinds
+  pub unnamed : (w : List ℕ) → kindOf w ≡ selector → ⊥
 
 -- w is one of these words
 abbrev pub Among : List (List ℕ) → List ℕ → Type 0

@@ -13,13 +13,13 @@ abbrev gate : tie.After-literal6 → tie.Else1
 gate c = c .before .before .before .before .before .before .before .before
 
 returns : tie.Need-returns
-returns c = rw (no-shape _ _ _ _ (c .if1 .taken)) (put-none _ _)
+returns c = rw (no-shape _ _ _ _ _ (c .if1 .taken)) (put-none _ _)
 
 put-shape-requires : tie.Need-put-shape-requires
 put-shape-requires c κs =
     let some = gate (c .before) in
     let s = some .before in
-    omega (arith, s .pre .room, shape-length _ (s .args .y) (s .args .a) (s .args .b) (s .pre .kind-last) (some .if1 .left))
+    omega (arith, s .pre .1 .room, shape-length _ (s .args .y) (s .args .a) (s .args .b) (s .args .b) (s .pre .0) (some .if1 .left))
 
 returns-2 : tie.Need-returns-2
 returns-2 c =
@@ -32,8 +32,8 @@ returns-2 c =
     let pins = p .before in
     let own = pins .before in
     let some = own .before in
-    let pre = some .before .pre in
-    rw (shape-is _ _ _ _ (pre .kind-last) (some .if1 .left) _ _ (own .is-one-of .ensures) (pins .is-one-of2 .ensures))
+    let pre = some .before .pre .1 in
+    rw (shape-is _ _ _ _ _ (some .before .pre .0) (some .if1 .left) _ _ (own .is-one-of .ensures) (pins .is-one-of2 .ensures))
     (rw (
       literal-back _ _ (pre .own) (p .literal .ensures),
       literal-back _ _ (pre .own) (not-p .literal2 .ensures),

@@ -13,20 +13,29 @@ returns c = input-in unforced _ _ _ (c .before .if1 .taken)
 
 shared-slice-read-gate : tie.Need-shared-slice-read-gate
 shared-slice-read-gate c =
-    let s = c .before .before .before .before .before .before .before in
-    rw (c .before .before .source .ensures)
-    (source-inside (s .pre .0) (s .pre .1) (c .before .before .before .if1 .left) 1 (omega arith) (omega arith))
+    let gate = c .before .before .before .before in
+    let s = gate .before .before .before .before in
+    rw (c .before .before .before .source .ensures) (source-inside (s .pre .0) (s .pre .1) (gate .if1 .left) 1 (omega arith) (omega arith))
 
 shared-slice-read-gate-2 : tie.Need-shared-slice-read-gate-2
 shared-slice-read-gate-2 c =
-    let s = c .before .before .before .before .before .before .before .before in
-    rw (c .before .before .source2 .ensures)
-    (source-inside (s .pre .0) (s .pre .1) (c .before .before .before .before .if1 .left) 2 (omega arith) (omega arith))
+    let gate = c .before .before .before .before .before in
+    let s = gate .before .before .before .before in
+    rw (c .before .before .before .source2 .ensures) (source-inside (s .pre .0) (s .pre .1) (gate .if1 .left) 2 (omega arith) (omega arith))
+
+shared-slice-read-gate-3 : tie.Need-shared-slice-read-gate-3
+shared-slice-read-gate-3 c =
+    let gate = c .before .before .before .before .before .before in
+    let s = gate .before .before .before .before in
+    rw (c .before .before .before .source3 .ensures) (source-inside (s .pre .0) (s .pre .1) (gate .if1 .left) 3 (omega arith) (omega arith))
 
 returns-2 : tie.Need-returns-2
 returns-2 c =
-    gate-in unforced _ _ _ (c .before .before .before .before .before .if1 .left) (rw (c .before .before .before .before .source .ensures) refl)
-    (rw (c .before .before .before .source2 .ensures) refl) (c .gate .ensures)
+    let select = c .before .before .before .before in
+    let second = select .before in
+    let first = second .before in
+    gate-in unforced _ _ _ (first .before .if1 .left) (rw (first .source .ensures) refl) (rw (second .source2 .ensures) refl)
+    (rw (select .source3 .ensures) refl) (c .gate .ensures)
 
 pub line-value-spec : {M : Type 1} → statement M
 line-value-spec =
@@ -38,7 +47,9 @@ line-value-spec =
     returns
     (λ c κs. search needs)
     (λ c κs. search needs)
+    (λ c κs. search needs)
     shared-slice-read-gate
     shared-slice-read-gate-2
+    shared-slice-read-gate-3
     (λ c κs. search needs)
     returns-2)

@@ -13,22 +13,33 @@ returns c = c .seen .ensures ∙ input-in (stuckAt _) _ _ _ (c .before .before .
 
 shared-slice-read-seen-2 : tie.Need-shared-slice-read-seen-2
 shared-slice-read-seen-2 c =
-    let s = c .before .before .before .before .before .before .before in
-    rw (c .before .before .source .ensures)
-    (source-inside (s .pre .0) (s .pre .1) (c .before .before .before .if1 .left) 1 (omega arith) (omega arith))
+    let gate = c .before .before .before .before in
+    let s = gate .before .before .before .before in
+    rw (c .before .before .before .source .ensures) (source-inside (s .pre .0) (s .pre .1) (gate .if1 .left) 1 (omega arith) (omega arith))
 
 shared-slice-read-seen-3 : tie.Need-shared-slice-read-seen-3
 shared-slice-read-seen-3 c =
-    let s = c .before .before .before .before .before .before .before .before .before in
-    rw (c .before .before .before .source2 .ensures)
-    (source-inside (s .pre .0) (s .pre .1) (c .before .before .before .before .before .if1 .left) 2 (omega arith) (omega arith))
+    let gate = c .before .before .before .before .before .before in
+    let s = gate .before .before .before .before in
+    rw (c .before .before .before .before .source2 .ensures) (source-inside (s .pre .0) (s .pre .1) (gate .if1 .left) 2 (omega arith) (omega arith))
+
+shared-slice-read-seen-4 : tie.Need-shared-slice-read-seen-4
+shared-slice-read-seen-4 c =
+    let gate = c .before .before .before .before .before .before .before .before in
+    let s = gate .before .before .before .before in
+    rw (c .before .before .before .before .before .source3 .ensures) (source-inside (s .pre .0) (s .pre .1) (gate .if1 .left) 3 (omega arith) (omega arith))
 
 returns-2 : tie.Need-returns-2
 returns-2 c =
-    c .seen4 .ensures
-    ∙ gate-in (stuckAt _) _ _ _ (c .before .before .before .before .before .before .before .before .if1 .left)
-    (rw (← c .before .before .before .before .before .before .before .source .ensures) (c .before .before .before .before .seen2 .ensures))
-    (rw (← c .before .before .before .before .before .before .source2 .ensures) (c .before .before .seen3 .ensures)) (c .before .gate .ensures)
+    let third = c .before .before in
+    let second = third .before .before in
+    let first = second .before .before in
+    let sources = first .before .before in
+    c .seen5 .ensures
+    ∙ gate-in (stuckAt _) _ _ _ (sources .before .before .before .if1 .left)
+    (rw (← sources .before .before .source .ensures) (first .seen2 .ensures))
+    (rw (← sources .before .source2 .ensures) (second .seen3 .ensures))
+    (rw (← sources .source3 .ensures) (third .seen4 .ensures)) (c .before .gate .ensures)
 
 pub stuck-value-spec : {M : Type 1} → statement M
 stuck-value-spec =
@@ -41,9 +52,12 @@ stuck-value-spec =
     returns
     (λ c κs. search needs)
     (λ c κs. search needs)
+    (λ c κs. search needs)
     shared-slice-read-seen-2
     (λ c κs. search needs)
     shared-slice-read-seen-3
+    (λ c κs. search needs)
+    shared-slice-read-seen-4
     (λ c κs. search needs)
     (λ c κs. search needs)
     (λ c κs. search needs)
