@@ -45,15 +45,21 @@ static int same(const uint8_t *a, const uint8_t *b, size_t len) {
 #define EIGHT_INPUTS INPUT, INPUT, INPUT, INPUT, INPUT, INPUT, INPUT, INPUT
 #define OUTPUT_OF(line) LINE(ULLIMAQSU_BUFFER, 1, line, 0)
 #define NOT_OF(output, line) LINE(ULLIMAQSU_NOT, output, line, 0)
+#define SELECTOR_OF(output, a, b, select) ULLIMAQSU_SELECTOR, output, a, 0, b, 0, select, 0
 
 static const uint8_t
     example_a[] = {INPUT, INPUT, INPUT, LINE(ULLIMAQSU_AND, 0, 0, 1), LINE(ULLIMAQSU_OR, 1, 3, 2)},
     first_is_a_buffer[] = {OUTPUT_OF(0)},
     reads_itself[] = {INPUT, INPUT, NOT_OF(1, 2)},
-    no_such_kind[] = {INPUT, LINE(9, 2, 1, 1)},
+    no_such_kind[] = {INPUT, LINE(ULLIMAQSU_SELECTOR + 1, 2, 1, 1)},
     no_such_output[] = {INPUT, LINE(ULLIMAQSU_BUFFER, 2, 1, 1)},
     second_byte_alone[] = {INPUT, ULLIMAQSU_AND, 1, 0, 0, 0, 1, 0, 0},
-    last_byte_alone[] = {INPUT, ULLIMAQSU_AND, 1, 0, 0, 0, 0, 0, 1, LINE(9, 2, 3, 3)},
+    last_byte_alone[] = {INPUT, ULLIMAQSU_AND, 1, 0, 0, 0, 0, 0, 1, LINE(ULLIMAQSU_SELECTOR + 1, 2, 3, 3)},
+    selector[] = {INPUT, INPUT, INPUT, SELECTOR_OF(1, 0, 1, 2)},
+    one_line_for_all_three[] = {INPUT, SELECTOR_OF(1, 0, 0, 0)},
+    and_with_a_select[] = {INPUT, INPUT, ULLIMAQSU_AND, 1, 0, 0, 1, 0, 1, 0},
+    selects_itself[] = {INPUT, INPUT, INPUT, SELECTOR_OF(1, 0, 1, 3)},
+    select_too_high[] = {INPUT, INPUT, INPUT, ULLIMAQSU_SELECTOR, 1, 0, 0, 1, 0, 2, 1},
     no_output[] = {INPUT, NOT_OF(0, 0)},
     inputs_64[] = {EIGHT_INPUTS, EIGHT_INPUTS, EIGHT_INPUTS, EIGHT_INPUTS, EIGHT_INPUTS, EIGHT_INPUTS, EIGHT_INPUTS, EIGHT_INPUTS, OUTPUT_OF(63)},
     inputs_65[] = {EIGHT_INPUTS, EIGHT_INPUTS, EIGHT_INPUTS, EIGHT_INPUTS, EIGHT_INPUTS, EIGHT_INPUTS, EIGHT_INPUTS, EIGHT_INPUTS, INPUT, OUTPUT_OF(64)};
@@ -75,6 +81,11 @@ static const struct {
     {"no such output, both sources wrong too", no_such_output, sizeof no_such_output, ULLIMAQSU_CIRCUIT_LAYOUT, {9, 0, 0, 0}},
     {"only a source's second byte wrong", second_byte_alone, sizeof second_byte_alone, ULLIMAQSU_CIRCUIT_LAYOUT, {12, 0, 0, 0}},
     {"only the last byte wrong, and a line after it", last_byte_alone, sizeof last_byte_alone, ULLIMAQSU_CIRCUIT_LAYOUT, {14, 0, 0, 0}},
+    {"a selector", selector, sizeof selector, ULLIMAQSU_FINE, {4, 3, 1, 0}},
+    {"a selector that reads one line at each pin", one_line_for_all_three, sizeof one_line_for_all_three, ULLIMAQSU_FINE, {2, 1, 1, 0}},
+    {"an AND with a select", and_with_a_select, sizeof and_with_a_select, ULLIMAQSU_CIRCUIT_LAYOUT, {22, 0, 0, 0}},
+    {"a selector that selects by itself", selects_itself, sizeof selects_itself, ULLIMAQSU_CIRCUIT_LAYOUT, {30, 0, 0, 0}},
+    {"only a select's second byte wrong", select_too_high, sizeof select_too_high, ULLIMAQSU_CIRCUIT_LAYOUT, {30, 0, 0, 0}},
     {"65 inputs", inputs_65, sizeof inputs_65, ULLIMAQSU_MANY_INPUTS, {0, 0, 0, 0}},
     {"65 inputs and no output", inputs_65, 65 * 8, ULLIMAQSU_MANY_INPUTS, {0, 0, 0, 0}},
     {"no output", no_output, sizeof no_output, ULLIMAQSU_NO_OUTPUT, {0, 0, 0, 0}},
@@ -172,10 +183,13 @@ static void test_lanes(void) {
     for (size_t len = 0; len <= 40; len++) expect_lanes(0, 20, len, len == 32 ? ULLIMAQSU_FINE : ULLIMAQSU_BUFFER_SIZE);
 }
 
-/* An AND of two inputs, the output, line 0 stuck at 1, and each entry that there is: with 0X the good value is 0 and the faulty one X, with X1
-   the good value is X and the output masked. Both dictionary makers find them. */
+/* An AND of two inputs, the output. */
+static const uint8_t and_of_two[] = {INPUT, INPUT, LINE(ULLIMAQSU_AND, 1, 0, 1)};
+
+/* Its line 0 stuck at 1, and each entry that there is: with 0X the good value is 0 and the faulty one X, with X1 the good value is X and the
+   output masked. Both dictionary makers find them. */
 static void test_entries(void) {
-    static const uint8_t and_of_two[] = {INPUT, INPUT, LINE(ULLIMAQSU_AND, 1, 0, 1)}, line_0_at_1[] = {0, 0, 0, 1, 0, 0, 0, 0};
+    static const uint8_t line_0_at_1[] = {0, 0, 0, 1, 0, 0, 0, 0};
     static const uint8_t each[] = {0, 1, 0, 0, 0, 2, 2, 1}, expected[] = {F, P, ULLIMAQSU_UNKNOWN, P};
     uint8_t table[4], work[6], area[32];
     uint64_t words[12];
@@ -422,6 +436,75 @@ static void test_clauses(void) {
     }
 }
 
+/* A selector of lines 0 and 1 by line 2, and its select pin stuck at 1: the faulty value is line 1. The patterns have both known values of the
+   select, and X with equal sources and with unequal ones. */
+static const uint8_t select_at_1[] = {3, 0, 3, 1, 0, 0, 0, 0};
+static const uint8_t by_select[] = {0, 1, 0, 0, 1, 1, 1, 1, 2, 0, 1, 2, 0, 2, 0, 0, 0, 2};
+
+static void test_selector_dictionaries(void) {
+    static const uint8_t expected[] = {F, P, P, P, ULLIMAQSU_UNKNOWN, P}, last[] = {0, 0, 2, 0, 0, 0, 2, 0};
+    static const uint64_t in_lanes[] = {
+        4, 1 + 2 + 8 + 16 + 32, 1 + 2 + 4 + 8, 32, 2, 1 + 16, 2 + 4, 1 + 16 + 32,
+        4, 1 + 2 + 8 + 16 + 32, 1 + 2 + 4 + 8, 32, 2, 1 + 16, 1 + 2 + 4 + 8, 32,
+    };
+    uint8_t table[7], work[9], area[32];
+    uint64_t words[17];
+    fill(table, sizeof table), fill(work, sizeof work);
+    uint32_t returned = ullimaqsu_dictionary(selector, 32, select_at_1, 8, by_select, 18, table, 6, work, 8, area, 32);
+    expect(returned == ULLIMAQSU_FINE && answers(area, none), "the dictionary of a selector");
+    expect(same(table, expected, 6) && stays(table + 6, 1) && same(work, last, 8) && stays(work + 8, 1), "its table and work memory");
+
+    fill(table, sizeof table);
+    for (size_t k = 0; k < 17; k++) words[k] = JUNK;
+    returned = ullimaqsu_dictionary_lanes(selector, 32, select_at_1, 8, by_select, 18, table, 6, words, 16, area, 32);
+    expect(returned == ULLIMAQSU_FINE && answers(area, none) && same(table, expected, 6) && stays(table + 6, 1), "the same in lanes");
+    for (size_t k = 0; k < 17; k++) expect(words[k] == (k < 16 ? in_lanes[k] : JUNK), "a selector's words, and nothing else");
+}
+
+/* The nodes are XXX, 0XX, 00X, which is left since both sources are 0, 01X and the test 010. */
+static void test_selector_searches(void) {
+    static const uint8_t found[] = {0, 1, 0, JUNK}, worked[] = {0, 1, 0, 0, 0, 1, 0, 1, JUNK};
+    static const uint64_t budget[1] = {5}, test_of_5[4] = {ULLIMAQSU_TEST, 5};
+    uint8_t test[4], work[9], outcome[] = {JUNK, JUNK}, area[32];
+    uint64_t count[] = {JUNK, JUNK};
+    fill(test, sizeof test), fill(work, sizeof work);
+    uint32_t returned = ullimaqsu_search(selector, 32, select_at_1, 8, 5, test, 3, work, 8, area, 32);
+    expect(returned == ULLIMAQSU_FINE && answers(area, test_of_5), "the search with a selector");
+    expect(same(test, found, 4) && same(work, worked, 9), "its test and work memory");
+
+    fill(test, sizeof test), fill(work, sizeof work);
+    returned = ullimaqsu_search_all(selector, 32, select_at_1, 8, budget, 1, outcome, 1, count, 1, test, 3, work, 8, area, 32);
+    expect(returned == ULLIMAQSU_FINE && answers(area, none), "the search for a list with a selector");
+    expect(outcome[0] == ULLIMAQSU_TEST && outcome[1] == JUNK && count[0] == 5 && count[1] == JUNK, "its outcome and its count");
+    expect(same(test, found, 4) && same(work, worked, 9), "its test and work memory");
+}
+
+static void test_selector_clauses(void) {
+    static const uint64_t written[4] = {70, 20, 10};
+    static const int32_t expected[] = {
+        5, -7, 1, 0, 5, 7, -1, 0, -5, -7, 3, 0, -5, 7, -3, 0, 9, 0,
+        -2, 1, 0, 2, -1, 0, -4, 3, 0, 4, -3, 0, -6, 5, 0, 6, -5, 0, 9, -8, 2, 0, 9, 8, -2, 0, -9, -8, 4, 0, -9, 8, -4, 0,
+        -10, 7, 8, 0, -10, -7, -8, 0, 10, -7, 8, 0, 10, 7, -8, 0, 10, 0, JUNK,
+    };
+    int32_t words[71];
+    uint8_t area[32];
+    for (size_t k = 0; k < 71; k++) words[k] = JUNK;
+    uint32_t returned = ullimaqsu_clauses(selector, 32, select_at_1, 8, words, 71, area, 32);
+    expect(returned == ULLIMAQSU_FINE && answers(area, written), "the clauses of a selector");
+    expect(same((const uint8_t *)words, (const uint8_t *)expected, sizeof words), "they are written, and nothing else");
+}
+
+static void test_pins(void) {
+    static const uint8_t third[] = {2, 0, 3, 1, 0, 0, 0, 0}, fourth[] = {3, 0, 4, 1, 0, 0, 0, 0};
+    uint8_t table[9], work[8], area[32];
+    fill(table, sizeof table), fill(work, sizeof work);
+    uint32_t returned = ullimaqsu_dictionary(and_of_two, 24, third, 8, by_select, 18, table, 9, work, 6, area, 32);
+    expect(returned == ULLIMAQSU_FAULT_LAYOUT && answers(area, none), "an AND has no select pin");
+    returned = ullimaqsu_dictionary(selector, 32, fourth, 8, by_select, 18, table, 6, work, 8, area, 32);
+    expect(returned == ULLIMAQSU_FAULT_LAYOUT && answers(area, none), "a selector has no fourth pin");
+    expect(stays(table, sizeof table) && stays(work, sizeof work), "nothing is written for a pin that is not there");
+}
+
 /* Texts in the bench notation. c17 has its gates before their sources and its inputs last, a comment, CR LF and tabs. */
 #define INPUTS_8(x) "INPUT(" x "0)\nINPUT(" x "1)\nINPUT(" x "2)\nINPUT(" x "3)\nINPUT(" x "4)\nINPUT(" x "5)\nINPUT(" x "6)\nINPUT(" x "7)\n"
 #define INPUTS_64 INPUTS_8("a") INPUTS_8("b") INPUTS_8("c") INPUTS_8("d") INPUTS_8("e") INPUTS_8("f") INPUTS_8("g") INPUTS_8("h")
@@ -525,6 +608,10 @@ int main(void) {
     test_search_all();
     test_outcomes();
     test_clauses();
+    test_selector_dictionaries();
+    test_selector_searches();
+    test_selector_clauses();
+    test_pins();
     test_bench();
     test_bench_names();
     test_handed_on();

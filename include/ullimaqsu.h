@@ -19,15 +19,16 @@
  *   1 to 2,048 records of 8 bytes, one a line; a line's number is its record's place, from 0. 1 to 64 lines are inputs.
  *       byte 0       its kind
  *       byte 1       1 if the line is an output, else 0
- *       bytes 2-3    first source, bytes 4-5 second source: lower than the line itself, or 0 where the kind has no such source
- *       bytes 6-7    zero
+ *       bytes 2-3    first source, bytes 4-5 second source, bytes 6-7 select: lower than the line itself, or 0 where the kind has no such source
+ *   A selector, which alone has a select, gives the value of its first source where the select is 0 and that of its second where it is 1; where
+ *   the select is X it gives the value of both if that is known and the same, else X.
  *
  * Fault
  *
  *   A record of 8 bytes. A fault on the line shows wherever the line is read and at the output if it is one; a fault on a pin is seen by
  *   that gate alone.
  *       bytes 0-1    line
- *       byte 2       site: 0 the line itself, 1 its first pin, 2 its second pin; the kind must have that pin
+ *       byte 2       site: 0 the line itself, 1 its first pin, 2 its second pin, 3 its select pin; the kind must have that pin
  *       byte 3       the stuck value, 0 or 1
  *       bytes 4-7    zero
  *
@@ -43,7 +44,7 @@
  *   end, of any bytes but LF.
  *       INPUT(a)          a is an input
  *       OUTPUT(y)         y is an output; written again it counts once
- *       y = NAND(a, b)    y is a gate: BUFF or NOT with one source, AND, NAND, OR, NOR, XOR or XNOR with two
+ *       y = NAND(a, b)    y is a gate: BUFF or NOT with one source, AND, NAND, OR, NOR, XOR or XNOR with two; a selector has no name here
  *   A name is any 1 to 16 letters, digits or underscores, the words above among them. It is defined once, as an input or a gate, anywhere in
  *   the text. Spaces, tabs and CR may stand anywhere but inside a word.
  *
@@ -89,15 +90,15 @@ typedef __UINT64_TYPE__ uint64_t;
     each(ULLIMAQSU_BENCH_NAME,     15, "a name is used and defined nowhere, or defined a second time", "byte") \
     each(ULLIMAQSU_BENCH_CYCLE,    16, "a gate depends on itself, or on one that does", "gate")
 
-/* The fields of a circuit record in layout order: the first byte in the record, the first of the kinds that have the field (256 where none has),
-   its name, and what is wrong with a number at the place of refusal 2, where the line's kind has the field and where it lacks it. Fields from
-   byte 2 on have two bytes. */
+/* The fields of a circuit record in layout order: the first byte in the record, the first of the kinds that have the field, its name, and what is
+   wrong with a number at the place of refusal 2, where the line's kind has the field and where it lacks it. Fields from byte 2 on have two
+   bytes. */
 #define ULLIMAQSU_FIELDS(each) \
-    each(0,   0, "kind",           "is no kind", "") \
-    each(1,   0, "output",         "is neither 0 nor 1", "") \
-    each(2,   1, "first source",   "is not lower than the line", "is not 0, and the line's kind has no first source") \
-    each(4,   3, "second source",  "is not lower than the line", "is not 0, and the line's kind has no second source") \
-    each(6, 256, "last two bytes", "", "is not 0")
+    each(0, 0, "kind",           "is no kind", "") \
+    each(1, 0, "output",         "is neither 0 nor 1", "") \
+    each(2, 1, "first source",   "is not lower than the line", "is not 0, and the line's kind has no first source") \
+    each(4, 3, "second source",  "is not lower than the line", "is not 0, and the line's kind has no second source") \
+    each(6, 9, "select",         "is not lower than the line", "is not 0, and the line's kind has no select")
 
 /* What every entry returns. */
 enum ullimaqsu_refusal {
@@ -130,7 +131,7 @@ enum ullimaqsu_finding {
     ULLIMAQSU_SPARE_PATTERN = 4 /* without this pattern the others that are kept still meet every need */
 };
 
-/* What a line is. An input has no source, a buffer and a NOT have one, the others two. */
+/* What a line is. An input has no source, a buffer and a NOT have one, the others two, and a selector also has its select. */
 enum ullimaqsu_kind {
     ULLIMAQSU_INPUT = 0,
     ULLIMAQSU_BUFFER = 1,
@@ -140,7 +141,8 @@ enum ullimaqsu_kind {
     ULLIMAQSU_OR = 5,
     ULLIMAQSU_NOR = 6,
     ULLIMAQSU_XOR = 7,
-    ULLIMAQSU_XNOR = 8
+    ULLIMAQSU_XNOR = 8,
+    ULLIMAQSU_SELECTOR = 9
 };
 
 #ifdef __cplusplus

@@ -4,7 +4,7 @@
 #[path = "harness/named.rs"]
 mod named;
 
-use cases::circuits::{circuit, INPUT};
+use cases::circuits::{source, without_selectors, INPUT};
 use cases::directory::{root, Directory};
 use cases::texts::{chain, dense, gate, input, output};
 use cases::{drawn, Random};
@@ -25,9 +25,8 @@ fn blif(circuit: &[u8], names: &[&str]) -> String {
         |some: fn(&[u8]) -> bool| records().filter(|(record, _)| some(record)).map(|(_, name)| format!(" {name}")).collect::<String>();
     let mut text = format!(".model m\n.inputs{}\n.outputs{}\n", those(|record| record[0] == INPUT), those(|record| record[1] == 1));
     for (record, name) in records().filter(|(record, _)| record[0] != INPUT) {
-        let source = |at: usize| names[usize::from(u16::from_le_bytes([record[at], record[at + 1]]))];
-        let second = if record[0] > 2 { source(4) } else { "" };
-        text += &format!(".names {} {second} {name}\n{}\n", source(2), ONES[usize::from(record[0]) - 1]);
+        let second = if record[0] > 2 { names[source(record, 2)] } else { "" };
+        text += &format!(".names {} {second} {name}\n{}\n", names[source(record, 1)], ONES[usize::from(record[0]) - 1]);
     }
     text + ".end\n"
 }
@@ -49,17 +48,16 @@ fn verdict(directory: &Directory, text: &[u8], spoil: bool) -> String {
     String::from_utf8_lossy(&run.stdout).into_owned()
 }
 
-/// A circuit of any kinds with plain names, its gates as they stand or backwards.
+/// A circuit of any kinds that have a name in the notation, with plain names, its gates as they stand or backwards.
 fn plain(random: &mut Random) -> Vec<u8> {
     let (lines, inputs) = (2 + random.below(60), 1 + random.below(8));
-    let records = circuit(random, lines.max(inputs + 1), inputs);
+    let records = without_selectors(random, lines.max(inputs + 1), inputs);
     let name = |line: usize| format!("n{line}");
-    let source = |record: &[u8], at: usize| name(usize::from(u16::from_le_bytes([record[at], record[at + 1]])));
     let mut all = vec![];
     for (line, record) in records.chunks_exact(8).enumerate() {
         all.push(match record[0] {
             INPUT => input(&name(line)),
-            kind => gate(&name(line), kind, [&source(record, 2), &source(record, 4)]),
+            kind => gate(&name(line), kind, [1, 2].map(|pin| name(source(record, pin))).each_ref().map(String::as_str)),
         });
         if record[1] == 1 {
             all.push(output(&name(line)));

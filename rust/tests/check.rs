@@ -5,7 +5,8 @@
 mod defects;
 mod harness;
 
-use cases::circuits::{circuit, example_a, record, small, AND, BUFFER, INPUT, NOT, XNOR};
+use cases::circuits::{circuit, example_a, record, selector, small, AND, BUFFER, INPUT, NOT, SELECTOR, XNOR};
+use cases::selects::{self, Sort, WIRED};
 use cases::{damage, drawn, Random};
 use defects::defects;
 use harness::{compare, first_defect_is_told, library, wrong_programs_are_seen, Case, Check, Defect};
@@ -18,6 +19,10 @@ use std::ops::Range;
 impl Case for Check {
     fn second(&self) -> Seen {
         entries::check(&self.circuit, &self.answer)
+    }
+
+    fn selects(&self, _: &mut Seen) -> Vec<Sort> {
+        selects::all(&self.circuit, &[], &[])
     }
 }
 
@@ -38,7 +43,7 @@ fn damaged(random: &mut Random) -> Vec<u8> {
 
 /// Every byte at every place of circuits of two lines, the second of every kind.
 fn every_byte() -> impl Iterator<Item = Vec<u8>> {
-    let places = (0..9).flat_map(|kind| (0..16).map(move |place| (kind, place)));
+    let places = (INPUT..=SELECTOR).flat_map(|kind| (0..16).map(move |place| (kind, place)));
     places.flat_map(|(kind, place)| {
         (0..=255).map(move |byte| {
             let mut circuit = [record(INPUT, false, 0, 0), record(kind, true, 0, 0)].concat();
@@ -85,22 +90,25 @@ fn place(seen: &Seen) -> u64 {
 /// Where the fields of a record begin.
 const FIRST: [usize; 5] = [0, 1, 2, 4, 6];
 
-/// Bytes that are wrong in the field of this line that begins there. A source is the line itself, or wrong in its second byte alone, or in both.
-fn wrong(line: usize, first: usize) -> Vec<Vec<u8>> {
+/// Bytes that are wrong in the field of this line that begins there. A source is the line itself, or wrong in its second byte alone, or in both;
+/// the select of another kind than a selector is lower than the line too.
+fn wrong(sound: &[u8], line: usize, first: usize) -> Vec<Vec<u8>> {
+    let not_lower = [(line.max(1) as u16).to_le_bytes().to_vec(), vec![0, 8], vec![255, 255]];
     match first {
-        0 => vec![vec![9], vec![255]],
+        0 => vec![vec![10], vec![255]],
         1 => vec![vec![2], vec![255]],
-        2 | 4 => vec![(line.max(1) as u16).to_le_bytes().to_vec(), vec![0, 8], vec![255, 255]],
-        _ => vec![vec![1, 0], vec![0, 1], vec![255, 255]],
+        6 if sound[8 * line] != SELECTOR => [vec![1, 0], vec![0, 1]].into_iter().chain(not_lower).collect(),
+        _ => not_lower.to_vec(),
     }
 }
 
 /// A field spoilt: where it begins in the circuit, and the bytes.
 type Spoilt = (usize, Vec<u8>);
 
-/// Every way to spoil one field of this line.
-fn spoilt_fields(line: usize) -> impl Iterator<Item = Spoilt> {
-    FIRST.into_iter().flat_map(move |first| wrong(line, first).into_iter().map(move |bytes| (8 * line + first, bytes)))
+/// Every way to spoil one field of one of these lines.
+fn spoilt_fields(sound: &[u8], lines: impl IntoIterator<Item = usize>) -> Vec<Spoilt> {
+    let fields = lines.into_iter().flat_map(|line| FIRST.map(|first| (line, first)));
+    fields.flat_map(|(line, first)| wrong(sound, line, first).into_iter().map(move |bytes| (8 * line + first, bytes))).collect()
 }
 
 /// Any two of these that spoil two fields, and each alone, taken twice.
@@ -109,13 +117,18 @@ fn pairs(fields: &[Spoilt]) -> impl Iterator<Item = Vec<Spoilt>> + '_ {
     pairs.filter(|pair| pair[0] == pair[1] || pair[0].0 != pair[1].0)
 }
 
+/// A circuit with these fields spoilt.
+fn spoilt(sound: &[u8], fields: &[Spoilt]) -> Check {
+    let mut circuit = sound.to_vec();
+    fields.iter().for_each(|(at, bytes)| circuit[*at..*at + bytes.len()].copy_from_slice(bytes));
+    Check { circuit, answer: vec![7; 32] }
+}
+
 /// Of all fields that are spoilt the library tells the lowest, and so does the second program.
 fn lowest_is_told(name: &str, sound: &[u8], cases: impl Iterator<Item = Vec<Spoilt>>) {
     let (mut checks, mut lowest) = (vec![], vec![]);
     for fields in cases {
-        let mut circuit = sound.to_vec();
-        fields.iter().for_each(|(at, bytes)| circuit[*at..*at + bytes.len()].copy_from_slice(bytes));
-        checks.push(Check { circuit, answer: vec![7; 32] });
+        checks.push(spoilt(sound, &fields));
         lowest.push((2, fields.iter().map(|field| field.0 as u64).min().expect("a field")));
     }
     let told: Vec<_> = library(&checks).iter().map(|seen| (seen.returned, place(seen))).collect();
@@ -124,19 +137,24 @@ fn lowest_is_told(name: &str, sound: &[u8], cases: impl Iterator<Item = Vec<Spoi
     compare(name, checks.into_iter());
 }
 
-/// Refusal 2: each field wrong alone, any two in one line or in two, and any fields of a line together. A line of every kind is there.
+/// A line of every kind.
+fn every_kind() -> Vec<u8> {
+    let gate = |kind| record(kind, true, 1, if kind > NOT { 1 } else { 0 });
+    let gates = (BUFFER..=XNOR).map(gate).chain([selector(true, 1, 1, 1)]);
+    [record(INPUT, false, 0, 0); 2].into_iter().chain(gates).flatten().collect()
+}
+
+/// Refusal 2: each field wrong alone, any two in one line or in two, and any fields of a line together.
 #[test]
 fn fields() {
-    let gate = |kind| record(kind, true, 1, if kind > NOT { 1 } else { 0 });
-    let sound: Vec<u8> = [record(INPUT, false, 0, 0); 2].into_iter().chain((BUFFER..=XNOR).map(gate)).flatten().collect();
+    let sound = every_kind();
     let lines = 0..sound.len() / 8;
-    let alone: Vec<_> = lines.clone().flat_map(spoilt_fields).collect();
-    lowest_is_told("check, fields alone and in pairs", &sound, pairs(&alone));
+    lowest_is_told("check, fields alone and in pairs", &sound, pairs(&spoilt_fields(&sound, lines.clone())));
     let chosen = |line: usize, some: u32| {
         let fields = (0..5).filter(|field| some >> field & 1 == 1).map(|field| FIRST[field]);
-        fields.map(|first| (8 * line + first, wrong(line, first).swap_remove(0))).collect()
+        fields.map(|first| (8 * line + first, wrong(&sound, line, first).swap_remove(0))).collect()
     };
-    let together = lines.flat_map(|line| (1..32).map(move |some| chosen(line, some)));
+    let together = lines.flat_map(|line| (1..32).map(move |some| (line, some))).map(|(line, some)| chosen(line, some));
     lowest_is_told("check, fields together", &sound, together);
 }
 
@@ -145,7 +163,7 @@ fn fields() {
 fn fields_of_the_largest() {
     for lines in [2047, 2048] {
         let sound = circuit(&mut Random::new(7), lines, 64);
-        let fields: Vec<_> = [0, lines - 2, lines - 1].into_iter().flat_map(spoilt_fields).collect();
+        let fields = spoilt_fields(&sound, [0, lines - 2, lines - 1]);
         lowest_is_told("check, fields of the largest circuits", &sound, pairs(&fields));
     }
     let spoilt = circuit(&mut Random::new(7), 2049, 64).into_iter().map(|byte| byte | 128);
@@ -156,18 +174,21 @@ fn fields_of_the_largest() {
 
 #[test]
 fn sound_circuits() {
-    assert_eq!(compare("check, sound circuits", with_areas(drawn(1, 300_000, small))).seen(), [0, 10]);
+    assert_eq!(compare("check, sound circuits", with_areas(drawn(1, 300_000, small))).with_selects(&[&WIRED]).seen(), [0, 10]);
 }
 
 #[test]
 fn damaged_circuits() {
-    assert_eq!(compare("check, damaged circuits", with_areas(drawn(2, 700_000, damaged))).seen(), [0, 1, 2, 4, 5, 10]);
+    assert_eq!(
+        compare("check, damaged circuits", with_areas(drawn(2, 700_000, damaged))).with_selects(&[&WIRED]).seen(),
+        [0, 1, 2, 4, 5, 10]
+    );
 }
 
 #[test]
 fn every_byte_and_all_boundaries() {
     assert_eq!(compare("check, every byte", with_areas(every_byte())).seen(), [0, 2, 5, 10]);
-    assert_eq!(compare("check, boundaries", with_areas(boundaries())).seen(), [0, 1, 2, 4, 5, 10]);
+    assert_eq!(compare("check, boundaries", with_areas(boundaries())).with_selects(&[&WIRED]).seen(), [0, 1, 2, 4, 5, 10]);
 }
 
 /// Sound circuits, and some with too many inputs or no output.
@@ -182,7 +203,7 @@ fn sound_lines(random: &mut Random) -> Vec<u8> {
 /// Why no refusal has the number 3: with sound lines after it line 0 gets past refusal 2 as an input, and as no gate.
 #[test]
 fn line_0() {
-    let of_each_kind = |circuit: Vec<u8>| (INPUT..=XNOR).map(move |kind| [&[kind], &circuit[1..]].concat());
+    let of_each_kind = |circuit: Vec<u8>| (INPUT..=SELECTOR).map(move |kind| [&[kind], &circuit[1..]].concat());
     let circuits = drawn(6, 10_000, sound_lines).flat_map(of_each_kind);
     let cases: Vec<_> = circuits.map(|circuit| Check { circuit, answer: vec![7; 32] }).collect();
     let mut past = BTreeSet::new();
@@ -235,8 +256,12 @@ fn elsewhere(circuit: &[u8], other: fn(usize, [u8; 8], usize) -> usize) -> Resul
 
 type Wrong = (&'static str, fn(&[u8]) -> Result<Counts, Refusal>);
 
+const LOWER_SELECT: Wrong = ("lets another kind have a lower select", |c| {
+    cleared(c, 6..8, |line, r| r[0] != SELECTOR && usize::from(u16::from_le_bytes([r[6], r[7]])) < line)
+});
+
 /// Programs that are wrong in one way each.
-const WRONG: [Wrong; 18] = [
+const WRONG: [Wrong; 23] = [
     ("refuses everything", |_| Err(Refusal { number: 1, place: 0 })),
     ("swaps two counts", |c| second::check(c).map(|n| Counts { inputs: n.outputs, outputs: n.inputs, ..n })),
     ("gives a place one too high", |c| elsewhere(c, |_, _, first| first + 1)),
@@ -255,14 +280,24 @@ const WRONG: [Wrong; 18] = [
     }),
     ("lets a line read itself", |c| cleared(c, 2..4, |line, r| r[0] > 0 && line > 0 && r[2..4] == (line as u16).to_le_bytes())),
     ("lets line 0 read itself", |c| {
-        let counts = cleared(c, 0..1, |line, r| line == 0 && r[0] <= XNOR && r[2..] == [0; 6]);
+        let counts = cleared(c, 0..1, |line, r| line == 0 && r[0] <= SELECTOR && r[2..] == [0; 6]);
         counts.map(|n| Counts { inputs: n.inputs - usize::from(c[0] != INPUT), ..n })
     }),
     ("lets a buffer have a second source", |c| cleared(c, 4..6, |_, r| r[0] == BUFFER)),
     ("lets an input have a source", |c| cleared(c, 2..4, |_, r| r[0] == INPUT)),
-    ("does not look at bytes 6 and 7", |c| cleared(c, 6..8, |_, _| true)),
+    ("does not look at bytes 6 and 7 of other kinds", |c| cleared(c, 6..8, |_, r| r[0] != SELECTOR)),
+    LOWER_SELECT,
+    ("does not look at the select", |c| cleared(c, 6..8, |line, r| r[0] == SELECTOR && line > 0)),
+    ("does not look at the high byte of a select", |c| cleared(c, 7..8, |_, r| r[0] == SELECTOR)),
+    ("lets a selector select itself", |c| {
+        cleared(c, 6..8, |line, r| r[0] == SELECTOR && line > 0 && r[6..8] == (line as u16).to_le_bytes())
+    }),
+    ("has no selectors", |c| {
+        let later = c.iter().enumerate().map(|(at, &byte)| byte + u8::from(at % 8 == 0 && byte == SELECTOR));
+        second::check(&later.collect::<Vec<_>>())
+    }),
     ("takes any byte but 1 for no output", |c| cleared(c, 1..2, |_, r| r[1] > 1)),
-    ("takes kind 9 for an input", |c| cleared(c, 0..1, |_, r| r[0] == 9)),
+    ("takes kind 10 for an input", |c| cleared(c, 0..1, |_, r| r[0] == 10)),
     ("asks for outputs before it counts inputs", |c| instead(c, 4, c.chunks_exact(8).all(|r| r[1] == 0), 5)),
     ("counts inputs before it looks at layouts", |c| instead(c, 2, c.chunks_exact(8).filter(|r| r[0] == INPUT).count() > 64, 4)),
     ("asks for an input before it looks at layouts", |c| instead(c, 2, c.chunks_exact(8).all(|r| r[0] != INPUT), 3)),
@@ -276,6 +311,9 @@ fn wrong_programs() {
         move |case: &Check| entries::seen(&case.answer, vec![], check(&case.circuit).map(|counts| (counts.numbers(), vec![])))
     };
     wrong_programs_are_seen(&cases, WRONG.map(|(name, check)| (name, with_area(check))));
+    let sound = every_kind();
+    let alone: Vec<_> = spoilt_fields(&sound, 0..sound.len() / 8).into_iter().map(|field| spoilt(&sound, &[field])).collect();
+    wrong_programs_are_seen(&alone, [LOWER_SELECT].map(|(name, check)| (name, with_area(check))));
     wrong_programs_are_seen(&cases, [("takes any area", |case: &Check| entries::check(&case.circuit, &[0; 32]))]);
 }
 
@@ -304,6 +342,9 @@ fn bindings() {
     assert_eq!(check(&inputs(64, false)), Err((5, 0)));
     assert_eq!(check(&record(BUFFER, true, 0, 0)), Err((2, 2)));
     assert_eq!(check(&[record(INPUT, true, 0, 0), record(NOT, true, 1, 0)].concat()), Err((2, 10)));
+    assert_eq!(check(&[record(INPUT, false, 0, 0), selector(true, 0, 0, 0)].concat()), Ok([2, 1, 1]));
+    assert_eq!(check(&[record(INPUT, false, 0, 0), selector(true, 0, 0, 1)].concat()), Err((2, 14)));
+    assert_eq!(check(&[record(INPUT, false, 0, 0), record(SELECTOR + 1, true, 0, 0)].concat()), Err((2, 8)));
     assert_eq!(check(&[]), Err((1, 0)));
     for circuit in drawn(5, 1_000, damaged) {
         let said = second::check(&circuit).map(|Counts { lines, inputs, outputs }| [lines, inputs, outputs].map(|count| count as u64));

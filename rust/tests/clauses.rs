@@ -1,13 +1,18 @@
 //! The clause writer against the second program, which has an encoder of its own: every word and the answer.
 #[path = "harness/defects.rs"]
 mod defects;
+#[path = "wrong/exchanged.rs"]
+mod exchanged;
 mod harness;
 
 use cases::circuits::{circuit, record, small, AND, INPUT, NOT, XOR};
 use cases::faults::{self, some};
+use cases::selects::{self, Sort, EVERY};
 use cases::{damage, drawn, Random};
 use defects::defects;
+use exchanged::exchanged;
 use harness::{compare, first_defect_is_told, wrong_programs_are_seen, Case, Clauses, Defect};
+use second::circuit::Gate;
 use second::clauses::{clauses_of, words, Clause};
 use second::entries::{self, Seen};
 use second::{Circuit, Fault};
@@ -15,6 +20,10 @@ use second::{Circuit, Fault};
 impl Case for Clauses {
     fn second(&self) -> Seen {
         entries::clauses(&self.circuit, &self.fault, &self.words, &self.answer)
+    }
+
+    fn selects(&self, _: &mut Seen) -> Vec<Sort> {
+        selects::all(&self.circuit, &self.fault, &[])
     }
 }
 
@@ -73,17 +82,17 @@ fn boundaries() -> Vec<Clauses> {
 
 #[test]
 fn sound_clauses() {
-    assert_eq!(compare("clauses, sound", drawn(1, 50_000, sound)).seen(), [0]);
+    assert_eq!(compare("clauses, sound", drawn(1, 50_000, sound)).with_selects(&EVERY[..2]).seen(), [0]);
 }
 
 #[test]
 fn damaged_clauses() {
-    assert_eq!(compare("clauses, damaged", drawn(2, 50_000, damaged)).seen(), [0, 1, 2, 4, 5, 6, 7, 10, 11]);
+    assert_eq!(compare("clauses, damaged", drawn(2, 50_000, damaged)).with_selects(&EVERY[..2]).seen(), [0, 1, 2, 4, 5, 6, 7, 10, 11]);
 }
 
 #[test]
 fn boundaries_and_largest() {
-    assert_eq!(compare("clauses, boundaries", boundaries().into_iter()).seen(), [0, 11]);
+    assert_eq!(compare("clauses, boundaries", boundaries().into_iter()).with_selects(&EVERY[..2]).seen(), [0, 11]);
 }
 
 /// What can be wrong, in the order in which it is looked for.
@@ -110,10 +119,18 @@ fn by(case: &Clauses, change: impl Fn(&Circuit, Fault, &mut Vec<Clause>)) -> See
     seen
 }
 
+/// Where the clauses of the first good selector stand, if there is one.
+fn of_selectors(circuit: &Circuit, clauses: &[Clause]) -> Vec<usize> {
+    let is_selector = |line: &usize| matches!(circuit.lines[*line].gate, Gate::Selector(..));
+    let Some(line) = (0..circuit.lines.len()).find(is_selector) else { return vec![] };
+    let own = 2 * line as i32 + 1;
+    (0..clauses.len()).filter(|&place| clauses[place].len() == 3 && clauses[place][1].abs() == own).take(4).collect()
+}
+
 type Wrong = (&'static str, fn(&Clauses) -> Seen);
 
 /// Programs that are wrong in one way each.
-const WRONG: [Wrong; 9] = [
+const WRONG: [Wrong; 12] = [
     ("leaves the words alone", |case| Seen { lent: vec![case.words.clone().into()], ..case.second() }),
     ("always writes the same list", |case| by(case, |_, _, clauses| *clauses = vec![vec![-3, -1], vec![3, 1]])),
     ("negates the stuck value", |case| {
@@ -123,6 +140,23 @@ const WRONG: [Wrong; 9] = [
         })
     }),
     ("has one sign wrong", |case| by(case, |_, _, clauses| clauses[0][0] = -clauses[0][0])),
+    ("has one sign of a selector wrong", |case| {
+        by(case, |circuit, _, clauses| {
+            let [_, _, _, last] = of_selectors(circuit, clauses)[..] else { return };
+            clauses[last][2] = -clauses[last][2];
+        })
+    }),
+    ("writes a selector's clauses of select 1 before those of select 0", |case| {
+        by(case, |circuit, _, clauses| {
+            if let [first, .., last] = of_selectors(circuit, clauses)[..] {
+                clauses[first..=last].rotate_left(2);
+            }
+        })
+    }),
+    ("exchanges a selector's sources", |case| match case.second() {
+        refused @ Seen { returned: 1.., .. } => refused,
+        _ => Clauses { circuit: exchanged(&case.circuit), ..case.clone() }.second(),
+    }),
     ("lets faulty inputs be free", |case| {
         by(case, |circuit, _, clauses| {
             let free = |line: i32| [[-(2 * line + 2), 2 * line + 1], [2 * line + 2, -(2 * line + 1)]];

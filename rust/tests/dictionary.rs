@@ -4,20 +4,29 @@ mod changed;
 #[path = "harness/defects.rs"]
 mod defects;
 mod harness;
+#[path = "wrong/rules.rs"]
+mod rules;
 
 use cases::circuits::{record, sources, AND, INPUT};
 use cases::faults::{self, inputs};
 use cases::files::{boundaries, example_a, largest, small};
+use cases::selects::{self, Sort, EVERY};
 use cases::{damage, drawn, Files, Random};
 use changed::{accepted, written_though_refused};
 use defects::defects;
 use harness::{compare, first_defect_is_told, wrong_programs_are_seen, Case, Defect, Dictionary};
+use rules::{Rule, RULES};
+use second::circuit::Gate;
 use second::entries::{self, Seen};
 use second::{Entry, Given, Value};
 
 impl Case for Dictionary {
     fn second(&self) -> Seen {
         entries::dictionary(&self.circuit, &self.faults, &self.patterns, &self.table, &self.work, &self.answer)
+    }
+
+    fn selects(&self, seen: &mut Seen) -> Vec<Sort> {
+        selects::all(&self.circuit, &self.faults, seen.lent[1].u8())
     }
 }
 
@@ -49,21 +58,21 @@ fn damaged(random: &mut Random) -> Dictionary {
 
 #[test]
 fn sound_dictionaries() {
-    assert_eq!(compare("dictionary, sound", drawn(1, 100_000, sound)).seen(), [0]);
+    assert_eq!(compare("dictionary, sound", drawn(1, 100_000, sound)).with_selects(&EVERY).seen(), [0]);
 }
 
 #[test]
 fn damaged_dictionaries() {
-    assert_eq!(compare("dictionary, damaged", drawn(2, 150_000, damaged)).seen(), [0, 1, 2, 4, 5, 6, 7, 8, 9, 10]);
+    assert_eq!(compare("dictionary, damaged", drawn(2, 150_000, damaged)).with_selects(&EVERY).seen(), [0, 1, 2, 4, 5, 6, 7, 8, 9, 10]);
 }
 
 #[test]
 fn boundaries_and_largest() {
     let mut random = Random::new(3);
     let boundaries = boundaries(&mut random).into_iter().map(|files| lend(&mut random, files));
-    assert_eq!(compare("dictionary, boundaries", boundaries).seen(), [0, 1, 4, 6, 8]);
+    assert_eq!(compare("dictionary, boundaries", boundaries).with_selects(&EVERY).seen(), [0, 1, 4, 6, 8]);
     let files = largest(&mut random);
-    assert_eq!(compare("dictionary, largest", [lend(&mut random, files)].into_iter()).seen(), [0]);
+    assert_eq!(compare("dictionary, largest", [lend(&mut random, files)].into_iter()).with_selects(&EVERY[..2]).seen(), [0]);
 }
 
 /// What can be wrong, in the order in which it is looked for.
@@ -86,10 +95,15 @@ fn two_defects_at_once() {
 
 /// The table by another entry, and otherwise what the second program says.
 fn by(case: &Dictionary, entry: fn(&[(Value, Value)]) -> Entry) -> Seen {
+    by_rule(case, Gate::value, entry)
+}
+
+/// The same by another gate rule too.
+fn by_rule(case: &Dictionary, rule: Rule, entry: fn(&[(Value, Value)]) -> Entry) -> Seen {
     accepted(case, |seen| {
         let Given { circuit, faults, patterns } = Given::read(&case.circuit, &case.faults, &case.patterns).expect("sound");
         let of = |pattern: &[Value], fault| {
-            let (good, faulty) = (circuit.values(pattern, None), circuit.values(pattern, Some(fault)));
+            let (good, faulty) = (circuit.values_by(rule, pattern, None), circuit.values_by(rule, pattern, Some(fault)));
             entry(&circuit.outputs().map(|line| (good[line], faulty[line])).collect::<Vec<_>>()) as u8
         };
         *seen.lent[0].u8() = patterns.iter().flat_map(|pattern| faults.iter().map(|&fault| of(pattern, fault))).collect();
@@ -117,7 +131,7 @@ fn masked(outputs: &[(Value, Value)]) -> bool {
 type Wrong = (&'static str, fn(&Dictionary) -> Seen);
 
 /// Programs that are wrong in one way each.
-const WRONG: [Wrong; 12] = [
+const WRONG: [Wrong; 13] = [
     ("answers unknown everywhere", |case| by(case, |_| Entry::Unknown)),
     ("masks nothing: X in the good circuit makes unknown", |case| {
         by(case, |outputs| match right(outputs) {
@@ -160,6 +174,15 @@ const WRONG: [Wrong; 12] = [
             case.faults.chunks_exact_mut(8).filter(two_pins).for_each(|fault| fault[2] = 3 - fault[2])
         })
     }),
+    ("lets every gate have a select pin", |case| {
+        let mut seen = case.second();
+        if seen.returned == 7 {
+            let mut without = case.clone();
+            without.faults.chunks_exact_mut(8).filter(|fault| fault[2] == 3).for_each(|fault| fault[2] = 0);
+            seen = without.second();
+        }
+        seen
+    }),
     ("puts each row at the next one's place", |case| accepted(case, |seen| seen.lent[0].u8().rotate_right(case.faults.len() / 8))),
     ("leaves the work of the first fault", |case| {
         accepted(case, |seen| {
@@ -183,6 +206,7 @@ const WRONG: [Wrong; 12] = [
 fn wrong_programs() {
     let cases: Vec<_> = drawn(6, 2_000, sound).chain(drawn(7, 4_000, damaged)).collect();
     wrong_programs_are_seen(&cases, WRONG);
+    wrong_programs_are_seen(&cases, RULES.map(|(name, rule)| (name, move |case: &Dictionary| by_rule(case, rule, right))));
 }
 
 /// The entry of one pattern and one fault, as the library has it.

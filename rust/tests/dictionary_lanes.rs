@@ -7,16 +7,20 @@ mod defects;
 mod harness;
 #[path = "harness/mixes.rs"]
 mod mixes;
+#[path = "wrong/rules.rs"]
+mod rules;
 #[path = "wrong/dictionary_lanes.rs"]
 mod wrong;
 
-use cases::circuits::{record, sources, BUFFER, INPUT, XNOR};
-use cases::faults::{every, inputs};
+use cases::circuits::{record, selector, sources, BUFFER, INPUT, SELECTOR};
+use cases::faults::{self, inputs};
 use cases::files::{boundaries, example_a, largest, small};
+use cases::selects::{self, Sort, EVERY};
 use cases::{damage, drawn, lane, Files, Random, Tally};
 use defects::defects;
 use harness::{compare, first_defect_is_told, library, wrong_programs_are_seen, Case, Defect, Dictionary, DictionaryLanes};
 use mixes::{mix_or_refusal, OF};
+use rules::RULES;
 use second::entries::{self, Seen};
 use second::Slice;
 
@@ -37,6 +41,11 @@ impl Case for DictionaryLanes {
         mix_or_refusal(seen)
     }
 
+    fn selects(&self, seen: &mut Seen) -> Vec<Sort> {
+        let last = lane(seen.lent[1].u64(), self.last_lane());
+        selects::all(&self.circuit, &self.faults, &last)
+    }
+
     /// The first engine returns and answers the same and leaves the same table, and the last pattern's lane is its work memory.
     fn hold_more(cases: &[Self], library: &[Seen]) {
         let first = self::library(&cases.iter().map(of_first_engine).collect::<Vec<_>>());
@@ -44,10 +53,16 @@ impl Case for DictionaryLanes {
             assert_eq!((seen.returned, &seen.answer, &seen.lent[0]), (first.returned, &first.answer, &first.lent[0]), "{case:?}");
             if seen.returned == 0 {
                 let Slice::U64(words) = &seen.lent[1] else { panic!("the work memory is of words") };
-                let last = case.patterns.len() / inputs(&case.circuit) - 1;
-                assert_eq!(Slice::from(lane(words, last % 64)), first.lent[1], "{case:?}");
+                assert_eq!(Slice::from(lane(words, case.last_lane())), first.lent[1], "{case:?}");
             }
         }
+    }
+}
+
+impl DictionaryLanes {
+    /// The lane of an accepted case's last pattern.
+    fn last_lane(&self) -> usize {
+        (self.patterns.len() / inputs(&self.circuit) - 1) % 64
     }
 }
 
@@ -85,22 +100,24 @@ fn some_groups(random: &mut Random) -> DictionaryLanes {
 fn all_x(random: &mut Random) -> DictionaryLanes {
     let count = random.pick(&COUNTS);
     let mut files = small(random, count);
-    files.faults = every(&files.circuit).concat();
+    files.faults = faults::every(&files.circuit).concat();
     files.patterns.fill(2);
     lend(random, files)
 }
 
-/// A gate of each kind over two inputs, which are outputs or not, with every fault. The nine pairs of values stand there in turn, beginning
-/// with each of them: so each pair comes to stand in each lane.
-fn every_pair(random: &mut Random) -> Vec<DictionaryLanes> {
+/// A gate of each kind over two inputs, or a selector over three, which are outputs or not, with every fault. The nine pairs of values, or all 27
+/// triples, stand there in turn, beginning with each of them: so each comes to stand in each lane.
+fn every_pair_or_triple(random: &mut Random) -> Vec<DictionaryLanes> {
     let mut all = vec![];
-    for kind in BUFFER..=XNOR {
-        for (first, outputs) in (0..9).flat_map(|first| [(first, false), (first, true)]) {
+    for kind in BUFFER..=SELECTOR {
+        let inputs = sources(kind).max(2);
+        let gate = if kind == SELECTOR { selector(true, 0, 1, 2) } else { record(kind, true, 0, sources(kind) - 1) };
+        let every: Vec<_> = cases::tables::every(inputs as u32).collect();
+        for (first, outputs) in (0..every.len()).flat_map(|first| [(first, false), (first, true)]) {
             for count in COUNTS {
-                let input = record(INPUT, outputs, 0, 0);
-                let circuit = [input, input, record(kind, true, 0, sources(kind) - 1)].concat();
-                let patterns = (first..9).chain(0..first).cycle().take(count).flat_map(|pair| [pair / 3, pair % 3]).collect();
-                all.push(lend(random, Files { faults: every(&circuit).concat(), circuit, patterns }));
+                let circuit = [record(INPUT, outputs, 0, 0).repeat(inputs), gate.to_vec()].concat();
+                let patterns = every.iter().cycle().skip(first).take(count).flatten().copied().collect();
+                all.push(lend(random, Files { faults: faults::every(&circuit).concat(), circuit, patterns }));
             }
         }
     }
@@ -145,17 +162,17 @@ fn covers(tally: Tally, refusals: &[u32]) {
 
 #[test]
 fn sound_dictionaries() {
-    covers(compare("dictionary_lanes, up to 8 patterns", drawn(1, 20_000, few_patterns)), &[]);
+    covers(compare("dictionary_lanes, up to 8 patterns", drawn(1, 20_000, few_patterns)).with_selects(&EVERY), &[]);
     for (seed, count) in (2..).zip(COUNTS) {
         let cases = drawn(seed, 1_000, |random| with_patterns(random, count));
-        covers(compare(&format!("dictionary_lanes, patterns: {count}"), cases), &[]);
+        covers(compare(&format!("dictionary_lanes, patterns: {count}"), cases).with_selects(&EVERY), &[]);
     }
 }
 
 #[test]
-fn every_kind_and_pair_of_values() {
-    let all = every_pair(&mut Random::new(20));
-    assert_eq!(compare("dictionary_lanes, every kind and pair", all.into_iter()).seen(), USUAL);
+fn every_kind_and_all_its_values() {
+    let all = every_pair_or_triple(&mut Random::new(20));
+    assert_eq!(compare("dictionary_lanes, every kind and all its values", all.into_iter()).seen(), USUAL);
 }
 
 /// Nothing is known in the good circuit, so nothing is compared; what is stuck is known all the same.
@@ -166,16 +183,16 @@ fn x_everywhere() {
 
 #[test]
 fn damaged_dictionaries() {
-    covers(compare("dictionary_lanes, damaged", drawn(22, 60_000, damaged)), &[1, 2, 4, 5, 6, 7, 8, 9, 10]);
+    covers(compare("dictionary_lanes, damaged", drawn(22, 60_000, damaged)).with_selects(&EVERY), &[1, 2, 4, 5, 6, 7, 8, 9, 10]);
 }
 
 #[test]
 fn boundaries_and_largest() {
     let mut random = Random::new(23);
     let boundaries = boundaries(&mut random).into_iter().map(|files| lend(&mut random, files));
-    covers(compare("dictionary_lanes, boundaries", boundaries), &[1, 4, 6, 8]);
+    covers(compare("dictionary_lanes, boundaries", boundaries).with_selects(&EVERY), &[1, 4, 6, 8]);
     let files = largest(&mut random);
-    assert_eq!(compare("dictionary_lanes, largest", [lend(&mut random, files)].into_iter()).seen(), USUAL[2..]);
+    assert_eq!(compare("dictionary_lanes, largest", [lend(&mut random, files)].into_iter()).with_selects(&EVERY[..2]).seen(), USUAL[2..]);
 }
 
 #[test]
@@ -213,6 +230,7 @@ fn wrong_programs() {
     let sound = drawn(26, 400, few_patterns).chain(drawn(27, 400, some_groups));
     let cases: Vec<_> = sound.chain(drawn(28, 1_000, damaged)).chain(every_size()).collect();
     wrong_programs_are_seen(&cases, wrong::PROGRAMS);
+    wrong_programs_are_seen(&cases, RULES.map(|(name, rule)| (name, move |case: &DictionaryLanes| wrong::by_rule(case, rule))));
 }
 
 /// The safe call, on example A.

@@ -73,6 +73,7 @@ fn numbers_elsewhere() {
         ("NOR", circuits::NOR),
         ("XOR", circuits::XOR),
         ("XNOR", circuits::XNOR),
+        ("SELECTOR", circuits::SELECTOR),
     ];
     assert!(kinds.iter().all(|&(name, kind)| number(name) == kind.into()));
     let named = 1 + refusals().count() + outcomes.len() + entries.len() + findings.len() + kinds.len();
@@ -174,14 +175,17 @@ fn refused_files() -> Vec<(&'static str, Files)> {
 /// Circuits in which a field breaks its rule, some with fields after it that break theirs, and what is said of each: every field, and both ways
 /// in which a source can be wrong.
 fn bad_fields() -> Vec<(Vec<u8>, &'static str)> {
-    let lines = [record(INPUT, false, 0, 0), record(INPUT, false, 0, 0), record(circuits::NOT, false, 1, 0)].into_iter();
-    let sound: Vec<u8> = lines.chain((3..18).map(|_| record(circuits::AND, true, 0, 1))).flatten().collect();
-    let spoilt: [(usize, &[u8], &str); 8] = [
-        (136, &[9, 2, 200, 0, 200, 0, 1], "line 17, kind (byte 136): 9 is no kind"),
+    let input = record(INPUT, false, 0, 0);
+    let lines = [input, input, record(circuits::NOT, false, 1, 0), circuits::selector(false, 0, 1, 2)].into_iter();
+    let sound: Vec<u8> = lines.chain((4..18).map(|_| record(circuits::AND, true, 0, 1))).flatten().collect();
+    let spoilt: [(usize, &[u8], &str); 10] = [
+        (136, &[10, 2, 200, 0, 200, 0, 1], "line 17, kind (byte 136): 10 is no kind"),
         (137, &[2, 200, 0, 200, 0, 1], "line 17, output (byte 137): 2 is neither 0 nor 1"),
         (138, &[17, 0, 200, 0, 1], "line 17, first source (byte 138): 17 is not lower than the line"),
         (140, &[200, 0, 1], "line 17, second source (byte 140): 200 is not lower than the line"),
-        (143, &[1], "line 17, last two bytes (byte 142): 256 is not 0"),
+        (143, &[1], "line 17, select (byte 142): 256 is not 0, and the line's kind has no select"),
+        (30, &[3], "line 3, select (byte 30): 3 is not lower than the line"),
+        (31, &[1], "line 3, select (byte 30): 258 is not lower than the line"),
         (11, &[1], "line 1, first source (byte 10): 256 is not 0, and the line's kind has no first source"),
         (12, &[1], "line 1, second source (byte 12): 1 is not 0, and the line's kind has no second source"),
         (20, &[1], "line 2, second source (byte 20): 1 is not 0, and the line's kind has no second source"),

@@ -7,6 +7,7 @@ mod directories;
 mod x86;
 
 use cases::directory::root;
+use cases::selects::{self, EVERY};
 use cases::{drawn, Random, Tally};
 use command::{run, script, ullimaqsu};
 use directories::{boundaries, damaged, directory_of, sound};
@@ -44,36 +45,45 @@ fn compare(name: &str, cases: Vec<Files>) -> Tally {
         threads.into_iter().flat_map(|thread| thread.join().expect("no difference")).collect()
     });
     let mut tally = Tally::default();
-    numbers.into_iter().for_each(|number| tally.count(number));
+    for (number, files) in numbers.into_iter().zip(&cases) {
+        tally.count(number);
+        if let (0, Some(circuit), Some(faults)) = (number, &files.circuit, &files.faults) {
+            tally.count_selects(selects::all(circuit, faults, &[]));
+        }
+    }
     println!("program, {name}: {tally}, {:.1} s", began.elapsed().as_secs_f64());
     tally
 }
 
 #[test]
 fn sound_directories() {
-    assert_eq!(compare("sound", drawn(1, 120, sound).collect()).seen(), [0]);
+    assert_eq!(compare("sound", drawn(1, 120, sound).collect()).with_selects(&EVERY[..2]).seen(), [0]);
 }
 
 #[test]
 fn damaged_directories() {
-    assert_eq!(compare("damaged", drawn(2, 240, damaged).collect()).seen(), [0, 1, 2, 5, 6, 7, 8, 9]);
+    assert_eq!(compare("damaged", drawn(2, 240, damaged).collect()).with_selects(&EVERY[..1]).seen(), [0, 1, 2, 4, 5, 6, 7, 8, 9]);
 }
 
 #[test]
 fn sizes() {
-    assert_eq!(compare("sizes", boundaries(&mut Random::new(3))).seen(), [0, 1, 4, 6, 8]);
+    assert_eq!(compare("sizes", boundaries(&mut Random::new(3))).with_selects(&EVERY[..2]).seen(), [0, 1, 4, 6, 8]);
 }
 
 /// The examples print what stands beside them, and so does the second program.
 #[test]
 fn examples() {
-    for name in ["a", "c17"] {
-        let directory = root().join("examples").join(name);
+    let examples = root().join("examples");
+    let all = fs::read_dir(&examples).expect("examples").map(|entry| entry.expect("an example").file_name());
+    let mut with_output: Vec<_> = all.filter(|name| examples.join(name).join("output").exists()).collect();
+    with_output.sort();
+    assert_eq!(with_output, ["a", "c17", "selector"]);
+    for directory in with_output.iter().map(|name| examples.join(name)) {
         let output = fs::read_to_string(directory.join("output")).expect("output");
-        assert_eq!(printed(&directory), output, "{name}");
+        assert_eq!(printed(&directory), output, "{directory:?}");
         let file = |file| Some(fs::read(directory.join(file)).expect("a file"));
         let files = Files { circuit: file("circuit.rec"), faults: file("faults.rec"), patterns: file("patterns.rec") };
-        assert_eq!(second::program(&files), output, "{name}");
+        assert_eq!(second::program(&files), output, "{directory:?}");
     }
 }
 

@@ -1,8 +1,9 @@
 //! What the written clauses mean: over all assignments on tiny circuits, and to the SAT solvers minisat, cadical and picosat, whose answers
 //! are held to the search's verdict and whose models to the simulation. A solver that is missing fails the test; `.ci/solvers` installs it.
-use cases::circuits::circuit;
+use cases::circuits::{circuit, selectors};
 use cases::faults::{every, some};
-use cases::{drawn, Random};
+use cases::selects::{self, EVERY};
+use cases::{drawn, Random, Tally};
 use second::{Circuit, Entry, Fault, Pattern};
 use std::collections::HashSet;
 use std::io::Write;
@@ -62,7 +63,7 @@ fn all_assignments() {
         let inputs = 1 + random.below(lines);
         circuit(random, lines, inputs)
     };
-    let (mut satisfied, mut unsatisfied) = (0, 0);
+    let (mut satisfied, mut unsatisfied, mut tally) = (0, 0, Tally::default());
     for bytes in drawn(1, 150, tiny) {
         let circuit = Circuit::read(&bytes).expect("sound");
         for record in every(&bytes) {
@@ -74,9 +75,11 @@ fn all_assignments() {
             let found: HashSet<Vec<bool>> = all.filter(|truths| list.is_satisfied(|variable| truths[variable as usize - 1])).collect();
             assert_eq!(found, expected, "{bytes:?} {record:?}");
             *if found.is_empty() { &mut unsatisfied } else { &mut satisfied } += 1;
+            tally.count(0);
+            tally.count_selects(selects::all(&bytes, &record, &[]));
         }
     }
-    println!("clauses over all assignments: {satisfied} lists satisfied, {unsatisfied} not");
+    println!("clauses over all assignments: {satisfied} lists satisfied, {unsatisfied} not; {}", tally.with_selects(&EVERY[..2]));
     assert!(satisfied > 100 && unsatisfied > 100);
 }
 
@@ -109,20 +112,23 @@ fn drawn_fault(random: &mut Random, lines: usize, inputs: usize) -> (Vec<u8>, Ve
 }
 
 #[test]
-fn solvers_agree_with_search_and_simulation() {
+fn solvers_agree_with_search_and_all_vectors() {
     let began = Instant::now();
     let few = drawn(2, 500, |random| {
         let (lines, inputs) = (8 + random.below(60), 1 + random.below(8));
         drawn_fault(random, lines, inputs)
     });
     let more = drawn(3, 20, |random| drawn_fault(random, 400, 10));
-    let mut verdicts = [0; 2];
+    // without selectors and with them, redundant and with a test
+    let (mut verdicts, mut tally) = ([[0; 2]; 2], Tally::default());
     for (bytes, record) in few.chain(more) {
         let circuit = Circuit::read(&bytes).expect("sound");
         let fault = Fault::read_all(&circuit, &record, 1).expect("sound")[0];
         let inputs: Vec<usize> = circuit.inputs().collect();
         let verdict = ullimaqsu::search(&bytes, &record, u64::MAX, &mut vec![0; inputs.len()], &mut vec![0; bytes.len() / 4]);
         let has_test = verdict.expect("sound").outcome == Outcome::Test;
+        let detected = vectors(inputs.len()).any(|vector| circuit.entry(&vector, fault) == Entry::Fail);
+        assert_eq!(has_test, detected, "{bytes:?} {record:?}");
         let list = List::of(&bytes, &record);
         for solver in SOLVERS {
             let model = solve(solver, &list.dimacs());
@@ -136,9 +142,13 @@ fn solvers_agree_with_search_and_simulation() {
             assert_eq!(truths, expected, "{} {bytes:?} {record:?}", solver[0]);
             assert_eq!(circuit.entry(&vector, fault), Entry::Fail);
         }
-        verdicts[usize::from(has_test)] += 1;
+        verdicts[usize::from(selectors(&bytes).next().is_some())][usize::from(has_test)] += 1;
+        tally.count(0);
+        tally.count_selects(selects::all(&bytes, &record, &[]));
     }
-    let [redundant, tests] = verdicts;
-    println!("clauses to three solvers: {tests} with a test, {redundant} redundant, {:.1} s", began.elapsed().as_secs_f64());
-    assert!(redundant > 30 && tests > 30);
+    for (which, [redundant, tests]) in ["without selectors", "with selectors"].into_iter().zip(verdicts) {
+        println!("clauses to three solvers, circuits {which}: {tests} with a test, {redundant} redundant");
+        assert!(redundant > 30 && tests > 30, "too few circuits {which}: {tests} with a test, {redundant} redundant");
+    }
+    println!("clauses to three solvers: {}, {:.1} s", tally.with_selects(&EVERY[..2]), began.elapsed().as_secs_f64());
 }

@@ -27,10 +27,14 @@ fn word(bytes: &[u8], at: usize) -> usize {
     bytes[at] as usize + 256 * bytes[at + 1] as usize
 }
 
+/// The kind that has three pins, of which the last is the select.
+const SELECTOR: u8 = 9;
+
 fn pins(kind: u8) -> usize {
     match kind {
         0 => 0,
         1 | 2 => 1,
+        SELECTOR => 3,
         _ => 2,
     }
 }

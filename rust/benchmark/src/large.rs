@@ -2,13 +2,21 @@
 use crate::baseline::gates::{Branches, Table};
 use crate::parts;
 use crate::timing::Row;
-use cases::circuits::{circuit, record, AND, INPUT, NOT, XOR};
+use cases::circuits::{self, record, AND, INPUT, NOT, XOR};
 use cases::{faults, texts, Files, Random};
 
-/// Random lines, faults on lines, and patterns.
+/// Random lines without selectors, faults on lines, and patterns.
 fn drawn(lines: usize, inputs: usize, fault_count: usize, pattern_count: usize) -> Files {
+    of(circuits::without_selectors, lines, inputs, fault_count, pattern_count)
+}
+
+/// What draws a circuit of so many lines and inputs.
+type Draw = fn(&mut Random, usize, usize) -> Vec<u8>;
+
+/// The same of lines that are drawn so.
+fn of(draw: Draw, lines: usize, inputs: usize, fault_count: usize, pattern_count: usize) -> Files {
     let random = &mut Random::new(2);
-    let circuit = circuit(random, lines, inputs);
+    let circuit = draw(random, lines, inputs);
     let faults = (0..fault_count).flat_map(|_| faults::record(random.below(lines), 0, random.below(2) == 1)).collect();
     let patterns = (0..pattern_count * inputs).map(|_| random.below(3) as u8).collect();
     Files { circuit, faults, patterns }
@@ -83,10 +91,11 @@ pub fn rows() -> impl Iterator<Item = Row> {
     rows.into_iter().map(|row| row())
 }
 
-/// Dictionaries that carry 64 patterns at once: the largest, and one of middle size.
+/// Dictionaries that carry 64 patterns at once: the largest, without selectors and with them, and one of middle size.
 pub fn lanes() -> impl Iterator<Item = Row<6>> {
-    let rows: [fn() -> Row<6>; 2] = [
+    let rows: [fn() -> Row<6>; 3] = [
         || parts::dictionary_lanes("2,048 lines, 256 faults, 256 patterns", &files()),
+        || parts::dictionary_lanes("as large, with selectors", &of(circuits::circuit, 2048, 64, 256, 256)),
         || parts::dictionary_lanes("500 lines, 128 faults, 128 patterns", &drawn(500, 32, 128, 128)),
     ];
     rows.into_iter().map(|row| row())

@@ -10,26 +10,55 @@ pub const OR: u8 = 5;
 pub const NOR: u8 = 6;
 pub const XOR: u8 = 7;
 pub const XNOR: u8 = 8;
+pub const SELECTOR: u8 = 9;
 
 /// How many sources a kind has.
 pub fn sources(kind: u8) -> usize {
     match kind {
         INPUT => 0,
         BUFFER | NOT => 1,
+        SELECTOR => 3,
         _ => 2,
     }
 }
 
-/// The record of a line.
+/// The record of a line, of a selector with line 0 for its select.
 pub fn record(kind: u8, output: bool, first: usize, second: usize) -> [u8; 8] {
     let ([a0, a1], [b0, b1]) = ((first as u16).to_le_bytes(), (second as u16).to_le_bytes());
     [kind, output as u8, a0, a1, b0, b1, 0, 0]
 }
 
+/// The record of a selector.
+pub fn selector(output: bool, first: usize, second: usize, select: usize) -> [u8; 8] {
+    let mut record = record(SELECTOR, output, first, second);
+    record[6..].copy_from_slice(&(select as u16).to_le_bytes());
+    record
+}
+
+/// A line's number at one of the pins of a record, from 1.
+pub fn source(record: &[u8], pin: usize) -> usize {
+    usize::from(u16::from_le_bytes([record[2 * pin], record[2 * pin + 1]]))
+}
+
+/// The first source, the second source and the select of each selector.
+pub fn selectors(circuit: &[u8]) -> impl Iterator<Item = [usize; 3]> + '_ {
+    circuit.chunks_exact(8).filter(|record| record[0] == SELECTOR).map(|record| [1, 2, 3].map(|pin| source(record, pin)))
+}
+
 /// A circuit of so many lines with so many inputs, the first line among them; the others stand anywhere. Kinds are any or, in some
-/// circuits, nearly all the same; sources are near or far, often twice the same line; some lines are read by nobody. There are few outputs
-/// or many, at least one, on inputs too.
+/// circuits, nearly all the same; sources are near or far, often twice the same line, and a select is often one of them or an input; some
+/// lines are read by nobody. There are few outputs or many, at least one, on inputs too.
 pub fn circuit(random: &mut Random, lines: usize, inputs: usize) -> Vec<u8> {
+    of_kinds(random, lines, inputs, SELECTOR)
+}
+
+/// The same of those kinds that the bench notation has a name for.
+pub fn without_selectors(random: &mut Random, lines: usize, inputs: usize) -> Vec<u8> {
+    of_kinds(random, lines, inputs, XNOR)
+}
+
+/// The same of gates up to this kind.
+fn of_kinds(random: &mut Random, lines: usize, inputs: usize, last: u8) -> Vec<u8> {
     let mut input = vec![false; lines];
     input[0] = true;
     for left in (1..inputs.min(lines)).rev() {
@@ -37,25 +66,32 @@ pub fn circuit(random: &mut Random, lines: usize, inputs: usize) -> Vec<u8> {
         let free = (line..lines).chain(0..line).find(|&line| !input[line]);
         input[free.expect("fewer inputs than lines")] = true;
     }
-    let favourite = 1 + random.below(8) as u8;
+    let favourite = 1 + random.below(last.into()) as u8;
     let strict = random.once_in(4);
     let reach = random.pick(&[2, 5, lines]);
     let sparse = random.pick(&[1, 2, 5, lines]);
     let mut bytes = vec![];
-    for (line, &input) in input.iter().enumerate() {
-        let kind = match input {
+    for line in 0..lines {
+        let kind = match input[line] {
             true => INPUT,
             false if strict && !random.once_in(8) => favourite,
-            false => 1 + random.below(8) as u8,
+            false => 1 + random.below(last.into()) as u8,
         };
-        let mut source = || line - 1 - random.below(reach.min(line));
-        let (first, second) = match sources(kind) {
-            0 => (0, 0),
-            1 => (source(), 0),
-            _ => (source(), source()),
-        };
-        let second = if sources(kind) == 2 && random.once_in(6) { first } else { second };
-        bytes.extend(record(kind, random.once_in(sparse), first, second));
+        let pins = sources(kind);
+        let mut read = [0; 3];
+        read[..pins].fill_with(|| line - 1 - random.below(reach.min(line)));
+        if pins > 1 && random.once_in(6) {
+            read[1] = read[0];
+        }
+        if pins > 2 {
+            read[2] = match random.below(3) {
+                0 => read[random.below(2)],
+                1 => (0..=random.below(line)).rev().find(|&lower| input[lower]).expect("line 0"),
+                _ => read[2],
+            };
+        }
+        let output = random.once_in(sparse);
+        bytes.extend(if kind == SELECTOR { selector(output, read[0], read[1], read[2]) } else { record(kind, output, read[0], read[1]) });
     }
     if outputs(&bytes) == 0 {
         let line = if random.once_in(2) { lines - 1 } else { random.below(lines) };

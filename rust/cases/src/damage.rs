@@ -1,5 +1,5 @@
 //! Ways to spoil what is accepted. One damage may hide another, or do nothing: the second program says what is then right.
-use crate::circuits::{record, sources, BUFFER, INPUT};
+use crate::circuits::{record, sources, BUFFER, INPUT, SELECTOR};
 use crate::texts::BYTES;
 use crate::Random;
 
@@ -23,7 +23,7 @@ fn change(random: &mut Random, bytes: &mut [u8]) {
         bytes[at] = match random.below(4) {
             0 => bytes[at] ^ 1 << random.below(8),
             1 => random.byte(),
-            _ => random.pick(&[0, 1, 2, 3, 8, 9, 255]),
+            _ => random.pick(&[0, 1, 2, 3, 8, 9, 10, 255]),
         };
     }
 }
@@ -37,13 +37,15 @@ fn spoil_line(random: &mut Random, bytes: &mut [u8]) {
     let line = random.below(lines);
     let record = &mut bytes[8 * line..8 * line + 8];
     let source = (line + random.pick(&[0, 1, 256])) as u16;
-    match random.below(6) {
-        0 => record[0] = 9 + random.below(247) as u8,
+    match random.below(8) {
+        0 => record[0] = if random.once_in(2) { SELECTOR + 1 } else { 10 + random.below(246) as u8 },
         1 => record[1] = 2 + random.below(254) as u8,
         2 => record[2..4].copy_from_slice(&source.to_le_bytes()),
         3 => record[4..6].copy_from_slice(&source.to_le_bytes()),
-        4 => record[6 + random.below(2)] = 1 + random.below(255) as u8,
-        _ => record[2 + 2 * sources(record[0]).min(2)] = 1, // the first source that the kind lacks, or the bytes behind
+        4 => record[6..8].copy_from_slice(&source.to_le_bytes()),
+        5 => record[6 + random.below(2)] = 1 + random.below(255) as u8,
+        6 => record[0] = random.below(12) as u8, // a kind that may have other pins, or none
+        _ => record[2 + 2 * sources(record[0]).min(2)] = 1, // the first source that the kind lacks, or the last of a selector
     }
 }
 
@@ -69,7 +71,7 @@ pub fn faults(random: &mut Random, bytes: &mut Vec<u8>, lines: usize) {
             let record = &mut bytes[8 * random.below(records)..][..8];
             match random.below(4) {
                 0 => record[..2].copy_from_slice(&((lines + random.pick(&[0, 1, 256])) as u16).to_le_bytes()),
-                1 => record[2] = random.pick(&[1, 2, 3, 255]),
+                1 => record[2] = random.pick(&[1, 2, 3, 4, 255]),
                 2 => record[3] = random.pick(&[2, 3, 255]),
                 _ => record[4 + random.below(4)] = random.pick(&[1, 128]),
             }

@@ -1,28 +1,45 @@
 //! Counts of what was seen, so that a test can say that nothing was missed.
+use crate::selects::Sort;
 use std::collections::BTreeMap;
 use std::fmt;
 
 #[derive(Default)]
-pub struct Tally(BTreeMap<u32, usize>);
+pub struct Tally {
+    numbers: BTreeMap<u32, usize>,
+    selects: BTreeMap<Sort, usize>,
+}
 
 impl Tally {
     pub fn count(&mut self, seen: u32) {
-        *self.0.entry(seen).or_default() += 1;
+        *self.numbers.entry(seen).or_default() += 1;
+    }
+
+    /// Counts what the selectors of a case do, which may be several things, and each several times.
+    pub fn count_selects(&mut self, sorts: impl IntoIterator<Item = Sort>) {
+        sorts.into_iter().for_each(|sort| *self.selects.entry(sort).or_default() += 1);
     }
 
     /// All that was seen, in order.
     pub fn seen(&self) -> Vec<u32> {
-        self.0.keys().copied().collect()
+        self.numbers.keys().copied().collect()
     }
 
     pub fn total(&self) -> usize {
-        self.0.values().sum()
+        self.numbers.values().sum()
+    }
+
+    /// The same counts, among which all that selectors do of these sorts must stand.
+    pub fn with_selects(self, sorts: &[&[Sort]]) -> Tally {
+        let missing: Vec<&Sort> = sorts.iter().copied().flatten().filter(|sort| !self.selects.contains_key(*sort)).collect();
+        assert!(missing.is_empty(), "{self}; not seen: {missing:?}");
+        self
     }
 }
 
 impl fmt::Display for Tally {
     fn fmt(&self, f: &mut fmt::Formatter) -> fmt::Result {
         write!(f, "{} cases:", self.total())?;
-        self.0.iter().try_for_each(|(seen, times)| write!(f, " {seen} ({times})"))
+        self.numbers.iter().try_for_each(|(seen, times)| write!(f, " {seen} ({times})"))?;
+        self.selects.iter().try_for_each(|(sort, times)| write!(f, ", {sort} ({times})"))
     }
 }

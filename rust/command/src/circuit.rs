@@ -72,7 +72,7 @@ impl Circuit {
         Kind::numbered(self.record(line)[0])
     }
 
-    /// The line that a pin reads, 1 or 2.
+    /// The line that a pin reads, 1 to 3.
     pub fn source(&self, line: usize, pin: usize) -> usize {
         let record = self.record(line);
         usize::from(u16::from_le_bytes([record[2 * pin], record[2 * pin + 1]]))
@@ -93,11 +93,14 @@ impl Circuit {
     }
 }
 
-/// Accepted records begin with a 0: their first line is an input. No right text begins with a byte below 9, which is a tab, while records whose
-/// first kind is a wrong one may.
-fn is_records(bytes: &[u8]) -> bool {
-    bytes.first().is_some_and(|&first| first < b'\t')
+/// Accepted records begin with a 0: their first line is an input. Records whose first line is a gate are told as such too: no right text begins
+/// with a byte below 9, nor has one after a 9, which is a tab and the kind of a selector.
+pub fn is_records(bytes: &[u8]) -> bool {
+    matches!(bytes, [0..b'\t', ..] | [b'\t', 0..b'\t', ..])
 }
+
+/// What is said of records where a text alone is read.
+pub const NO_TEXT: &str = "these are records, and not a text in the bench notation";
 
 /// The numbers of a circuit, as they are printed.
 pub fn counted(counts: &Counts) -> String {

@@ -1,7 +1,7 @@
 //! Faults that no test can tell apart, as textbooks collapse them: within a gate, and along a wire that nothing else reads.
 use crate::circuit::Circuit;
 use crate::fault::Fault;
-use crate::kind::Kind;
+use crate::kind::{Kind, MOST_PINS};
 use std::collections::HashSet;
 
 /// The first of each class of equivalent faults. Lines are equivalent through pins also where the list has none.
@@ -19,13 +19,14 @@ pub fn collapsed(circuit: &Circuit, faults: Vec<Fault>) -> Vec<Fault> {
     faults.into_iter().filter(|&fault| seen.insert(classes.of(fault))).collect()
 }
 
-/// The values of one pin that alone settle the gate's.
+/// The values that settle the gate's at whichever pin they stand alone. A selector has none: its other source may still be given, and a select
+/// leaves the value of a source open.
 fn settling(kind: Kind) -> &'static [bool] {
     match kind {
         Kind::Buffer | Kind::Not => &[false, true],
         Kind::And | Kind::Nand => &[false],
         Kind::Or | Kind::Nor => &[true],
-        Kind::Input | Kind::Xor | Kind::Xnor => &[],
+        Kind::Input | Kind::Xor | Kind::Xnor | Kind::Selector => &[],
     }
 }
 
@@ -54,18 +55,21 @@ fn wires(circuit: &Circuit) -> Vec<(usize, Fault)> {
     readers.into_iter().enumerate().filter_map(wire).collect()
 }
 
+/// The faults that a line may have: it and each of its pins at 0 and at 1.
+const MOST_FAULTS: usize = 2 * (1 + MOST_PINS);
+
 /// Classes of faults, each known by one of its members: from every other a way leads there.
 struct Classes(Vec<usize>);
 
 impl Classes {
     /// Each fault of so many lines in a class of its own.
     fn new(lines: usize) -> Classes {
-        Classes((0..6 * lines).collect())
+        Classes((0..MOST_FAULTS * lines).collect())
     }
 
     /// The member by which the class of a fault is known.
     fn of(&mut self, fault: Fault) -> usize {
-        let mut at = 6 * fault.line + 2 * fault.site + usize::from(fault.value);
+        let mut at = MOST_FAULTS * fault.line + 2 * fault.site + usize::from(fault.value);
         while self.0[at] != at {
             // the way becomes shorter as it is gone
             self.0[at] = self.0[self.0[at]];

@@ -1,5 +1,6 @@
 //! Faults, by the names of their lines.
 use crate::circuit::Circuit;
+use crate::kind::MOST_PINS;
 use crate::lists::{self, lines, place, words};
 use crate::nearest::offered;
 use crate::problem::Problem;
@@ -10,7 +11,7 @@ use ullimaqsu::Refusal;
 #[derive(Clone, Copy, PartialEq, Eq, Hash, Debug)]
 pub struct Fault {
     pub line: usize,
-    /// 0 for the line itself, or its pin, 1 or 2.
+    /// 0 for the line itself, or its pin, 1 to 3.
     pub site: usize,
     /// What it is stuck at.
     pub value: bool,
@@ -42,9 +43,9 @@ impl Fault {
     /// The fault that a word names, or what is wrong with it.
     pub fn read(word: &str, circuit: &Circuit) -> Result<Fault, String> {
         let no_fault = |since: &str| format!("{} is no fault: {since}", cited(word));
-        let (place, value) = word
-            .rsplit_once('/')
-            .ok_or_else(|| no_fault("it is written NAME/0 or NAME/1, and at a pin of the gate NAME.1/0 or NAME.2/0"))?;
+        let (place, value) = word.rsplit_once('/').ok_or_else(|| {
+            no_fault("it is written NAME/0 or NAME/1, at a pin NAME.1/0 or NAME.2/0, and at a selector's select NAME.3/0")
+        })?;
         let value = match value {
             "0" => false,
             "1" => true,
@@ -66,10 +67,11 @@ impl Fault {
 /// The number of a pin that the line's gate has.
 fn read_pin(pin: &str, line: usize, circuit: &Circuit) -> Result<usize, String> {
     let pins = circuit.kind(line).pins();
-    match ["1", "2"].iter().position(|number| *number == pin) {
-        Some(before) if before < pins => Ok(before + 1),
-        _ => {
-            let has = ["no pins", "pin 1 alone", "pins 1 and 2"][pins];
+    match (1..=pins).find(|number| number.to_string() == pin) {
+        Some(number) => Ok(number),
+        None => {
+            const HAS: [&str; MOST_PINS + 1] = ["no pins", "pin 1 alone", "pins 1 and 2", "pins 1 to 3"];
+            let has = HAS[pins];
             Err(format!("`{}` has no pin {}: it is {} with {has}", circuit.name(line), cited(pin), circuit.kind(line).word()))
         }
     }

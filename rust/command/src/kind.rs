@@ -11,12 +11,16 @@ pub enum Kind {
     Nor,
     Xor,
     Xnor,
+    Selector,
 }
 
 use Kind::*;
 
-/// The kinds in the order of their numbers, with their words in the bench notation.
-const KINDS: [(Kind, &str); 9] = [
+/// The most pins of a kind.
+pub const MOST_PINS: usize = 3;
+
+/// The kinds in the order of their numbers, with their words. They are those of the bench notation, but that it has none for the selector.
+const KINDS: [(Kind, &str); 10] = [
     (Input, "INPUT"),
     (Buffer, "BUFF"),
     (Not, "NOT"),
@@ -26,16 +30,17 @@ const KINDS: [(Kind, &str); 9] = [
     (Nor, "NOR"),
     (Xor, "XOR"),
     (Xnor, "XNOR"),
+    (Selector, "SELECTOR"),
 ];
 
 impl Kind {
-    /// The kind of this number. An accepted circuit has no number above 8.
+    /// The kind of this number. An accepted circuit has no number above 9.
     pub fn numbered(number: u8) -> Kind {
         KINDS[usize::from(number)].0
     }
 
-    /// Its word in the bench notation.
-    pub fn word(self) -> &'static str {
+    /// Its word, as people read it.
+    pub const fn word(self) -> &'static str {
         KINDS[self as usize].1
     }
 
@@ -44,7 +49,8 @@ impl Kind {
         match self {
             Input => 0,
             Buffer | Not => 1,
-            _ => 2,
+            And | Nand | Or | Nor | Xor | Xnor => 2,
+            Selector => 3,
         }
     }
 

@@ -3,7 +3,7 @@ mod harness;
 #[path = "harness/pipes.rs"]
 mod pipes;
 
-use harness::{after, into_broken, into_full, root, run, said, ullimaqsu, Directory, Said, COMMAND};
+use harness::{after, into_broken, into_full, root, run, said, selectors, ullimaqsu, Directory, Said, COMMAND};
 use pipes::full_pipe;
 use std::fs::{self, File, OpenOptions, Permissions};
 use std::io::{ErrorKind, Read, Write};
@@ -78,6 +78,22 @@ fn commands() {
     stopped(bench(&[]), "--help");
     stopped(bench(&[&file, &other, &other]), "--help");
     assert_eq!(directory.names(), ["c 17.bench", "circuit.rec", "other", "wrong.bench"]);
+}
+
+/// Of records nothing is made, and they stay; so do those whose first line is a gate, be it a selector.
+#[test]
+fn records_are_no_text() {
+    let directory = Directory::new("records for a text");
+    let records = fs::read(selectors("circuit")).expect("records");
+    for (kind, place) in [(0, 0), (8, 0), (9, 1)] {
+        let records = [&[kind], &records[1..]].concat();
+        let (file, out) = (directory.write("circuit.rec", &records), directory.write("out", OLD));
+        let says = format!("ullimaqsu: {}: these are records, and not a text in the bench notation\n", file.display());
+        assert_eq!(bench(&[&file, &out]), (Some(1), format!("refused 14 {place}\n"), says.clone()));
+        assert_eq!(ullimaqsu(&[Path::new("narrow"), &file, Path::new("-o"), &out]), (Some(1), String::new(), says));
+        assert_eq!([&file, &out].map(|path| fs::read(path).expect("a file")), [records, OLD.to_vec()]);
+        assert_eq!(directory.names(), ["circuit.rec", "out"]);
+    }
 }
 
 /// What can't be read is named, and nothing is written.

@@ -60,7 +60,7 @@ fn check_syntax(text: &[u8], place: usize, words: &str) {
     assert!(listed.iter().all(|byte| bytes.contains(byte)), "{words}: {text:?}");
     assert!(bytes.iter().all(|&byte| listed.contains(&byte) || blank_or_more(byte)), "{words}: {text:?}");
     let (found, hint) = found.split_once("; ").unwrap_or((found, ""));
-    assert_eq!(hint, hint_at(before, text.get(place).copied(), &listed), "{words}: {text:?}");
+    assert_eq!(hint, hint_at(text, place, &listed), "{words}: {text:?}");
     match text.get(place) {
         None => assert_eq!(found, "the text ends"),
         Some(b'\n') => assert_eq!(found, "the line ends"),
@@ -70,14 +70,25 @@ fn check_syntax(text: &[u8], place: usize, words: &str) {
     }
 }
 
-/// What helps: `narrow` where a gate of two sources has a third, and capitals where a keyword that takes brackets has none.
-fn hint_at(before: &[u8], found: Option<u8>, listed: &[u8]) -> &'static str {
+const NO_SELECTOR: &str = "the notation has no name for a selector, and a circuit with selectors comes as records";
+
+/// What helps: `narrow` where a gate of two sources has a third, capitals where a keyword that takes brackets has none, and records where the kind
+/// is a selector.
+fn hint_at(text: &[u8], place: usize, listed: &[u8]) -> &'static str {
+    let (before, behind) = text.split_at(place);
     let second = before.iter().rev().find(|&&byte| byte == b'(' || byte == b',') == Some(&b',');
-    match (listed, found) {
-        (b")", Some(b',')) if second => "`ullimaqsu narrow` rewrites gates of three and more sources",
-        (b"=", Some(b'(')) => "only INPUT and OUTPUT, in capitals, are followed by `(`",
+    match (listed, behind) {
+        (b")", [b',', ..]) if second => "`ullimaqsu narrow` rewrites gates of three and more sources",
+        (b"=", [b'(', ..]) => "only INPUT and OUTPUT, in capitals, are followed by `(`",
+        (b"BNANONXX", _) if is_selector(behind) => NO_SELECTOR,
         _ => "",
     }
+}
+
+/// Whether it begins with a word for a selector.
+fn is_selector(text: &[u8]) -> bool {
+    let word = text.iter().take_while(|byte| byte.is_ascii_alphanumeric() || **byte == b'_');
+    ["selector", "mux"].contains(&word.map(|&byte| char::from(byte).to_ascii_lowercase()).collect::<String>().as_str())
 }
 
 /// Refusal 15: the name, and whether it is used or defined there.
@@ -155,6 +166,11 @@ fn check(directory: &Directory, bytes: &[u8]) -> u32 {
             let words = said.strip_prefix(&format!("ullimaqsu: {}: ", file.display())).expect("the file");
             let words = words.strip_suffix('\n').expect("a line");
             assert_eq!((output.status.code(), &written[..]), (Some(1), &b"records of old"[..]));
+            let records = matches!(bytes, [0..9, ..] | [9, 0..9, ..]);
+            assert_eq!(words == "these are records, and not a text in the bench notation", records, "{words}: {bytes:?}");
+            if records {
+                return number;
+            }
             let byte = match number {
                 14 | 15 => Some(at),
                 16 => Some(Text::read(bytes).expect("right in syntax").equations[at].0.at),
@@ -229,6 +245,22 @@ fn wide_gates() {
     for other in ["y=NOT(a,a)", "y=BUFF(a,a,a)", "INPUT(a,a,a)", "y=and(a,a,a)", "y=AND(a,,a)", "y=AND(a,a),"] {
         assert!(!words(other).contains("narrow"), "{other}");
     }
+}
+
+/// There is no name for a selector, and whoever writes one is told so; a line may have its word for a name.
+#[test]
+fn selectors() {
+    let directory = Directory::new("selectors");
+    let text = |statement: &str| format!("INPUT(a)\nOUTPUT(a)\n{statement}").into_bytes();
+    let says = "after `=` there must be BUFF, NOT, AND, NAND, OR, NOR, XOR or XNOR, in capitals, and here is";
+    for (statement, letter) in [("y=SELECTOR(a,a,a)", 'S'), ("y = selector", 's'), ("y=\tMUX(a,a,a)", 'M'), ("y=Mux#", 'M')] {
+        assert_eq!(words(&directory, &text(statement)), format!("{says} `{letter}`; {NO_SELECTOR}"));
+    }
+    for other in ["y=SELECT(a,a,a)", "y=MUX2(a,a,a)", "y=_MUX(a)", "y=NMUX(a)", "MUX(a)"] {
+        assert!(!words(&directory, &text(other)).contains("selector"), "{other}");
+    }
+    let texts = ["SELECTOR=NOT(a)", "MUX=SELECTOR(a)", "a1=SELECTOR", "a1=OR(MUX,a)", "a1=ORMUX(a)"].map(text);
+    assert_eq!(check_all("selectors", texts.to_vec()), [0, 14, 15]);
 }
 
 /// A loop of eight gates is shown whole, and of a longer one the beginning and the end.

@@ -3,7 +3,7 @@ mod harness;
 #[path = "harness/other_user.rs"]
 mod other_user;
 
-use cases::circuits::{self, record, BUFFER, INPUT};
+use cases::circuits::{self, record, selector, AND, BUFFER, INPUT};
 use cases::{damage, drawn, texts, Directory, Random};
 use harness::named::Named;
 use harness::{examples, printed, refused, stopped, ullimaqsu};
@@ -29,7 +29,7 @@ fn fine(printed: String) -> harness::Said {
 fn examples_and_their_records() {
     let directory = Directory::new("check");
     for path in examples() {
-        let named = Named::of_text(&fs::read(&path).expect("an example"));
+        let named = Named::of_file(&path);
         assert_eq!(check(&path), fine(counts(&named.circuit)));
         assert_eq!(check(&directory.write("circuit.rec", named.circuit.write())), fine(counts(&named.circuit)));
     }
@@ -107,7 +107,7 @@ fn sizes() {
     assert_eq!(check(&text), refused(&format!("{}: {says}", text.display())));
 }
 
-/// The first byte alone decides: a text stays one with whatever byte in it, and records with whatever kind of their first line.
+/// The first byte decides, and after a tab the second: a text stays one with whatever byte in it, and records with whatever kind of their first line.
 #[test]
 fn a_text_or_records() {
     let directory = Directory::new("told");
@@ -119,10 +119,18 @@ fn a_text_or_records() {
     assert_eq!(said, refused(&format!("{path}: line 3, column 7 (byte 25): after `(` there must be a name, and here is byte 0")));
     assert_eq!(check(b"INPUT(a) # \0\x08\nOUTPUT(a)").0, fine("lines 1, inputs 1, outputs 1\n".to_string()));
     assert_eq!(check(&[0, 1, 0, 0, 0, 0, 0, 0]).0, fine("lines 1, inputs 1, outputs 1\n".to_string()));
+    // a 9 is a tab, and the kind of a selector
+    assert_eq!(check(b"\tINPUT(a)\nOUTPUT(a)").0, fine("lines 1, inputs 1, outputs 1\n".to_string()));
+    assert_eq!(check(b"\t\t#\x01\nINPUT(a)\nOUTPUT(a)").0, fine("lines 1, inputs 1, outputs 1\n".to_string()));
     for first in 1..=255 {
         let ((status, _, said), _) = check(&[first, 1, 0, 0, 0, 0, 0, 0]);
         let as_records = said.ends_with(": refusal 2: line 0, first source (byte 2): 0 is not lower than the line\n");
-        assert_eq!((status, as_records), (Some(1), first < 9), "{said}");
+        assert_eq!((status, as_records), (Some(1), first < 10), "{said}");
+    }
+    for second in 2..=255 {
+        let ((status, _, said), path) = check(&[9, second, 0, 0, 0, 0, 0, 0]);
+        let as_records = said == format!("ullimaqsu: {path}: refusal 2: line 0, output (byte 1): {second} is neither 0 nor 1\n");
+        assert_eq!((status, as_records), (Some(1), second < 9), "{said}");
     }
 }
 
@@ -139,16 +147,42 @@ fn wrong_records() {
     let cases = [
         (one[..15].to_vec(), "refusal 1: the circuit is not a multiple of 8 bytes, empty, or above 2,048 records"),
         (with(0, 8), "refusal 2: line 0, first source (byte 2): 0 is not lower than the line"),
-        (with(8, 9), "refusal 2: line 1, kind (byte 8): 9 is no kind"),
+        (with(8, 10), "refusal 2: line 1, kind (byte 8): 10 is no kind"),
         (with(9, 2), "refusal 2: line 1, output (byte 9): 2 is neither 0 nor 1"),
         (with(11, 1), "refusal 2: line 1, first source (byte 10): 256 is not lower than the line"),
         (with(12, 1), "refusal 2: line 1, second source (byte 12): 1 is not 0, and the line's kind has no second source"),
-        (with(15, 1), "refusal 2: line 1, last two bytes (byte 14): 256 is not 0"),
+        (with(15, 1), "refusal 2: line 1, select (byte 14): 256 is not 0, and the line's kind has no select"),
         (with(9, 0), "refusal 5: the circuit has no output"),
     ];
     for (records, says) in cases {
         let path = directory.write("circuit.rec", records);
         assert_eq!(check(&path), refused(&format!("{}: {says}", path.display())));
+    }
+}
+
+/// A select is lower than its selector, as the sources are; of an AND the last two bytes stay zero.
+#[test]
+fn wrong_selectors() {
+    let directory = Directory::new("wrong selectors");
+    let check = |last: [u8; 8]| {
+        let path = directory.write("circuit.rec", [record(INPUT, false, 0, 0), record(INPUT, false, 0, 0), last].concat());
+        let (status, printed, said) = check(&path);
+        (status, printed + said.strip_prefix(&format!("ullimaqsu: {}: ", path.display())).unwrap_or(&said))
+    };
+    let mut and = record(AND, true, 0, 1);
+    and[6] = 1;
+    let cases = [
+        (selector(true, 0, 1, 2), "line 2, select (byte 22): 2 is not lower than the line"),
+        (selector(true, 0, 1, 257), "line 2, select (byte 22): 257 is not lower than the line"),
+        (selector(true, 0, 2, 2), "line 2, second source (byte 20): 2 is not lower than the line"),
+        (selector(true, 2, 0, 2), "line 2, first source (byte 18): 2 is not lower than the line"),
+        (and, "line 2, select (byte 22): 1 is not 0, and the line's kind has no select"),
+    ];
+    for (last, says) in cases {
+        assert_eq!(check(last), (Some(1), format!("refusal 2: {says}\n")));
+    }
+    for select in 0..2 {
+        assert_eq!(check(selector(true, 0, 1, select)), (Some(0), "lines 3, inputs 2, outputs 1\n".to_string()));
     }
 }
 

@@ -48,7 +48,7 @@ fn compare(directory: &Directory, random: &mut Random, path: &Path, named: &Name
 fn all_examples() {
     let (directory, mut random) = (Directory::new("clauses of examples"), Random::new(1));
     for path in examples() {
-        compare(&directory, &mut random, &path, &Named::of_text(&fs::read(&path).expect("an example")));
+        compare(&directory, &mut random, &path, &Named::of_file(&path));
     }
 }
 

@@ -6,7 +6,7 @@ mod pipes;
 use cases::{circuits, tables, texts, Directory, Random};
 use harness::json::Json;
 use harness::named::{letters, pattern_lines, Named};
-use harness::{example, into_broken, into_full, printed, refused, said, stopped, ullimaqsu, Said, COMMAND};
+use harness::{example, into_broken, into_full, printed, refused, root, said, selectors, stopped, ullimaqsu, Said, COMMAND};
 use pipes::full_pipe;
 use second::compact::{needs, Need, Row};
 use second::{Finding, Given};
@@ -145,6 +145,23 @@ fn kept_lists() {
     for counts in [[1, 1], [46, 10], [46, 11], [256, 20], [20, 256]] {
         compaction(&Case::c17("kept of c17", random, counts));
     }
+}
+
+/// Of the example with selectors those are kept that its output says, and the audit finds them sound.
+#[test]
+fn kept_of_selectors() {
+    let output = fs::read_to_string(root().join("examples/selector/output")).expect("output");
+    let marks: Vec<&str> = output.lines().map(|line| line.split(' ').nth(1).expect("a mark")).collect();
+    let words = |command: &str| [command.into(), selectors("circuit"), selectors("faults"), selectors("patterns")];
+    let rows = printed(&[&words("compact")[..], &["--csv".into()]].concat());
+    assert_eq!(rows.lines().skip(1).map(|row| row.split(',').nth(1).expect("a mark")).collect::<Vec<_>>(), marks);
+    let directory = Directory::new("kept of selectors");
+    let audit = |marks: &str| ullimaqsu(&[&words("audit")[..], &[directory.write("kept", marks)]].concat());
+    let sound = "sound: 8 of 15 patterns kept, every need is met, and none of them can be spared\n";
+    assert_eq!(audit(&marks.concat()), (Some(0), sound.to_string(), String::new()));
+    // input 3 is 0 and selected in pattern 7 alone
+    let lost = "lost fault: 3/1 is failed by pattern 7, and by no kept one\n";
+    assert_eq!(audit(&marks.concat().replacen("KKKKKKKK", "KKKKKKKD", 1)), (Some(1), lost.to_string(), String::new()));
 }
 
 /// The first pattern whose row does what is needed.

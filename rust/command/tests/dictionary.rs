@@ -77,24 +77,33 @@ fn compare(directory: &Directory, circuit: &Path, named: &Named, given: &Given) 
 #[test]
 fn examples() {
     let (directory, random) = (Directory::new("dictionary"), &mut Random::new(1));
-    for name in ["c17", "decoder4", "multiplier4", "parity16", "adder16"] {
-        let named = Named::of_text(&fs::read(example(name)).expect("an example"));
-        compare(&directory, &example(name), &named, &named.given(random, 30, 12));
+    for path in harness::examples() {
+        let named = Named::of_file(&path);
+        compare(&directory, &path, &named, &named.given(random, 30, 12));
     }
 }
 
 #[test]
 fn random_circuits() {
     let (directory, random) = (Directory::new("dictionaries"), &mut Random::new(2));
-    let mut seen = [0; 3];
+    let (mut seen, mut number, mut without) = ([0; 3], 0, 0);
     let mut one = |named: Named, path: &Path| {
-        let (fault_count, pattern_count) = (1 + random.below(12), 1 + random.below(12));
-        let letters = compare(&directory, path, &named, &named.given(random, fault_count, pattern_count));
+        let mut given = || {
+            let (fault_count, pattern_count) = (1 + random.below(12), 1 + random.below(12));
+            named.given(random, fault_count, pattern_count)
+        };
+        // few entries are unknown, and every other circuit is asked for one
+        let tries = if number % 2 == 0 { 0 } else { 100 };
+        let unknown = (0..tries).map(|_| given()).find(|given| entries(given).concat().contains('U'));
+        let letters = compare(&directory, path, &named, &unknown.unwrap_or_else(given));
         (0..3).for_each(|k| seen[k] += letters[k]);
+        number += 1;
+        without += usize::from(letters[2] == 0);
     };
     drawn(3, 50, texts::small).for_each(|text| one(Named::of_text(&text), &directory.write("text", &text)));
     drawn(4, 30, circuits::small).for_each(|records| one(Named::of_records(&records), &directory.write("records", &records)));
-    assert!(seen.iter().all(|&times| times > 0), "{seen:?}");
+    println!("dictionaries: {seen:?}, {without} of {number} without U");
+    assert!(seen.iter().all(|&times| times > 0) && 0 < without && without < number, "{seen:?}, {without} of {number} without U");
 }
 
 /// Around the most that a call of the library takes, and well above.

@@ -3,9 +3,10 @@ mod harness;
 
 use cases::{circuits, drawn, texts, Directory, Random};
 use harness::named::Named;
-use harness::{example, examples, printed, stopped, ullimaqsu};
+use harness::{example, examples, printed, selectors, stopped, ullimaqsu};
 use second::circuit::Gate;
 use second::{Circuit, Fault, Site, Value};
+use std::collections::HashSet;
 use std::fs;
 use std::path::{Path, PathBuf};
 
@@ -25,7 +26,7 @@ fn circuits(directory: &Directory, count: usize) -> Vec<(PathBuf, Named)> {
 #[test]
 fn all_faults() {
     let directory = Directory::new("faults");
-    let known = examples().into_iter().map(|path| (path.clone(), Named::of_text(&fs::read(&path).expect("an example"))));
+    let known = examples().into_iter().map(|path| (path.clone(), Named::of_file(&path)));
     for (path, named) in circuits(&directory, 40).into_iter().chain(known) {
         assert_eq!(faults(&path, &[]), named.fault_lines(&named.faults(false)));
         assert_eq!(faults(&path, &["--pins"]), named.fault_lines(&named.faults(true)));
@@ -44,7 +45,7 @@ fn textbook(gate: Gate) -> Vec<Row> {
         Gate::Nand(..) => vec![(false, true)],
         Gate::Or(..) => vec![(true, true)],
         Gate::Nor(..) => vec![(true, false)],
-        Gate::Input | Gate::Xor(..) | Gate::Xnor(..) => vec![],
+        Gate::Input | Gate::Xor(..) | Gate::Xnor(..) | Gate::Selector(..) => vec![],
     }
 }
 
@@ -128,7 +129,7 @@ fn the_table() {
         circuits.iter().all(|circuit| none_differs(circuit, &pairs(circuit, table, wire)))
     };
     assert!(holds(&textbook, &wire));
-    let kinds: [fn(usize) -> Gate; 8] = [
+    let kinds: [fn(usize) -> Gate; 9] = [
         Gate::Buffer,
         Gate::Not,
         |a| Gate::And(a, a),
@@ -137,6 +138,7 @@ fn the_table() {
         |a| Gate::Nor(a, a),
         |a| Gate::Xor(a, a),
         |a| Gate::Xnor(a, a),
+        |a| Gate::Selector(a, a, a),
     ];
     let same = |one: Gate, other: Gate| one.over(|_, _| 0) == other.over(|_, _| 0);
     for kind in kinds {
@@ -156,9 +158,8 @@ fn the_table() {
 fn collapsing() {
     let directory = Directory::new("collapse");
     let mut left_out = 0;
-    for (path, named) in
-        circuits(&directory, 60).into_iter().chain([(example("c17"), Named::of_text(&fs::read(example("c17")).expect("c17")))])
-    {
+    let known = [example("c17"), selectors("circuit")].map(|path| (path.clone(), Named::of_file(&path)));
+    for (path, named) in circuits(&directory, 60).into_iter().chain(known) {
         let pairs = pairs(&named.circuit, textbook, wire);
         for (options, all) in [(&["--collapse"][..], named.faults(false)), (&["--collapse", "--pins"], named.faults(true))] {
             let firsts = firsts(&all, &pairs);
@@ -169,6 +170,22 @@ fn collapsing() {
     assert!(left_out > 100);
     // c17 has 22 classes, as every textbook says
     assert_eq!(faults(&example("c17"), &["--pins", "--collapse"]).lines().count(), 22);
+}
+
+/// A selector's line has eight faults, of which no two are equivalent. In the example every class is found: with one fault of each, no two
+/// circuits compute the same.
+#[test]
+fn faults_of_selectors() {
+    let path = selectors("circuit");
+    let all = faults(&path, &["--pins"]);
+    let of_the_last: Vec<&str> = all.lines().filter(|fault| fault.starts_with('8')).collect();
+    assert_eq!(of_the_last, ["8/0", "8/1", "8.1/0", "8.1/1", "8.2/0", "8.2/1", "8.3/0", "8.3/1"]);
+    let named = Named::of_file(&path);
+    let mut behaviours = HashSet::new();
+    let firsts: Vec<Fault> = named.faults(true).into_iter().filter(|&fault| behaviours.insert(behaviour(&named.circuit, fault))).collect();
+    assert_eq!(faults(&path, &["--pins", "--collapse"]), named.fault_lines(&firsts));
+    // lines 0 to 3 and 5 are wires to their pins, 4 is read by two selects, and 6 and 7 are wires to the last selector
+    assert_eq!((firsts.len(), all.lines().count()), (22, 36));
 }
 
 /// The list goes to a file, and never over the circuit.

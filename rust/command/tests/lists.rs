@@ -2,7 +2,7 @@
 mod harness;
 
 use cases::{circuits, Directory, Random};
-use harness::{example, refused, stopped, ullimaqsu, Said};
+use harness::{example, printed, refused, selectors, stopped, ullimaqsu, Said};
 use std::fs::File;
 use std::path::Path;
 use std::time::Instant;
@@ -47,7 +47,7 @@ fn faults() {
         ("22/0 23/0", ": line 1, column 6: a line has one fault, and here follows `23/0`"),
         (
             "# 22/0\n22 / 0\n",
-            ": line 2, column 1: `22` is no fault: it is written NAME/0 or NAME/1, and at a pin of the gate NAME.1/0 or NAME.2/0",
+            ": line 2, column 1: `22` is no fault: it is written NAME/0 or NAME/1, at a pin NAME.1/0 or NAME.2/0, and at a selector's select NAME.3/0",
         ),
         ("22/X", ": line 1, column 1: `22/X` is no fault: after `/` there must be 0 or 1, what the line is stuck at"),
         ("22/0\n1.1/0", ": line 2, column 1: `1` has no pin `1`: it is INPUT with no pins"),
@@ -99,6 +99,35 @@ fn records_of_faults() {
     assert_eq!(lists.with("faults", [4, 0, 1, 0, 0, 0, 0, 0]), lists.about("faults", says));
     let says = ": records of faults have 8 bytes each, and 9 bytes are no multiple of that";
     assert_eq!(lists.with("faults", [&fine[..], &[0]].concat()), lists.about("faults", says));
+}
+
+/// The third pin is that of a selector alone, in words as in records.
+#[test]
+fn selects() {
+    let directory = Directory::new("selects");
+    let circuit = selectors("circuit");
+    let words = |list: &Path| [Path::new("search"), &circuit, Path::new("--csv"), Path::new("--faults"), list].map(Path::to_path_buf);
+    let list = directory.write("list", "8.3/1\n6.3/0 # a select\n");
+    let records = directory.write("records", [[8, 0, 3, 1, 0, 0, 0, 0], [6, 0, 3, 0, 0, 0, 0, 0]].concat());
+    let found = printed(&words(&list));
+    let outcomes: Vec<&str> = found.lines().map(|row| row.split(",test,").next().expect("a fault")).collect();
+    assert_eq!(outcomes[1..], ["8.3/1", "6.3/0"]);
+    assert_eq!(printed(&words(&records)), found);
+
+    for (word, says) in [
+        ("6.4/0", "`6` has no pin `4`: it is SELECTOR with pins 1 to 3"),
+        ("6.0/0", "`6` has no pin `0`: it is SELECTOR with pins 1 to 3"),
+        ("6.03/0", "`6` has no pin `03`: it is SELECTOR with pins 1 to 3"),
+        ("5.3/0", "`5` has no pin `3`: it is INPUT with no pins"),
+    ] {
+        let list = directory.write("list", format!("8/0\n{word}\n"));
+        assert_eq!(ullimaqsu(&words(&list)), refused(&format!("{}: line 2, column 1: {says}", list.display())));
+    }
+    for (line, site) in [(8, 4), (8, 255), (5, 3)] {
+        let records = directory.write("records", [line, 0, site, 0, 0, 0, 0, 0]);
+        let says = "refusal 7: a fault record breaks its layout or names no line (record 0)";
+        assert_eq!(ullimaqsu(&words(&records)), refused(&format!("{}: {says}", records.display())));
+    }
 }
 
 #[test]

@@ -4,7 +4,7 @@ mod harness;
 use cases::{circuits, drawn, texts, Directory, Random};
 use harness::json::Json;
 use harness::named::{letters, Named};
-use harness::{example, into_broken, into_full, printed, refused, stopped, ullimaqsu};
+use harness::{example, into_broken, into_full, printed, refused, selectors, stopped, ullimaqsu};
 use second::search::{search_circuit, Outcome, Search};
 use second::Fault;
 use std::fs;
@@ -111,10 +111,11 @@ fn compare(path: &Path, named: &Named, budget: u64) -> [usize; 3] {
 #[test]
 fn examples() {
     for (name, budget) in [("c17", 1_000_000), ("decoder4", 1_000_000), ("multiplier4", 300), ("parity16", 100), ("adder16", 40)] {
-        let named = Named::of_text(&fs::read(example(name)).expect("an example"));
-        let totals = compare(&example(name), &named, budget);
+        let totals = compare(&example(name), &Named::of_file(&example(name)), budget);
         assert!(name != "multiplier4" || totals.iter().sum::<usize>() > 256, "{totals:?}");
     }
+    let path = selectors("circuit");
+    assert_eq!(compare(&path, &Named::of_file(&path), 1_000_000), [36, 0, 0]);
 }
 
 #[test]
@@ -196,7 +197,9 @@ fn redundant() {
 fn what_is_wrong() {
     let c17 = example("c17");
     let search = |words: &[&str]| ullimaqsu(&[&["search", c17.to_str().expect("text")], words].concat());
-    let no_fault = |word| format!("`{word}` is no fault: it is written NAME/0 or NAME/1, and at a pin of the gate NAME.1/0 or NAME.2/0");
+    let no_fault = |word| {
+        format!("`{word}` is no fault: it is written NAME/0 or NAME/1, at a pin NAME.1/0 or NAME.2/0, and at a selector's select NAME.3/0")
+    };
     let no_value = |word| format!("`{word}` is no fault: after `/` there must be 0 or 1, what the line is stuck at");
     let refusals = [
         ("10", no_fault("10")),

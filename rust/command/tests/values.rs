@@ -6,7 +6,7 @@ mod xml;
 use cases::{circuits, drawn, texts, Directory, Random};
 use harness::json::Json;
 use harness::named::{letters, Named};
-use harness::{example, examples, into_broken, into_full, printed, refused, stopped, ullimaqsu};
+use harness::{example, examples, into_broken, into_full, printed, refused, selectors, stopped, ullimaqsu};
 use second::circuit::Gate;
 use second::{Entry, Fault, Pattern, Value};
 use std::collections::HashMap;
@@ -64,6 +64,16 @@ impl Case<'_> {
             Gate::Nor(..) => "NOR",
             Gate::Xor(..) => "XOR",
             Gate::Xnor(..) => "XNOR",
+            Gate::Selector(..) => "SELECTOR",
+        }
+    }
+
+    /// What is written into its body.
+    fn written(&self, line: usize) -> Vec<&'static str> {
+        match self.kind(line) {
+            "INPUT" => vec![],
+            "SELECTOR" => vec!["SEL", "0", "1", "S"],
+            kind => vec![kind],
         }
     }
 
@@ -194,9 +204,7 @@ fn is_picture(case: &Case, file: &str, picture: &str) {
     for line in 0..case.lines() {
         let group = groups[format!("line-{}", case.name(line)).as_str()];
         assert_eq!((group.texts("name"), group.texts("value")), (vec![case.name(line)], vec![case.both(line).as_str()]));
-        if case.kind(line) != "INPUT" {
-            assert_eq!(group.texts("kind"), [case.kind(line)]);
-        }
+        assert_eq!(group.texts("kind"), case.written(line));
         let value = case.good[line].map_or("x", |value| if value { "one" } else { "zero" });
         let difference =
             [("*", " differs"), ("?", " perhaps"), ("", "")].into_iter().find(|(mark, _)| *mark == case.mark(line)).expect("a mark").1;
@@ -264,7 +272,7 @@ fn are_wires(case: &Case, root: &Element) {
     for (reader, &(x, y)) in places.iter().enumerate() {
         let gate = case.named.circuit.lines[reader].gate;
         let left = if matches!(gate, Gate::Or(..) | Gate::Nor(..) | Gate::Xor(..) | Gate::Xnor(..)) { 23.5 } else { 28.0 };
-        let heights: &[f64] = if gate.sources().len() == 2 { &[-11.0, 11.0] } else { &[0.0] };
+        let heights: &[f64] = [&[0.0][..], &[0.0], &[-11.0, 11.0], &[-15.0, 0.0, 15.0]][gate.sources().len()];
         gate.sources().into_iter().zip(heights).for_each(|(source, height)| right[source].push((x - left, y + height)));
         if case.is_output(reader) {
             let (x, y) = place_of(format!("output-{}", case.name(reader)));
@@ -307,7 +315,7 @@ fn compare(directory: &Directory, path: &Path, case: &Case) {
 fn all_examples() {
     let (directory, mut random) = (Directory::new("values of examples"), Random::new(1));
     for path in examples() {
-        let named = Named::of_text(&fs::read(&path).expect("an example"));
+        let named = Named::of_file(&path);
         for _ in 0..6 {
             compare(&directory, &path, &Case::drawn(&mut random, &named));
         }
@@ -335,6 +343,52 @@ fn random_circuits() {
     }
     println!("values: {verdicts:?}");
     assert_eq!(verdicts.len(), 4, "no fault, fail, pass and unknown");
+}
+
+/// A selector whose select is X has a value where its sources have the same.
+#[test]
+fn values_of_selectors() {
+    let path = selectors("circuit");
+    let cases = [
+        ("100000", "101"),
+        ("010010", "101"),
+        ("110101", "100"),
+        ("1100X0", "101"),
+        ("10100X", "111"),
+        ("1000X0", "X0X"),
+        ("10000X", "10X"),
+        ("XX0000", "X0X"),
+        ("XX00X0", "X0X"),
+        ("1XXX00", "1X1"),
+        ("0000XX", "000"),
+    ];
+    for (pattern, right) in cases {
+        let table = printed(&[Path::new("values"), &path, Path::new(pattern), Path::new("--csv")]);
+        let good: String = table.lines().skip(7).map(|row| row.split(',').nth(3).expect("a value")).collect();
+        assert_eq!(good, right, "{pattern}");
+    }
+}
+
+/// The picture of a selector says at each pin what it is, beside the wire that comes in there, and has the cross of a select that is stuck.
+#[test]
+fn pictures_of_selectors() {
+    let (directory, path) = (Directory::new("selectors"), selectors("circuit"));
+    let picture = directory.path("picture.svg");
+    printed(&[Path::new("values"), &path, Path::new("1000X0"), Path::new("8.3/1"), Path::new("--svg"), &picture]);
+    let root = Element::read(&directory.read("picture.svg"));
+    let all = root.all();
+    let inside = |id: &str| all.iter().find(|element| element.attribute("id") == Some(id)).expect("a group").all();
+    let (selector, fault) = (inside("line-8"), inside("fault"));
+    let paths =
+        |group: &[&Element]| -> Vec<String> { group.iter().filter_map(|element| element.attribute("d")).map(String::from).collect() };
+    assert_eq!(paths(&selector), ["M-28 -22L28 -12V12L-28 22Z"], "wider at the left");
+    let marks: Vec<(&str, &str, &str)> = selector
+        .iter()
+        .filter(|element| element.attribute("class") == Some("kind"))
+        .map(|mark| (mark.text.as_str(), mark.needs("x"), mark.needs("y")))
+        .collect();
+    assert_eq!(marks, [("SEL", "6", "4"), ("0", "-24", "-11.5"), ("1", "-24", "3.5"), ("S", "-24", "18.5")]);
+    assert_eq!(paths(&fault), ["M-44 9L-32 21M-44 21L-32 9"], "on the third wire, which is at 15");
 }
 
 /// The largest circuits, deep ones and broad ones, are drawn at once, and always in the same way.

@@ -13,6 +13,8 @@ pub enum Gate<S = usize> {
     Nor(S, S),
     Xor(S, S),
     Xnor(S, S),
+    /// The first source, the second source, and the select that chooses between them.
+    Selector(S, S, S),
 }
 
 #[derive(Clone, Copy, Debug, PartialEq, Eq)]
@@ -43,7 +45,7 @@ impl Counts {
 
 impl Gate {
     /// The gate of a kind over these lines, as many as it has pins.
-    fn of(kind: u8, [a, b]: [usize; 2]) -> Option<Gate> {
+    fn of(kind: u8, [a, b, select]: [usize; 3]) -> Option<Gate> {
         Some(match kind {
             0 => Gate::Input,
             1 => Gate::Buffer(a),
@@ -54,6 +56,7 @@ impl Gate {
             6 => Gate::Nor(a, b),
             7 => Gate::Xor(a, b),
             8 => Gate::Xnor(a, b),
+            9 => Gate::Selector(a, b, select),
             _ => return None,
         })
     }
@@ -66,10 +69,11 @@ impl<S> Gate<S> {
             Gate::Input => vec![],
             Gate::Buffer(a) | Gate::Not(a) => vec![a],
             Gate::And(a, b) | Gate::Nand(a, b) | Gate::Or(a, b) | Gate::Nor(a, b) | Gate::Xor(a, b) | Gate::Xnor(a, b) => vec![a, b],
+            Gate::Selector(a, b, select) => vec![a, b, select],
         }
     }
 
-    /// The same gate over something else at each pin, made of the pin's number, 1 or 2, and what it read.
+    /// The same gate over something else at each pin, made of the pin's number, from 1, and what it read.
     pub fn over<T>(self, mut pin: impl FnMut(usize, S) -> T) -> Gate<T> {
         match self {
             Gate::Input => Gate::Input,
@@ -81,6 +85,7 @@ impl<S> Gate<S> {
             Gate::Nor(a, b) => Gate::Nor(pin(1, a), pin(2, b)),
             Gate::Xor(a, b) => Gate::Xor(pin(1, a), pin(2, b)),
             Gate::Xnor(a, b) => Gate::Xnor(pin(1, a), pin(2, b)),
+            Gate::Selector(a, b, select) => Gate::Selector(pin(1, a), pin(2, b), pin(3, select)),
         }
     }
 
@@ -96,6 +101,7 @@ impl<S> Gate<S> {
             Gate::Nor(..) => 6,
             Gate::Xor(..) => 7,
             Gate::Xnor(..) => 8,
+            Gate::Selector(..) => 9,
         }
     }
 }
@@ -110,10 +116,11 @@ pub fn bad_fields(number: usize, record: [u8; 8]) -> Vec<usize> {
     let had = match record[0] {
         0 => 0,
         1 | 2 => 1,
+        9 => 3,
         _ => 2,
     };
     let bad = |field: usize| match field {
-        0 => record[0] > 8,
+        0 => record[0] > 9,
         1 => record[1] > 1,
         source_at if source_at / 2 <= had => source(record, source_at) >= number,
         nothing_at => source(record, nothing_at) > 0,
@@ -126,7 +133,7 @@ impl Line {
     fn read(number: usize, record: [u8; 8]) -> Result<Line, usize> {
         match bad_fields(number, record).first() {
             Some(&field) => Err(field),
-            None => Ok(Line { gate: Gate::of(record[0], [source(record, 2), source(record, 4)]).expect("a kind"), output: record[1] == 1 }),
+            None => Ok(Line { gate: Gate::of(record[0], [2, 4, 6].map(|at| source(record, at))).expect("a kind"), output: record[1] == 1 }),
         }
     }
 

@@ -6,7 +6,7 @@ use crate::refusal::{refusal, Refusal};
 /// Signed variables of which one at least is true.
 pub type Clause = Vec<i32>;
 
-/// A gate's row, as document 01 has it. A good input writes nothing.
+/// A gate's row, as document 01 has it, and document 02 that of a selector. A good input writes nothing.
 fn row(gate: Gate) -> &'static str {
     match gate {
         Gate::Input => "",
@@ -18,6 +18,7 @@ fn row(gate: Gate) -> &'static str {
         Gate::Nor(..) => "(-y -a)(-y -b)(y a b)",
         Gate::Xor(..) => "(-y a b)(-y -a -b)(y -a b)(y a -b)",
         Gate::Xnor(..) => "(y a b)(y -a -b)(-y -a b)(-y a -b)",
+        Gate::Selector(..) => "(s -y a)(s y -a)(-s -y b)(-s y -b)",
     }
 }
 
@@ -26,7 +27,8 @@ fn gate_clauses(gate: Gate, y: i32, pins: &[i32]) -> Vec<Clause> {
     let variable = |letter: &str| match letter {
         "y" => y,
         "a" => pins[0],
-        _ => pins[1],
+        "b" => pins[1],
+        _ => pins[2],
     };
     let literal = |word: &str| word.strip_prefix('-').map_or_else(|| variable(word), |letter| -variable(letter));
     let clauses = row(gate).split(['(', ')']).filter(|clause| !clause.is_empty());

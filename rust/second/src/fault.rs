@@ -7,7 +7,7 @@ use crate::refusal::{records, refusal, Refusal};
 pub enum Site {
     /// Wherever the line is read, and at the output if it is one.
     Line,
-    /// At this pin of its gate alone, 1 or 2.
+    /// At this pin of its gate alone, from 1.
     Pin(usize),
 }
 

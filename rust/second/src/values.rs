@@ -29,6 +29,12 @@ fn xor(a: Value, b: Value) -> Value {
     Some(a? ^ b?)
 }
 
+/// A choice over both values of the select: what those give that it may have, if they give the same.
+fn selected(a: Value, b: Value, select: Value) -> Value {
+    let possible = [(false, a), (true, b)].into_iter().filter(|&(value, _)| select != Some(!value)).map(|(_, given)| given);
+    possible.reduce(|one, other| one.filter(|_| one == other)).expect("a value that the select may have")
+}
+
 /// A value from its byte: 0, 1, or 2 for X.
 pub fn value(byte: u8) -> Option<Value> {
     match byte {
@@ -57,6 +63,7 @@ impl Gate<Value> {
             Gate::Nor(a, b) => not(or(a, b)),
             Gate::Xor(a, b) => xor(a, b),
             Gate::Xnor(a, b) => not(xor(a, b)),
+            Gate::Selector(a, b, select) => selected(a, b, select),
         }
     }
 }

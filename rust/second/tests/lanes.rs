@@ -1,5 +1,6 @@
 //! The words that the second program leaves for 64 patterns at once: in each lane what the dictionary of its pattern alone leaves as bytes.
-use cases::{drawn, files, lane, Files, Random};
+use cases::selects::{valued, VALUED};
+use cases::{drawn, files, lane, Files, Random, Tally};
 
 /// Up to three groups of patterns.
 fn groups(random: &mut Random) -> Files {
@@ -10,6 +11,7 @@ fn groups(random: &mut Random) -> Files {
 #[test]
 fn lanes_are_single_patterns() {
     let mut spare = 0;
+    let mut tally = Tally::default();
     for files in drawn(1, 500, groups) {
         let Files { circuit, faults, patterns } = &files;
         let words = second::dictionary_lanes(circuit, faults, patterns, files.entries(), 4 * files.lines()).expect("sound").work;
@@ -19,8 +21,10 @@ fn lanes_are_single_patterns() {
         for (number, pattern) in lanes.chunks_exact(files.inputs()).enumerate() {
             let single = second::dictionary(circuit, faults, pattern, files.fault_count(), 2 * files.lines()).expect("sound");
             assert_eq!(lane(&words, number), single.work, "lane {number} of {files:?}");
+            tally.count_selects(valued(circuit, &single.work));
         }
         spare += 64 - last_group.len() / files.inputs();
     }
     assert!((10_000..25_000).contains(&spare), "{spare} of 32,000 lanes are spare");
+    tally.with_selects(&[&VALUED]);
 }

@@ -1,6 +1,7 @@
 //! The second program's search for a list of faults: single searches one after the other, each with the work memory that the one before
 //! left.
-use cases::{circuits, drawn, faults, Random};
+use cases::selects::{self, EVERY};
+use cases::{circuits, drawn, faults, Random, Tally};
 use second::entries::{self, Seen};
 use second::search_all::Lent;
 
@@ -43,7 +44,10 @@ fn one_by_one(list: &List) -> Seen {
 
 #[test]
 fn lists_are_single_searches() {
+    let mut tally = Tally::default();
     for list in drawn(1, 5_000, list) {
         assert_eq!(in_one_call(&list), one_by_one(&list), "{:?} {:?} {:?}", list.circuit, list.faults, list.budgets);
+        tally.count_selects(selects::all(&list.circuit, &list.faults, &[]));
     }
+    tally.with_selects(&EVERY[..2]);
 }

@@ -1,8 +1,10 @@
 //! The second program against what complete input vectors do, which is evaluated here on its own, over Booleans.
-use cases::{circuits, drawn, faults, Random};
+use cases::selects::{valued, wired, VALUED, WIRED};
+use cases::{circuits, drawn, faults, Random, Tally};
 use second::circuit::{Circuit, Gate};
 use second::clauses::clauses_of;
 use second::search::{search_circuit, Search};
+use second::values::byte;
 use second::{Entry, Fault, Look, Outcome, Site, Value};
 
 /// A line's value, by asking for those that it reads.
@@ -19,6 +21,13 @@ fn truth(circuit: &Circuit, vector: &[bool], fault: Option<Fault>, line: usize) 
         Gate::Nor(a, b) => !(pin(1, a) || pin(2, b)),
         Gate::Xor(a, b) => pin(1, a) != pin(2, b),
         Gate::Xnor(a, b) => pin(1, a) == pin(2, b),
+        Gate::Selector(a, b, select) => {
+            if pin(3, select) {
+                pin(2, b)
+            } else {
+                pin(1, a)
+            }
+        }
     })
 }
 
@@ -62,9 +71,12 @@ fn every_pattern(inputs: usize) -> Vec<Vec<Value>> {
 fn entries_speak_of_all_fillings() {
     let mut seen = [0; 3];
     let mut detected_under_pass = 0;
+    let mut tally = Tally::default();
     for (circuit, faults) in drawn(1, 800, tiny) {
+        tally.count_selects(wired(&circuit.write()));
         for pattern in every_pattern(circuit.inputs().count()) {
             let good = circuit.values(&pattern, None);
+            tally.count_selects(valued(&circuit.write(), &good.iter().map(byte).collect::<Vec<_>>()));
             let compared: Vec<_> = circuit.outputs().filter(|&line| good[line].is_some()).collect();
             let fillings = fillings(&pattern);
             for &fault in &faults {
@@ -85,6 +97,7 @@ fn entries_speak_of_all_fillings() {
         }
     }
     assert!(seen.iter().chain([&detected_under_pass]).all(|&times| times > 1000), "{seen:?}, {detected_under_pass}");
+    tally.with_selects(&[&WIRED, &VALUED]);
 }
 
 /// The nodes from here on, in order, up to the first that fails: the definition as a recursion.
@@ -104,7 +117,9 @@ fn visit(circuit: &Circuit, fault: Fault, node: Vec<Value>, looked: &mut Vec<Vec
 #[test]
 fn searches_agree_with_all_vectors_and_all_budgets() {
     let mut seen = [0; 3];
+    let mut tally = Tally::default();
     for (circuit, faults) in drawn(2, 300, tiny) {
+        tally.count_selects(wired(&circuit.write()));
         let inputs = circuit.inputs().count();
         for fault in faults {
             let mut looked = vec![];
@@ -125,6 +140,7 @@ fn searches_agree_with_all_vectors_and_all_budgets() {
         }
     }
     assert!(seen.iter().all(|&times| times > 1000), "{seen:?}");
+    tally.with_selects(&[&WIRED]);
 }
 
 /// The clauses of tiny circuits, over all assignments: a vector extends to one that satisfies them exactly if it detects the fault, and then in
@@ -132,7 +148,9 @@ fn searches_agree_with_all_vectors_and_all_budgets() {
 #[test]
 fn clauses_are_satisfied_by_detecting_vectors() {
     let mut seen = [0; 2];
+    let mut tally = Tally::default();
     for (circuit, faults) in drawn(3, 400, |random| tiny_of(random, 4)) {
+        tally.count_selects(wired(&circuit.write()));
         let variables = 2 * circuit.lines.len() + 1 + circuit.outputs().count();
         for fault in faults {
             let clauses = clauses_of(&circuit, fault);
@@ -154,4 +172,5 @@ fn clauses_are_satisfied_by_detecting_vectors() {
         }
     }
     assert!(seen.iter().all(|&times| times > 1000), "{seen:?}");
+    tally.with_selects(&[&WIRED]);
 }

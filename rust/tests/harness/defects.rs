@@ -7,7 +7,7 @@ macro_rules! defects {
         [
             (10, |case| case.answer.push(0)),
             (1, |case| case.circuit.push(0)),
-            (2, |case| case.circuit[8] = 9),
+            (2, |case| case.circuit[8] = 10),
             (2, |case| case.circuit[9] = 2),
             (2, |case| case.circuit[11] = 1),
             (2, |case| case.circuit[13] = 1),

@@ -2,6 +2,7 @@
 //! answer area and every element of lent memory.
 mod parameters;
 
+use cases::selects::Sort;
 use cases::Tally;
 pub use parameters::*;
 use second::entries::Seen;
@@ -16,6 +17,11 @@ pub trait Case: Parameters {
     /// What is counted: the number returned, unless there is more to tell.
     fn counted(seen: &Seen) -> u32 {
         seen.returned
+    }
+
+    /// What its selectors do, where it is accepted and this is what it leaves.
+    fn selects(&self, _seen: &mut Seen) -> Vec<Sort> {
+        vec![]
     }
 
     /// What else is asked of what the library does with some cases: nothing, unless there is more to compare with.
@@ -55,12 +61,17 @@ pub fn compare<C: Case>(name: &str, mut cases: impl Iterator<Item = C>) -> Tally
         if some.is_empty() {
             break;
         }
-        let (library, said) = (library(&some), some.iter().map(C::second).collect::<Vec<_>>());
+        let (library, mut said) = (library(&some), some.iter().map(C::second).collect::<Vec<_>>());
         if let Some(difference) = first_difference(&some, &library, &said) {
             panic!("{name}: {difference}");
         }
         C::hold_more(&some, &library);
-        said.iter().for_each(|seen| tally.count(C::counted(seen)));
+        for (case, seen) in some.iter().zip(&mut said) {
+            tally.count(C::counted(seen));
+            if seen.returned == 0 {
+                tally.count_selects(case.selects(seen));
+            }
+        }
     }
     println!("{name}: {tally}, {:.1} s", began.elapsed().as_secs_f64());
     tally

@@ -1,5 +1,6 @@
 //! Dictionary makers of 64 patterns at once that are wrong in one way each.
 use super::changed::{accepted, written_though_refused};
+use super::rules::Rule;
 use super::{Case, DictionaryLanes};
 use second::circuit::Gate;
 use second::dictionary::entry;
@@ -37,7 +38,7 @@ fn with_entries(case: &DictionaryLanes, entry: ByOutputs) -> Seen {
     then(case, |given, seen| *seen.lent[0].u8() = table_by(given, Gate::value, entry))
 }
 
-fn table_by(given: &Given, rule: fn(Gate<Value>) -> Value, entry: ByOutputs) -> Vec<u8> {
+fn table_by(given: &Given, rule: Rule, entry: ByOutputs) -> Vec<u8> {
     let circuit = &given.circuit;
     let of = |pattern: &[Value], fault| {
         let (good, faulty) = (circuit.values_by(rule, pattern, None), circuit.values_by(rule, pattern, Some(fault)));
@@ -86,7 +87,7 @@ fn and_without_x(gate: Gate<Value>) -> Value {
 }
 
 /// Table and words by another gate rule.
-fn by_rule(case: &DictionaryLanes, rule: fn(Gate<Value>) -> Value) -> Seen {
+pub fn by_rule(case: &DictionaryLanes, rule: Rule) -> Seen {
     then(case, |given, seen| {
         let lanes = given.last_lanes();
         let under = |fault| words(&lanes.iter().map(|pattern| given.circuit.values_by(rule, pattern, fault)).collect::<Vec<_>>());

@@ -1,11 +1,22 @@
 //! Searches that are wrong in one way each.
+use super::rules::Rule;
 use super::{Case, Search, GIVEN_UP, REDUNDANT, TEST};
+use second::circuit::Gate;
 use second::entries::Seen;
 use second::values::byte;
-use second::{Look, Pattern, Value};
+use second::{Pattern, Value};
 
 /// A search that tries the sides in this order and leaves nodes by another rule, and otherwise what the second program says.
 fn by(case: &Search, sides: [bool; 2], leaves: fn(&[(Value, Value)]) -> bool) -> Seen {
+    by_rule(case, Gate::value, sides, leaves)
+}
+
+/// A search that goes by another gate rule.
+pub fn with_rule(case: &Search, rule: Rule) -> Seen {
+    by_rule(case, rule, [false, true], equal)
+}
+
+fn by_rule(case: &Search, rule: Rule, sides: [bool; 2], leaves: fn(&[(Value, Value)]) -> bool) -> Seen {
     let mut seen = case.second();
     if seen.returned != 0 {
         return seen;
@@ -19,11 +30,11 @@ fn by(case: &Search, sides: [bool; 2], leaves: fn(&[(Value, Value)]) -> bool) ->
             break 2;
         }
         looked.push(node.clone());
-        if circuit.look(&node, fault) == Look::Fails {
+        let (good, faulty) = (circuit.values_by(rule, &node, None), circuit.values_by(rule, &node, Some(fault)));
+        let outputs: Vec<_> = circuit.outputs().map(|line| (good[line], faulty[line])).collect();
+        if outputs.iter().any(|(good, faulty)| good.zip(*faulty).is_some_and(|(good, faulty)| good != faulty)) {
             break 0;
         }
-        let (good, faulty) = (circuit.values(&node, None), circuit.values(&node, Some(fault)));
-        let outputs: Vec<_> = circuit.outputs().map(|line| (good[line], faulty[line])).collect();
         if let (false, Some(first)) = (leaves(&outputs), node.iter().position(Option::is_none)) {
             let side = |value| node.iter().enumerate().map(|(k, &old)| if k == first { Some(value) } else { old }).collect();
             waiting.extend([side(sides[1]), side(sides[0])]);

@@ -1,5 +1,6 @@
 //! Searches for a list of faults that are wrong in one way each.
 use super::changed::{accepted, written_though_refused};
+use super::exchanged::exchanged;
 use super::{parts, Case, SearchAll};
 use cases::faults::inputs;
 use second::entries::Seen;
@@ -58,10 +59,13 @@ fn last_of_all(case: &SearchAll) -> Option<Vec<u8>> {
 
 type Wrong = (&'static str, fn(&SearchAll) -> Seen);
 
-pub const PROGRAMS: [Wrong; 16] = [
+pub const PROGRAMS: [Wrong; 17] = [
     ("takes the first budget for all", |case| with_budgets(case, |case| vec![case.budgets[0]; case.budgets.len()])),
     ("takes one budget for a fault that is repeated", |case| with_budgets(case, first_of_the_same)),
     ("lets what is left of a budget serve the next fault", |case| with_budgets(case, carried)),
+    ("exchanges a selector's sources", |case| {
+        accepted(case, |seen| *seen = SearchAll { circuit: exchanged(&case.circuit), ..case.clone() }.second())
+    }),
     ("writes a test for a redundant fault", |case| with_tests(case, Outcome::Redundant)),
     ("writes a test for a fault that it gives up", |case| with_tests(case, Outcome::GivenUp)),
     ("leaves tests unwritten", |case| accepted(case, |seen| seen.lent[2] = case.tests.clone().into())),

@@ -1,5 +1,5 @@
 //! The circuit check.
-use super::{pins, report, word};
+use super::{pins, report, word, SELECTOR};
 
 fn pin_ok(circuit: &[u8], k: usize, s: usize) -> bool {
     let from = word(circuit, 8 * k + 2 * s);
@@ -11,7 +11,7 @@ fn pin_ok(circuit: &[u8], k: usize, s: usize) -> bool {
 
 /// Where in the record of line k the first field begins that breaks its rule.
 fn bad_byte(circuit: &[u8], k: usize) -> Option<usize> {
-    if circuit[8 * k] > 8 {
+    if circuit[8 * k] > SELECTOR {
         return Some(0);
     }
     if circuit[8 * k + 1] > 1 {

@@ -3,6 +3,9 @@
 pub trait Gates {
     /// The value of a gate whose pins see `a` and `b`.
     fn value(kind: u8, a: u8, b: u8) -> u8;
+
+    /// That of a selector, which sees `select` too.
+    fn selected(a: u8, b: u8, select: u8) -> u8;
 }
 
 pub struct Branches;
@@ -54,6 +57,15 @@ impl Gates for Branches {
             _ => 2,
         }
     }
+
+    fn selected(a: u8, b: u8, select: u8) -> u8 {
+        match select {
+            0 => a.min(2),
+            1 => b.min(2),
+            _ if a == b => a.min(2),
+            _ => 2,
+        }
+    }
 }
 
 /// By kind, the first source and the second.
@@ -69,8 +81,19 @@ const TABLE: [[[u8; 3]; 3]; 9] = [
     [[1, 0, 2], [0, 1, 2], [2, 2, 2]], // XNOR
 ];
 
+/// By the select, the first source and the second.
+const SELECTED: [[[u8; 3]; 3]; 3] = [
+    [[0, 0, 0], [1, 1, 1], [2, 2, 2]], // 0
+    [[0, 1, 2], [0, 1, 2], [0, 1, 2]], // 1
+    [[0, 2, 2], [2, 1, 2], [2, 2, 2]], // X
+];
+
 impl Gates for Table {
     fn value(kind: u8, a: u8, b: u8) -> u8 {
         TABLE.get(kind as usize).map_or(2, |rows| rows[a.min(2) as usize][b.min(2) as usize])
+    }
+
+    fn selected(a: u8, b: u8, select: u8) -> u8 {
+        SELECTED[select.min(2) as usize][a.min(2) as usize][b.min(2) as usize]
     }
 }

@@ -3,7 +3,7 @@ pub mod gates;
 
 use super::dictionary::check_given;
 use super::simulate::Fault;
-use super::{report, word};
+use super::{report, word, SELECTOR};
 use gates::{Lanes, WordGates};
 
 /// Where the entries of a table stand.
@@ -29,13 +29,19 @@ impl Order for ByFault {
     }
 }
 
+/// The lanes of line k, a gate, whose pins see this.
+fn lanes<G: WordGates>(circuit: &[u8], k: usize, pin: impl Fn(u8) -> Lanes) -> Lanes {
+    match circuit[8 * k] {
+        SELECTOR => pin(1).selected(pin(2), pin(3)),
+        kind => G::lanes(kind, pin(1), pin(2)),
+    }
+}
+
 /// Gives every line from `start` on its lanes; an input's line has them already.
 fn simulate_from<G: WordGates>(circuit: &[u8], words: &mut [[u64; 2]], start: usize) {
     for k in start..words.len() {
-        let kind = circuit[8 * k];
-        if kind != 0 {
-            let (a, b) = (Lanes::of(words, word(circuit, 8 * k + 2)), Lanes::of(words, word(circuit, 8 * k + 4)));
-            words[k] = G::lanes(kind, a, b).words();
+        if circuit[8 * k] != 0 {
+            words[k] = lanes::<G>(circuit, k, |site| Lanes::of(words, word(circuit, 8 * k + 2 * site as usize))).words();
         }
     }
 }
@@ -63,8 +69,8 @@ fn faulty_lanes<G: WordGates>(circuit: &[u8], fault: Fault, good: &[[u64; 2]], f
     faulty.copy_from_slice(good);
     let (line, stuck) = (fault.line, Lanes::stuck(fault.value));
     let pin = |site: u8| if site == fault.site { stuck } else { Lanes::of(good, word(circuit, 8 * line + 2 * site as usize)) };
-    let lanes = if fault.site == 0 { stuck } else { G::lanes(circuit[8 * line], pin(1), pin(2)) };
-    faulty[line] = lanes.words();
+    let own = if fault.site == 0 { stuck } else { lanes::<G>(circuit, line, pin) };
+    faulty[line] = own.words();
     simulate_from::<G>(circuit, faulty, line + 1);
 }
 

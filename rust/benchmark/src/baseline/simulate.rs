@@ -1,6 +1,6 @@
 //! Simulation with three values, and the entry of a pattern and a fault.
 use super::gates::Gates;
-use super::word;
+use super::{word, SELECTOR};
 
 #[derive(Clone, Copy)]
 pub struct Fault {
@@ -23,12 +23,19 @@ impl Fault {
     }
 }
 
+/// The value of line k, a gate, whose pins see this.
+fn value<G: Gates>(circuit: &[u8], k: usize, pin: impl Fn(u8) -> u8) -> u8 {
+    match circuit[8 * k] {
+        SELECTOR => G::selected(pin(1), pin(2), pin(3)),
+        kind => G::value(kind, pin(1), pin(2)),
+    }
+}
+
 /// Gives every line from `start` on its value; an input's line has it already.
 fn simulate_from<G: Gates>(circuit: &[u8], values: &mut [u8], start: usize) {
     for k in start..values.len() {
-        let kind = circuit[8 * k];
-        if kind != 0 {
-            values[k] = G::value(kind, values[word(circuit, 8 * k + 2)], values[word(circuit, 8 * k + 4)]);
+        if circuit[8 * k] != 0 {
+            values[k] = value::<G>(circuit, k, |site| values[word(circuit, 8 * k + 2 * site as usize)]);
         }
     }
 }
@@ -52,13 +59,10 @@ pub fn faulty_values<G: Gates>(circuit: &[u8], fault: Fault, work: &mut [u8], n:
     let (good, values) = work.split_at_mut(n);
     values.copy_from_slice(good);
     let line = fault.line;
-    let kind = circuit[8 * line];
-    let v = if kind == 0 {
+    let v = if circuit[8 * line] == 0 {
         values[line]
     } else {
-        let a = fault.seen(1, values[word(circuit, 8 * line + 2)]);
-        let b = fault.seen(2, values[word(circuit, 8 * line + 4)]);
-        G::value(kind, a, b)
+        value::<G>(circuit, line, |site| fault.seen(site, values[word(circuit, 8 * line + 2 * site as usize)]))
     };
     values[line] = fault.seen(0, v);
     simulate_from::<G>(circuit, values, line + 1);

@@ -1,6 +1,6 @@
 //! The records of a text in the bench notation.
 use super::Command;
-use crate::circuit::counted;
+use crate::circuit::{counted, is_records, NO_TEXT};
 use crate::explain::{explain, MOST_BYTES};
 use crate::files;
 use crate::out::Out;
@@ -21,7 +21,8 @@ pub const COMMAND: Command = Command {
 It says how many lines, inputs and outputs the circuit has; or `refused`, number and place, and what is wrong at which line and column of FILE.
 
 OUT is replaced as a whole when all has gone well, the report included, and else stays. It is new or a regular file that is not write-protected, or a
-link to one. A circuit with gates of three and more sources is refused; ullimaqsu narrow rewrites them.",
+link to one. A circuit with gates of three and more sources is refused; ullimaqsu narrow rewrites them. The notation has no name for a selector: a
+circuit with selectors is written as records from the start.",
     example: "ullimaqsu bench examples/bench/adder16.bench /tmp/adder16.rec",
     run,
 };
@@ -36,7 +37,8 @@ fn run(words: &Words, out: &mut Out) -> Result<(), Problem> {
         Err(refusal) => {
             out.print(&format!("refused {} {}\n", refusal.number, refusal.place))?;
             out.flush()?;
-            Err(Problem::Refused(format!("{}: {}", shown(file), explain(&text, &refusal))))
+            let says = if is_records(&text) { NO_TEXT.to_string() } else { explain(&text, &refusal) };
+            Err(Problem::Refused(format!("{}: {says}", shown(file))))
         }
     }
 }

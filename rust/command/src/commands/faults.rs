@@ -20,8 +20,8 @@ pub const COMMAND: Command = Command {
     ],
     says: "lists all faults of a circuit by name, one a line",
     more: "\
-For each line NAME in order NAME/0 and NAME/1, stuck at 0 and at 1; with --pins then NAME.1/0, NAME.1/1, NAME.2/0 and NAME.2/1, as far as it has
-these pins.
+For each line NAME in order NAME/0 and NAME/1, stuck at 0 and at 1; with --pins then NAME.1/0, NAME.1/1, NAME.2/0, NAME.2/1, NAME.3/0 and
+NAME.3/1, as far as it has these pins; pin 3 is the select of a selector.
 
 --collapse leaves out what textbooks call equivalent: a pin of an AND at 0 and its line at 0, of a NAND at 0 and its line at 1, of an OR at 1 and its
 line at 1, of a NOR at 1 and its line at 0, the pin and the line of a BUFF or NOT; and a line that one pin alone reads, and that is no output, with that

@@ -1,5 +1,6 @@
 //! A text with gates of three and more sources as one that the library reads.
 use super::Command;
+use crate::circuit::{is_records, NO_TEXT};
 use crate::files;
 use crate::narrow::narrowed;
 use crate::out::Out;
@@ -35,6 +36,7 @@ fn run(words: &Words, out: &mut Out) -> Result<(), Problem> {
     if text.len() > MOST_BYTES {
         return Err(Problem::Stopped(format!("{} has more than {} MiB", shown(file), MOST_BYTES >> 20)));
     }
-    let narrow = narrowed(&text).map_err(|says| Problem::Refused(format!("{}: {says}", shown(file))))?;
+    let narrow = if is_records(&text) { Err(NO_TEXT.to_string()) } else { narrowed(&text) };
+    let narrow = narrow.map_err(|says| Problem::Refused(format!("{}: {says}", shown(file))))?;
     write_or_print(words.place("-o", &[file])?, &narrow, out)
 }

@@ -28,7 +28,8 @@ A row for each line: its name, its kind, its sources and its value, 0, 1 or X. W
 known and differ, ? where exactly one is X. The last line then says what the fault dictionary has for this pattern and this fault.
 
 The picture has the inputs at the left, in the order of the pattern from top to bottom, the gates in columns by level, and the outputs at the
-right. A wire of 1 is thick, one of 0 is thin, one of X is dashed. The fault's place has a cross, and lines that differ are red.",
+right. A wire of 1 is thick, one of 0 is thin, one of X is dashed. The fault's place has a cross, and lines that differ are red. A selector has 0 and 1
+at its two sources, each at the one that this value of the select gives, and S at the select.",
     example: "ullimaqsu values examples/bench/c17.bench 1X110 11/1 --svg c17.svg",
     run,
 };

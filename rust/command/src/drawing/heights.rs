@@ -2,17 +2,22 @@
 use super::mean;
 use super::plan::{Plan, Thing};
 
-/// Half the distance between the two pins of a gate.
-pub const PIN: f64 = 11.0;
+/// How far the last of two pins is from the middle of its gate, and the last of three.
+const LAST_OF_TWO: f64 = 11.0;
+const LAST_OF_THREE: f64 = 15.0;
 /// Rounds from left to right and back. More change little.
 const ROUNDS: usize = 4;
 
 /// Where a pin is, seen from the middle of its gate.
 pub fn pin_height(pin: usize, pins: usize) -> f64 {
-    match (pin, pins) {
-        (0, 2) => -PIN,
-        (_, 2) => PIN,
-        _ => 0.0,
+    pin_place(pin, pins) * if pins > 2 { LAST_OF_THREE } else { LAST_OF_TWO }
+}
+
+/// The same where the first pin is at -1 and the last at 1.
+pub fn pin_place(pin: usize, pins: usize) -> f64 {
+    match pins {
+        0 | 1 => 0.0,
+        _ => (2 * pin) as f64 / (pins - 1) as f64 - 1.0,
     }
 }
 

@@ -3,11 +3,14 @@ use super::brackets::Brackets;
 use super::{is_of_a_name, word_at, Gate, Misspelled, Spelling, Statement, Stuck, Text, Word, LONGEST_NAME};
 use crate::kind::Kind;
 
-/// The kinds of gates, in the order in which they are listed. No word begins another.
+/// The kinds of gates that the notation has a word for, in the order in which they are listed. No word begins another.
 const GATES: [Kind; 8] = [Kind::Buffer, Kind::Not, Kind::And, Kind::Nand, Kind::Or, Kind::Nor, Kind::Xor, Kind::Xnor];
 
 /// What some files have for BUFF.
 const SHORT_BUFFER: &str = "BUF";
+
+/// Words for what the notation has none for: the one that the commands print, and the one that other tools have.
+const SELECTOR: [&str; 2] = [Kind::Selector.word(), "MUX"];
 
 type Read<T> = Result<T, Stuck>;
 
@@ -125,10 +128,15 @@ impl<'a> Reader<'a> {
             [before @ .., last] if !before.is_empty() => format!("{} or {last}", before.join(", ")),
             one => one.concat(),
         };
-        match word.name {
+        let mut stuck = match word.name {
             [] => self.must("after `=`", &format!("{listed}{}", self.in_capitals())),
             _ => self.must(&format!("after {word}"), &format!("the rest of {listed}{}", self.in_capitals())),
+        };
+        let whole = word_at(self.text, word.at).letters();
+        if SELECTOR.iter().any(|selector| whole.eq_ignore_ascii_case(selector)) {
+            stuck.says += "; the notation has no name for a selector, and a circuit with selectors comes as records";
         }
+        stuck
     }
 
     /// From `(` to `)`: the names between them.

@@ -63,7 +63,13 @@ pub fn example(name: &str) -> PathBuf {
     root().join("examples/bench").join(name).with_extension("bench")
 }
 
-/// All of them.
+/// A file under `examples/selector`: a circuit with selectors, which no text has.
+pub fn selectors(name: &str) -> PathBuf {
+    root().join("examples/selector").join(name).with_extension("rec")
+}
+
+/// All circuits of both.
 pub fn examples() -> Vec<PathBuf> {
-    ["c17", "decoder4", "multiplier4", "parity16", "adder16"].iter().map(|name| example(name)).collect()
+    let texts = ["c17", "decoder4", "multiplier4", "parity16", "adder16"].iter().map(|name| example(name));
+    texts.chain([selectors("circuit")]).collect()
 }

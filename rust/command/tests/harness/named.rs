@@ -2,6 +2,8 @@
 use cases::Random;
 use second::bench::placed;
 use second::{Circuit, Fault, Given, Pattern, Site};
+use std::fs;
+use std::path::Path;
 
 pub struct Named {
     pub circuit: Circuit,
@@ -9,6 +11,15 @@ pub struct Named {
 }
 
 impl Named {
+    /// Of a file that is a text, or records, which begin with an input.
+    pub fn of_file(path: &Path) -> Named {
+        let bytes = fs::read(path).expect("a circuit");
+        match bytes.first() {
+            Some(0) => Named::of_records(&bytes),
+            _ => Named::of_text(&bytes),
+        }
+    }
+
     pub fn of_text(text: &[u8]) -> Named {
         let placed = placed(text).expect("a right text");
         let mut names = vec![String::new(); placed.circuit.lines.len()];

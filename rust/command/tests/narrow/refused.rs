@@ -27,6 +27,11 @@ fn words() {
         ("y = buf(a,a)", "line 3, column 10 (byte 28): after the only source of `buf` there must be `)`, and here is `,`"),
         ("input(a,a)", "line 3, column 8 (byte 26): after the name in `input` there must be `)`, and here is `,`"),
         ("y = DFF(a)", "line 3, column 5 (byte 23): after `=` there must be BUFF, NOT, AND, NAND, OR, NOR, XOR or XNOR, and here is `D`"),
+        (
+            "y = mux(a,a,a)",
+            "line 3, column 5 (byte 23): after `=` there must be BUFF, NOT, AND, NAND, OR, NOR, XOR or XNOR, and here is `m`; \
+             the notation has no name for a selector, and a circuit with selectors comes as records",
+        ),
         ("y = nax(a)", "line 3, column 7 (byte 25): after `na` there must be the rest of NAND, and here is `x`"),
         ("y = bu(a)", "line 3, column 7 (byte 25): after `bu` there must be the rest of BUFF, and here is `(`"),
         ("y (a)", "line 3, column 3 (byte 21): after `y` there must be `=`, and here is `(`; only INPUT and OUTPUT are followed by `(`"),

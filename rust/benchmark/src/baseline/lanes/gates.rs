@@ -46,10 +46,16 @@ impl Lanes {
     fn xor(self, b: Lanes) -> Lanes {
         Lanes { ones: self.ones & b.zeros | self.zeros & b.ones, zeros: self.ones & b.ones | self.zeros & b.zeros }
     }
+
+    /// The source that the select chooses, or what both agree on.
+    pub fn selected(self, b: Lanes, select: Lanes) -> Lanes {
+        let of = |a: u64, b: u64| select.zeros & a | select.ones & b | a & b;
+        Lanes { ones: of(self.ones, b.ones), zeros: of(self.zeros, b.zeros) }
+    }
 }
 
 pub trait WordGates {
-    /// The lanes of a gate whose pins see `a` and `b`.
+    /// The lanes of a gate, but for a selector, whose pins see `a` and `b`.
     fn lanes(kind: u8, a: Lanes, b: Lanes) -> Lanes;
 }
 
