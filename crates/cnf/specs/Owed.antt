@@ -42,7 +42,7 @@ andWords y -y a -a b -b = pair -y a ++ (pair -y b ++ triple y -a -b)
 abbrev pub xorWords : ℤ → ℤ → ℤ → ℤ → ℤ → ℤ → List ℤ
 xorWords y -y a -a b -b = triple -y a b ++ (triple -y -a -b ++ (triple y -a b ++ triple y a -b))
 
--- by the kind of a gate: NOT goes with the buffer, NAND, OR and NOR go with AND, and XNOR with XOR; the selector takes as much room as these two
+-- by the kind of a gate: NOT goes with the buffer, NAND, OR and NOR go with AND, and XNOR with XOR; the selector takes as much room as XOR and XNOR
 unfoldable pub byShape : {A : Type 0} → ℕ → A → A → A → A
 byShape kind buffer and xor = choose (leb kind 2) buffer (choose (leb kind 6) and xor)
 

@@ -34,7 +34,7 @@ module _ (t : List ℕ) where
   seconds-long = length-map (secondsIn t) (numberIn t) ∙ seconds-length (wordsIn t) (endsIn t) (formsIn t) ∙ sym (gates-are t)
 
   kind-in : Formed t → (g : ℕ) → g < gatesOf (netIn t) → (1 ≤ getD (netIn t .kinds) g 0) × (getD (netIn t .kinds) g 0 < selector)
-  kind-in f g l = let n = gate-line t l in let w = gate-sources t f (n .place) (n .line .passes) .0 in rw (← n .before, kind-get (n .line)) (w .some-kind, w .last-kind)
+  kind-in f g l = let n = gate-line t l in let w = gate-sources t f (n .place) (n .line .passes) .0 in rw (← n .before, kind-get (n .line)) (w .some-kind, w .no-selector)
 
   module _ (none : refusal (nameRules t (defsIn t) (usesIn t)) ≡ Fine) where
     -- the number of a name that is defined is a gate's or an input's
@@ -57,7 +57,7 @@ module _ (t : List ℕ) where
       kinds-long = kinds-long;
       seconds-long = seconds-long;
       some-kind = λ g l. kind-in f g l .0;
-      last-kind = λ g l. kind-in f g l .1;
+      no-selector = λ g l. kind-in f g l .1;
       firsts-in = λ g l. pin-below g 1 l;
       seconds-in = λ g l. pin-below g 2 l;
       outputs-in = output-below;

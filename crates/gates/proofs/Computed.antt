@@ -1,13 +1,13 @@
 -- The laws of the gates as tests over the kinds and the three values at each pin, each computed whole.
 -- Assumes nothing.
 use mathlib.Core.Bool.{Bool, true, false, not, _&&_, _||_}
-use Prim.Native.Nat.{ℕ, _<_}
+use Prim.Native.Nat.{ℕ, suc, _<_}
 use lib.Dec.{T, ltb, leb, eqb}
 use mir.Facts.{and-yes}
 use Rattle.ground.specs.Choose.{one}
 use Rattle.ground.specs.Below.{allBelow}
 use Rattle.ground.proofs.Below.{at-below}
-use Rattle.gates.specs.Gate.{pinsOf, gateTable, selectorTable, threeOf, gateOf, atPins}
+use Rattle.gates.specs.Gate.{lastKind, pinsOf, gateTable, selectorTable, threeOf, gateOf, atPins}
 use Rattle.gates.specs.Words.{notOf, andOf, orOf, xorOf, selectOf, ruleOf}
 use Rattle.gates.specs.Boolean.{boolGate}
 use Rattle.gates.proofs.Table.{tableAt}
@@ -22,10 +22,10 @@ at-threes t h a b c ha hb hc =
 
 -- of a kind too
 abbrev pub allGates : (ℕ → ℕ → ℕ → ℕ → Bool) → Bool
-allGates t = allBelow 10 (λ k. allThrees (t k))
+allGates t = allBelow (suc lastKind) (λ k. allThrees (t k))
 
-pub at-gates : (t : ℕ → ℕ → ℕ → ℕ → Bool) → T (allGates t) → (k a b c : ℕ) → k < 10 → a < 3 → b < 3 → c < 3 → T (t k a b c)
-at-gates t h k a b c hk = at-threes (t k) (at-below 10 (λ m. allThrees (t m)) h k hk) a b c
+pub at-gates : (t : ℕ → ℕ → ℕ → ℕ → Bool) → T (allGates t) → (k a b c : ℕ) → k < suc lastKind → a < 3 → b < 3 → c < 3 → T (t k a b c)
+at-gates t h k a b c hk = at-threes (t k) (at-below (suc lastKind) (λ m. allThrees (t m)) h k hk) a b c
 
 -- ---- the tables say what the gate rule says in words
 
@@ -74,7 +74,7 @@ refine-all : T (allGates (λ k a b c. allThrees (refineTest k a b c)))
 unfolding refineTest pinsOf gateTable selectorTable
 refine-all = tt
 
-pub at-refined : (k a b c a′ b′ c′ : ℕ) → k < 10 → a < 3 → b < 3 → c < 3 → a′ < 3 → b′ < 3 → c′ < 3 → T (refineTest k a b c a′ b′ c′)
+pub at-refined : (k a b c a′ b′ c′ : ℕ) → k < suc lastKind → a < 3 → b < 3 → c < 3 → a′ < 3 → b′ < 3 → c′ < 3 → T (refineTest k a b c a′ b′ c′)
 at-refined k a b c a′ b′ c′ hk ha hb hc =
     at-threes (refineTest k a b c) (at-gates (λ k a b c. allThrees (refineTest k a b c)) refine-all k a b c hk ha hb hc) a′ b′ c′
 
@@ -92,13 +92,13 @@ unfolding allBool
 at-bool t h true = and-yes (t true) _ h .0
 at-bool t h false = and-yes (t true) _ h .1
 
-bool-all : T (allBelow 10 (λ k. allBool (λ x. allBool (λ y. allBool (λ z. boolTest k x y z)))))
+bool-all : T (allBelow (suc lastKind) (λ k. allBool (λ x. allBool (λ y. allBool (λ z. boolTest k x y z)))))
 unfolding boolTest allBool boolGate gateTable selectorTable threeOf gateOf
 bool-all = tt
 
-pub at-booleans : (k : ℕ) (x y z : Bool) → k < 10 → T (boolTest k x y z)
+pub at-booleans : (k : ℕ) (x y z : Bool) → k < suc lastKind → T (boolTest k x y z)
 at-booleans k x y z h =
     at-bool (λ z. boolTest k x y z)
     (at-bool (λ y. allBool (λ z. boolTest k x y z))
     (at-bool (λ x. allBool (λ y. allBool (λ z. boolTest k x y z)))
-    (at-below 10 (λ m. allBool (λ x. allBool (λ y. allBool (λ z. boolTest m x y z)))) bool-all k h) x) y) z
+    (at-below (suc lastKind) (λ m. allBool (λ x. allBool (λ y. allBool (λ z. boolTest m x y z)))) bool-all k h) x) y) z

@@ -3,7 +3,7 @@
 use mathlib.Core.Path.{_≡_, refl, sym, ap, _∙_}
 use mathlib.Core.Logic.{⊎-elim}
 use mathlib.Core.Bool.{Bool, true, false, not, _&&_, _||_}
-use Prim.Native.Nat.{ℕ, _≤_, _<_}
+use Prim.Native.Nat.{ℕ, suc, _≤_, _<_}
 use native.Mathlib.Omega.{arith}
 use lib.Dec.{T, leb, eqb, leb→le, ltb→lt, eqb→eq}
 use borrow.Author.Tests.{eq-eqb, ne-eqb, lt-leb, leb-true, leb-false}
@@ -57,7 +57,7 @@ gate-small k v =
     ⊎-elim
     (λ l. leb→le _ 2 (at-gates smallTest small-all k _ _ _ l (three-small (v 1)) (three-small (v 2)) (three-small (v 3))))
     (λ l. omega (arith, other k v l))
-    (either k 10)
+    (either k (suc lastKind))
 
 -- known values at its pins give a known value
 pub gate-known : (k : ℕ) (v : ℕ → ℕ) → 1 ≤ k → k ≤ lastKind → AtPins k (λ s. v s < 2) → gateOf k v < 2
@@ -93,7 +93,7 @@ gate-mono k v w h =
     (simp (pin 1 (omega arith), pin 2 (omega arith), pin 3 (omega arith)) at
     (at-refined k _ _ _ _ _ _ l (three-small (v 1)) (three-small (v 2)) (three-small (v 3)) (three-small (w 1)) (three-small (w 2)) (three-small (w 3)))))
     (λ l m. absurd (omega (arith, other k v l)))
-    (either k 10)
+    (either k (suc lastKind))
   where
     pin : (s : ℕ) → 1 ≤ s → pinRefines k s (threeOf (v s)) (threeOf (w s)) ≡ true
     pin s l = go (leb s (pinsOf k)) refl

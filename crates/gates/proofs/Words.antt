@@ -8,7 +8,7 @@ use native.Mathlib.Omega.{arith}
 use lib.Dec.{eqb, eqb→eq}
 use borrow.Author.Tests.{ne-eqb}
 use Rattle.ground.proofs.Tests.{either}
-use Rattle.gates.specs.Gate.{threeOf, gateOf, atPins}
+use Rattle.gates.specs.Gate.{lastKind, selector, threeOf, gateOf, atPins}
 use Rattle.gates.specs.Words.{notOf, andOf, orOf, xorOf, selectOf, ruleOf}
 use Rattle.gates.proofs.Values.{unknown, three-small}
 use Rattle.gates.proofs.Computed.{at-gates, wordsTest, words-all}
@@ -41,18 +41,20 @@ third-clip : (k a b c : ℕ) → ruleOf k (atPins a b (suc (suc c))) ≡ ruleOf 
 unfolding ruleOf selectOf
 third-clip k a b c = simp (not0 c, not1 c)
 
-values-clip : (k a b c : ℕ) → ruleOf k (atPins a b c) ≡ ruleOf k (atPins (threeOf a) (threeOf b) (threeOf c))
-values-clip k a b c =
+sources-clip : (k a b c : ℕ) → ruleOf k (atPins a b c) ≡ ruleOf k (atPins (threeOf a) (threeOf b) c)
+sources-clip k a b c =
     clip (λ (x : ℕ). ruleOf k (atPins x b c)) (first-clip k b c) a
     ∙ clip (λ (y : ℕ). ruleOf k (atPins (threeOf a) y c)) (second-clip k (threeOf a) c) b
-    ∙ clip (λ (z : ℕ). ruleOf k (atPins (threeOf a) (threeOf b) z)) (third-clip k (threeOf a) (threeOf b)) c
+
+values-clip : (k a b c : ℕ) → ruleOf k (atPins a b c) ≡ ruleOf k (atPins (threeOf a) (threeOf b) (threeOf c))
+values-clip k a b c = sources-clip k a b c ∙ clip (λ (z : ℕ). ruleOf k (atPins (threeOf a) (threeOf b) z)) (third-clip k (threeOf a) (threeOf b)) c
 
 clipped : (k : ℕ) (v : ℕ → ℕ) → ruleOf k v ≡ ruleOf k (atPins (threeOf (v 1)) (threeOf (v 2)) (threeOf (v 3)))
 unfolding ruleOf
 clipped k v = values-clip k (v 1) (v 2) (v 3)
 
 -- a kind without a rule
-no-rule : (k : ℕ) (v : ℕ → ℕ) → 10 ≤ k → ruleOf k v ≡ 2
+no-rule : (k : ℕ) (v : ℕ → ℕ) → suc lastKind ≤ k → ruleOf k v ≡ 2
 unfolding ruleOf
 no-rule k v h =
     simp (
@@ -74,4 +76,9 @@ in-words k v =
     ⊎-elim
     (λ l. eqb→eq _ _ (at-gates wordsTest words-all k _ _ _ l (three-small (v 1)) (three-small (v 2)) (three-small (v 3))) ∙ sym (clipped k v))
     (λ l. other k v l ∙ sym (no-rule k v l))
-    (either k 10)
+    (either k (suc lastKind))
+
+-- the selector, of sources that count as x and y
+pub by-select : (a b c : ℕ) {k x y r : ℕ} → k ≡ selector → x ≡ threeOf a → y ≡ threeOf b → r ≡ selectOf x y c → r ≡ gateOf k (atPins a b c)
+unfolding ruleOf
+by-select a b c e p q s = s ∙ rw (e, p, q) (sym (in-words selector (atPins a b c) ∙ sources-clip selector a b c))

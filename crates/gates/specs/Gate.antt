@@ -97,7 +97,8 @@ placeOf block a b = 9 * block + 3 * a + b
 abbrev pub valueIn : List ℕ → ℕ → (ℕ → ℕ) → ℕ
 valueIn values block v = getD values (placeOf block (threeOf (v 1)) (threeOf (v 2))) X
 
--- by its kind a gate goes to the table of its pins: the selector to its own, at the block of what its select sees, every other kind to its block of this one
+-- by its kind a gate goes to one of two tables: the selector to its own, at the block of what its select sees, every other kind to `values`, at the block of
+-- the kind. These are `gateTable`; what other tables would give is asked in simulate/specs/Unused.antt
 abbrev pub valueBy : List ℕ → ℕ → (ℕ → ℕ) → ℕ
 valueBy values kind v = choose (eqb kind selector) (valueIn selectorTable (threeOf (v 3)) v) (valueIn values kind v)
 

@@ -1,9 +1,7 @@
 -- What the functions of the gates owe each other; no reader of the promises needs it.
 -- Assumes nothing.
 use Prim.Native.Nat.{ℕ, zero, suc, _+_, _*_, _/_, _%_, _^_}
-use lib.Dec.{eqb}
 use lib.ListN.{getD}
-use Rattle.ground.specs.Choose.{choose}
 use Rattle.gates.specs.Gate.{X, gateTable, placeOf}
 
 -- the number with these n hexadecimal digits, the first one highest
@@ -18,7 +16,3 @@ blockOf kind = hexOf (λ p. getD gateTable (placeOf kind 0 p) X) 9
 -- the digit in this row and place, as it is shifted out of the 64 bits of such a number
 unfoldable pub digitOf : ℕ → ℕ → ℕ → ℕ
 digitOf number row place = number * 2 ^ 28 % 2 ^ 64 * 2 ^ (12 * row + 4 * place) % 2 ^ 64 / 2 ^ 60
-
--- what a selector shows by choices, where its sources show these, each 0, 1 or X
-unfoldable pub selectedOf : ℕ → ℕ → ℕ → ℕ
-selectedOf first second c = choose (eqb c 0) first (choose (eqb c 1) second (choose (eqb first second) first X))

@@ -3,13 +3,17 @@ use ground::wide;
 ghost use mathlib.Core.Path.{_≡_};
 ghost use Prim.Native.Nat.{_≤_};
 ghost use Rattle.gates.specs.Gate.{pinsOf, threeOf, gateOf, atPins};
-ghost use Rattle.gates.specs.Owed.{blockOf, digitOf, selectedOf};
+ghost use Rattle.gates.specs.Words.{selectOf};
+ghost use Rattle.gates.specs.Owed.{blockOf, digitOf};
 
 // The one kind with three pins: two sources, and at pin 3 the select line.
 pub const SELECTOR: u8 = 9;
 
 // Kinds are 0, an input, to this one.
 pub const LAST_KIND: u8 = SELECTOR;
+
+// The value of a line that is neither 0 nor 1.
+const X: u8 = 2;
 
 // How many pins a kind has.
 pub fn pins(kind: u8) -> usize
@@ -21,10 +25,10 @@ pub fn pins(kind: u8) -> usize
     if kind <= 2 {
         return 1;
     }
-    if kind == SELECTOR {
-        return 3;
+    if kind != SELECTOR {
+        return 2;
     }
-    2
+    3
 }
 
 // The table of the kinds with at most two pins. A kind has nine digits in three rows: its first pin chooses the row, its second the digit in it, each
@@ -66,10 +70,10 @@ fn digit(block: u64, row: usize, place: usize) -> u8
 }
 
 // The value of a selector whose sources show `first` and `second` and whose select sees c: where that is X, the value of both if they are the same. By
-// choices and not looked up: in the loop that all kinds share the other gates then lose less time.
+// choices and not looked up, so that the loop which all kinds share is compiled nearly as it would be without it.
 fn selected(first: usize, second: usize, c: u8) -> u8
     requires { ⌜ (first ≤ 2) × (second ≤ 2) ⌝ }
-    ensures { λ r. ⌜ r ≡ selectedOf first second c ⌝ }
+    ensures { λ r. ⌜ r ≡ selectOf first second c ⌝ }
 {
     if c == 0 {
         return first as u8;
@@ -77,10 +81,10 @@ fn selected(first: usize, second: usize, c: u8) -> u8
     if c == 1 {
         return second as u8;
     }
-    if first == second {
-        return second as u8;
+    if first != second {
+        return X;
     }
-    2
+    first as u8
 }
 
 // The value of a gate whose pins see a, b and c; a kind takes no notice of what is at a pin that it lacks.
@@ -94,7 +98,7 @@ pub fn gate(kind: u8, a: u8, b: u8, c: u8) -> u8
         return digit(block(kind), first, second);
     }
     if SELECTOR < kind {
-        return 2;
+        return X;
     }
     selected(first, second, c)
 }

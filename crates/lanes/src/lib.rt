@@ -101,7 +101,7 @@ fn core(kind: u8, a: Lanes, b: Lanes) -> Lanes
 }
 
 // The value of a gate whose pins see a, b and c, in every lane; a kind takes no notice of what is at a pin that it lacks. Every gate but the selector is
-// AND or XOR, with its pins or its result negated: a few choices, and no jump by the kind.
+// AND or XOR, with its pins or its result negated: a few choices, and no jump by the kind but the one for the selector.
 pub fn gate_lanes(kind: u8, a: Lanes, b: Lanes, c: Lanes) -> Lanes
     requires { ⌜ (1 ≤ kind) × (kind ≤ lastKind) ⌝ }
     ensures { λ r. ⌜ GateLanes kind a b c r ⌝ }

@@ -18,7 +18,7 @@ use Rattle.records.specs.Net.{Net, netSize, numberOn, netKind, netSource, recor
 use Rattle.records.proofs.Size.{record-length, records-length}
 use Rattle.records.proofs.Stands.{source-lacks}
 use Rattle.netlist.specs.Solved.{Right}
-use Rattle.netlist.proofs.Sources.{kind-last, source-inside}
+use Rattle.netlist.proofs.Sources.{kind-below, source-inside}
 
 module _ (net : Net) where
   -- byte i of the record on line k
@@ -50,7 +50,7 @@ module _ (net : Net) where
           (source 1 (omega arith)) (source 2 (omega arith)) (sym (source-lacks net k 3 (omega (arith, pins))))
         where
           pins : pinsOf (netKind net k) ≤ 2
-          pins = two-pins (netKind net k) (λ e. omega (arith, kind-last net r k l))
+          pins = two-pins (netKind net k) (λ e. omega (arith, kind-below net r k l))
 
           source : (s : ℕ) → 1 ≤ s → pairAt (le 2 (netSource net k s)) 0 ≡ netSource net k s
           source s h = read-back (netSource net k s) (omega (arith, source-inside net r k s l h))

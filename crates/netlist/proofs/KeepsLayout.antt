@@ -8,7 +8,7 @@ use Rattle.circuit.specs.Layout.{Pin, Layout}
 use Rattle.records.specs.Net.{Net, netSize, numberOn, recordsOf}
 use Rattle.records.proofs.Stands.{source-lacks}
 use Rattle.netlist.specs.Solved.{Right}
-use Rattle.netlist.proofs.Sources.{kind-last, source-lower}
+use Rattle.netlist.proofs.Sources.{kind-below, source-lower}
 use Rattle.netlist.proofs.Fields.{net-kind, net-out, net-pin}
 
 module _ (net : Net) (r : Right net) (few : netSize net ≤ 65536) (k : ℕ) (l : k < netSize net) where
@@ -20,7 +20,7 @@ module _ (net : Net) (r : Right net) (few : netSize net ≤ 65536) (k : ℕ) (l 
 
   pub net-layout : Layout (recordsOf net) k
   net-layout = record {
-    kind = rw (net-kind net k l) (omega (arith, kind-last net r k l));
+    kind = rw (net-kind net k l) (omega (arith, kind-below net r k l));
     output = rw (net-out net k l) (one-most (elem (net .outputs) (numberOn net k)));
     pin = net-pins;
   }

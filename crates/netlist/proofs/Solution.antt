@@ -33,7 +33,7 @@ module _ {A : Type 0} {gate : ℕ → (ℕ → A) → A} (own : Own gate) {net :
       let kind : kindAt (recordsOf net) k ≡ getD (net .kinds) g 0 = net-kind net k (omega arith) ∙ kind-gate net i in
       follows .at-gate k (omega arith) (gate-line net r i l)
       ∙ rw kind
-      (own (getD (net .kinds) g 0) _ _ (r .some-kind g inside) (omega (arith, r .last-kind g inside))
+      (own (getD (net .kinds) g 0) _ _ (r .some-kind g inside) (omega (arith, r .no-selector g inside))
       (λ s a b. ap value
       (net-pin net k (omega arith) r few s a (omega (arith, few-pins (getD (net .kinds) g 0)))
       ∙ source-has net k s (rw (kind-gate net i) b)
@@ -56,7 +56,7 @@ module _ {A : Type 0} {gate : ℕ → (ℕ → A) → A} (own : Own gate) {net :
         let inside = order-gate net r i l in
         rw (number-gate net i)
         (solved .equation g inside
-        ∙ own (getD (net .kinds) g 0) _ _ (r .some-kind g inside) (omega (arith, r .last-kind g inside))
+        ∙ own (getD (net .kinds) g 0) _ _ (r .some-kind g inside) (omega (arith, r .no-selector g inside))
         (λ s a b. sym (ap v (number-line net r (pinOf net g s) (pin-inside net r g s inside))) ∙ below (netLine net (pinOf net g s)) (pin-before net r i s l))
         ∙ sym (on-gate i l)))
 

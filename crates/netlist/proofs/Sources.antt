@@ -69,11 +69,11 @@ module _ (net : Net) where
 
     -- ---- on line k
 
-    pub kind-last : (k : ℕ) → k < netSize net → netKind net k < selector
-    kind-last =
+    pub kind-below : (k : ℕ) → k < netSize net → netKind net k < selector
+    kind-below =
         line-cases net (λ k. netKind net k < selector)
         (λ k l. rw (input-kind net k l) (omega arith))
-        (λ i l. rw (kind-gate i) (r .last-kind (getD (placedOf net) i 0) (order-gate net r i l)))
+        (λ i l. rw (kind-gate i) (r .no-selector (getD (placedOf net) i 0) (order-gate net r i l)))
 
     pub source-lower : (k s : ℕ) → k < netSize net → 1 ≤ s → s ≤ pinsOf (netKind net k) → netSource net k s < k
     unfolding pinsOf

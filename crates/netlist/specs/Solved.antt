@@ -19,7 +19,7 @@ pub record Right (net : Net) : Type 0 where
   pub kinds-long : length (net .kinds) ≡ gatesOf net
   pub seconds-long : length (net .seconds) ≡ gatesOf net
   pub some-kind : (g : ℕ) → g < gatesOf net → 1 ≤ getD (net .kinds) g 0
-  pub last-kind : (g : ℕ) → g < gatesOf net → getD (net .kinds) g 0 < selector
+  pub no-selector : (g : ℕ) → g < gatesOf net → getD (net .kinds) g 0 < selector
   pub firsts-in : (g : ℕ) → g < gatesOf net → getD (net .firsts) g 0 < netSize net
   pub seconds-in : (g : ℕ) → g < gatesOf net → getD (net .seconds) g 0 < netSize net
   pub outputs-in : (i : ℕ) → i < length (net .outputs) → getD (net .outputs) i 0 < netSize net

@@ -87,7 +87,7 @@ gate-from (nothing e) l = absurd (omega arith)
 gate-from (input e w) l = absurd (omega arith)
 gate-from (output e w) l = absurd (omega arith)
 gate-from (gate n e m) l = (
-  record { some-kind = m .some; last-kind = no-selector _; words = e ∙ ap (λ (i : ℕ). 2 + i) (sym (m .pins)) },
+  record { some-kind = m .some; no-selector = no-selector _; words = e ∙ ap (λ (i : ℕ). 2 + i) (sym (m .pins)) },
   sym e,
 )
 

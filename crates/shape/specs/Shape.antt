@@ -28,5 +28,5 @@ wordOn t k j = wordAt t (wordIn (wordsIn t) (endsIn t) k j)
 -- line k has a name, a kind of gates that is no selector, and as many sources as the gates' rule has pins for it
 pub record GateLine (t : List ℕ) (k : ℕ) : Type 0 where
   pub some-kind : 1 ≤ kindOf (wordOn t k 1)
-  pub last-kind : kindOf (wordOn t k 1) < selector
+  pub no-selector : kindOf (wordOn t k 1) < selector
   pub words : sizeAt (endsIn t) k ≡ 2 + pinsOf (kindOf (wordOn t k 1))

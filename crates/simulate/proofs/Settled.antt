@@ -4,7 +4,7 @@ use mathlib.Core.Path.{_≡_, refl, sym, ap, _∙_}
 use mathlib.Core.Logic.{⊎-elim}
 use mathlib.Core.Bool.{Bool, true, false}
 use mathlib.Core.List.{List}
-use Prim.Native.Nat.{ℕ, _+_, _≤_, _<_}
+use Prim.Native.Nat.{ℕ, suc, _+_, _≤_, _<_}
 use native.Mathlib.Numerals.{add-one}
 use native.Mathlib.Omega.{arith}
 use lib.ListN.{length, getD, take, set, length-set}
@@ -39,7 +39,7 @@ gate-take f c vs k low =
     ⊎-elim
     (λ h. gate-same (kindAt c k) _ _ (λ s l m. ap (f k s) (sym (getD-take k vs (pinAt c k s) 0 (low (omega arith) s l (omega (arith, few-pins (kindAt c k))))))))
     (λ h. other (kindAt c k) _ h ∙ sym (other (kindAt c k) _ h))
-    (either (kindAt c k) 10)
+    (either (kindAt c k) (suc lastKind))
 
 -- nor does a line's value: it is that of the definition, where the lines below it are settled
 line-settled : {f : Forcing} {c p vs : List ℕ} {k : ℕ}

@@ -2,14 +2,14 @@
 -- Assumes nothing.
 use mathlib.Core.Path.{_≡_}
 use mathlib.Core.Logic.{_⊎_}
-use mathlib.Core.List.{List, [], _∷_, map}
+use mathlib.Core.List.{List, [], _∷_, _++_, map}
 use Prim.Native.Nat.{ℕ, suc}
 use Prim.Native.Char.{code}
 use Prim.Native.String.{String, [] as ε, _∷_ as _then_}
 use lib.Dec.{eqb}
 use Rattle.ground.specs.Choose.{choose}
 use Rattle.ground.specs.Lists.{table}
-use Rattle.gates.specs.Gate.{selector, pinsOf}
+use Rattle.gates.specs.Gate.{lastKind, selector, pinsOf}
 use Rattle.words.specs.Words.{same}
 
 -- a word as bytes
@@ -66,15 +66,12 @@ kindIn (k ∷ ks) w = choose (same w (k .word)) (k .number) (kindIn ks w)
 unfoldable pub kindOf : List ℕ → ℕ
 kindOf w = kindIn kinds w
 
--- every kind of gates but the selector, which is the last
-abbrev pub namedKinds : List ℕ
-namedKinds = table suc 8
-
--- the table has each of these once, with as many sources as the gates' rule has pins for it, and no word twice; and no word at all names the selector
+-- the kinds of gates are those of the table, each once, and the selector; in the table each has as many sources as the gates' rule has pins for it, and no word
+-- stands twice; and no word at all names the selector
 pub record EachKind : Type 0 where
-  pub numbers : map (λ k. k .number) kinds ≡ namedKinds
-  pub sources : map (λ k. k .pins) kinds ≡ map pinsOf namedKinds
-  pub words : map (λ k. kindOf (k .word)) kinds ≡ namedKinds
+  pub numbers : map (λ k. k .number) kinds ++ (selector ∷ []) ≡ table suc lastKind
+  pub sources : map (λ k. k .pins) kinds ≡ map (λ k. pinsOf (k .number)) kinds
+  pub words : map (λ k. kindOf (k .word)) kinds ≡ map (λ k. k .number) kinds
   pub unnamed : (w : List ℕ) → kindOf w ≡ selector → ⊥
 
 -- w is one of these words

@@ -1,10 +1,11 @@
--- `gates::gate` meets its contract: a kind's digit is the value of the kinds' table, what is chosen that of the selector's own.
+-- `gates::gate` meets its contract: a kind's digit is the value of its table, and a selector goes by the rule in words.
 -- Assumes nothing.
 use mathlib.Core.Path.{sym, _∙_}
 use native.Mathlib.Omega.{arith}
 use borrow.Author.Needs.{needs}
-use Rattle.gates.proofs.Table.{by-kind, by-select, other}
-use Rattle.gates.proofs.Digits.{looked-up, chosen}
+use Rattle.gates.proofs.Table.{by-kind, other}
+use Rattle.gates.proofs.Words.{by-select}
+use Rattle.gates.proofs.Digits.{looked-up}
 use Rattle.gates.proofs.gate.Statement.{statement}
 use Rattle.gates.proofs.gate.Tie as tie
 
@@ -22,8 +23,7 @@ returns-3 : tie.Need-returns-3
 returns-3 c =
     let last = c .before in
     let second = last .before .before in
-    chosen _ _ _ (second .before .three .ensures .0) (second .three2 .ensures .0) (c .selected .ensures)
-    ∙ sym (by-select _ _ (omega (arith, last .before .if1 .left, last .if2 .left)))
+    by-select _ _ _ (omega (arith, last .before .if1 .left, last .if2 .left)) (second .before .three .ensures .0) (second .three2 .ensures .0) (c .selected .ensures)
 
 pub gate-spec : {M : Type 1} → statement M
 gate-spec =

@@ -1,27 +1,48 @@
 -- `gates::selected` meets its contract: one answer for each branch.
 -- Assumes nothing.
-use mathlib.Core.Path.{sym}
+use mathlib.Core.Path.{_≡_, refl, sym}
+use mathlib.Core.Bool.{_&&_, and-false}
+use Prim.Native.Nat.{ℕ, zero, suc, _≤_}
+use native.Mathlib.Omega.{arith}
+use lib.Dec.{eqb}
 use borrow.Author.Tests.{eq-eqb, ne-eqb}
 use borrow.Author.Needs.{needs}
-use Rattle.gates.specs.Owed.{selectedOf}
+use Rattle.ground.specs.Choose.{choose}
+use Rattle.gates.specs.Gate.{known, X, threeOf}
+use Rattle.gates.specs.Words.{selectOf}
 use Rattle.gates.proofs.selected.Statement.{statement}
 use Rattle.gates.proofs.selected.Tie as tie
 
+-- what is 0, 1 or X already counts as itself
+three-own : (a : ℕ) → a ≤ 2 → a ≡ threeOf a
+unfolding threeOf
+three-own zero h = refl
+three-own (suc zero) h = refl
+three-own (suc (suc zero)) h = refl
+three-own (suc (suc (suc a))) h = absurd (omega arith)
+
+-- two that are the same are that value if it is known, else X
+same-own : (a : ℕ) → a ≤ 2 → a ≡ choose (known a && (known a && eqb a a)) a X
+same-own zero h = refl
+same-own (suc zero) h = refl
+same-own (suc (suc zero)) h = refl
+same-own (suc (suc (suc a))) h = absurd (omega arith)
+
 returns : tie.Need-returns
-unfolding selectedOf
-returns c = simp (eq-eqb _ _ (c .if1 .taken))
+unfolding selectOf
+returns c = simp (eq-eqb _ _ (c .if1 .taken)) (three-own _ (c .before .pre .0))
 
 returns-2 : tie.Need-returns-2
-unfolding selectedOf
-returns-2 c = simp (ne-eqb _ _ (c .before .if1 .left), eq-eqb _ _ (c .if2 .taken))
+unfolding selectOf
+returns-2 c = simp (ne-eqb _ _ (c .before .if1 .left), eq-eqb _ _ (c .if2 .taken)) (three-own _ (c .before .before .pre .1))
 
 returns-3 : tie.Need-returns-3
-unfolding selectedOf
-returns-3 c = simp (ne-eqb _ _ (c .before .before .if1 .left), ne-eqb _ _ (c .before .if2 .left), eq-eqb _ _ (c .if3 .taken)) (sym (c .if3 .taken))
+unfolding selectOf
+returns-3 c = simp (ne-eqb _ _ (c .before .before .if1 .left), ne-eqb _ _ (c .before .if2 .left), ne-eqb _ _ (c .if3 .taken), and-false)
 
 returns-4 : tie.Need-returns-4
-unfolding selectedOf
-returns-4 c = simp (ne-eqb _ _ (c .before .before .if1 .left), ne-eqb _ _ (c .before .if2 .left), ne-eqb _ _ (c .if3 .left))
+unfolding selectOf
+returns-4 c = simp (ne-eqb _ _ (c .before .before .if1 .left), ne-eqb _ _ (c .before .if2 .left)) (rw (← c .if3 .left) (same-own _ (c .before .before .before .pre .0)))
 
 pub selected-spec : {M : Type 1} → statement M
-selected-spec = tie.close (tie.spec (λ c. search needs) returns (λ c. search needs) returns-2 (λ c. search needs) returns-3 returns-4)
+selected-spec = tie.close (tie.spec (λ c. search needs) returns (λ c. search needs) returns-2 returns-3 (λ c. search needs) returns-4)
