@@ -1,9 +1,10 @@
 //! What the written clauses mean: over all assignments on tiny circuits, and to the SAT solvers minisat, cadical and picosat, whose answers
-//! are held to the search's verdict and whose models to the simulation. A solver that is missing fails the test; `.ci/solvers` installs it.
+//! are held to the search's verdict and to all vectors, and whose models to the simulation. A solver that is missing fails the test;
+//! `.ci/solvers` installs it.
 use cases::circuits::{circuit, selectors};
 use cases::faults::{every, some};
 use cases::selects::{self, EVERY};
-use cases::{drawn, Random, Tally};
+use cases::{drawn, marked, Random, Tally};
 use second::{Circuit, Entry, Fault, Pattern};
 use std::collections::HashSet;
 use std::io::Write;
@@ -55,7 +56,8 @@ fn vectors(inputs: usize) -> impl Iterator<Item = Pattern> {
     (0..1 << inputs).map(move |bits: usize| (0..inputs).map(|input| Some(bits >> input & 1 == 1)).collect())
 }
 
-/// On tiny circuits with all their faults, exactly those assignments satisfy the clauses that belong to a detecting vector.
+/// On tiny circuits and the marked ones with a selector, with all their faults, exactly those assignments satisfy the clauses that belong to a
+/// detecting vector.
 #[test]
 fn all_assignments() {
     let tiny = |random: &mut Random| {
@@ -64,7 +66,7 @@ fn all_assignments() {
         circuit(random, lines, inputs)
     };
     let (mut satisfied, mut unsatisfied, mut tally) = (0, 0, Tally::default());
-    for bytes in drawn(1, 150, tiny) {
+    for bytes in drawn(1, 150, tiny).chain(marked::selectors().map(|marked| marked.circuit)) {
         let circuit = Circuit::read(&bytes).expect("sound");
         for record in every(&bytes) {
             let fault = Fault::read_all(&circuit, &record, 1).expect("sound")[0];

@@ -5,7 +5,7 @@ use crate::circuits::selectors;
 pub type Sort = &'static str;
 
 /// How selectors are wired.
-pub const WIRED: [Sort; 4] = ["selector", "select is a source", "one line for both sources", "one line for all three"];
+pub const WIRED: [Sort; 5] = ["selector", "three lines", "select is a source", "one line for both sources", "one line for all three"];
 
 /// What is stuck: the select pin, or the line that it reads.
 pub const STUCK: [Sort; 4] = ["select pin at 0", "select pin at 1", "select line at 0", "select line at 1"];
@@ -25,7 +25,7 @@ pub fn all(circuit: &[u8], faults: &[u8], values: &[u8]) -> Vec<Sort> {
 pub fn wired(circuit: &[u8]) -> Vec<Sort> {
     let sorts = |[first, second, select]: [usize; 3]| {
         let is_source = select == first || select == second;
-        let hold = [true, is_source, first == second, first == second && is_source];
+        let hold = [true, first != second && !is_source, is_source, first == second, first == second && is_source];
         WIRED.into_iter().zip(hold).filter(|(_, holds)| *holds).map(|(sort, _)| sort)
     };
     selectors(circuit).flat_map(sorts).collect()
