@@ -96,6 +96,34 @@ fn records_are_no_text() {
     }
 }
 
+/// Records with selectors are made of no text: beside one they stay, behind a link too, unless they are named.
+#[test]
+fn records_of_no_text() {
+    let directory = Directory::new("selectors beside a text");
+    let (file, with_selectors) = (directory.write("text.bench", c17()), fs::read(selectors("circuit")).expect("records"));
+    let beside = directory.write("circuit.rec", &with_selectors);
+    let stays = || {
+        stopped(bench(&[&file]), &format!("{} has selectors, which no text has: say where the records go", beside.display()));
+        assert_eq!(fs::read(&beside).expect("records"), with_selectors);
+    };
+    stays();
+    let elsewhere = directory.0.join("elsewhere");
+    fs::rename(&beside, &elsewhere).and_then(|()| symlink("elsewhere", &beside)).expect("a link");
+    stays();
+    assert_eq!(bench(&[&file, &beside]), (Some(0), COUNTS.to_string(), String::new()));
+    assert!(has_records(&elsewhere));
+
+    // others are replaced: without selectors, one that a text has made among them, and those that are not accepted
+    let without = ["examples/a/circuit.rec", "examples/c17/circuit.rec"].map(|path| fs::read(root().join(path)).expect("records"));
+    let not_accepted = [&with_selectors[1..], &[&with_selectors[..], &[0; 8 * 2048]].concat(), &[9; 8]].map(<[u8]>::to_vec);
+    for records in without.into_iter().chain(not_accepted) {
+        fs::write(&beside, &records).expect("records");
+        assert_eq!(bench(&[&file]), (Some(0), COUNTS.to_string(), String::new()), "{records:?}");
+        assert!(has_records(&beside));
+    }
+    assert_eq!(directory.names(), ["circuit.rec", "elsewhere", "text.bench"]);
+}
+
 /// What can't be read is named, and nothing is written.
 #[test]
 fn texts_that_cannot_be_read() {
