@@ -5,7 +5,7 @@
 mod defects;
 mod harness;
 
-use cases::circuits::{circuit, example_a, record, selector, small, AND, BUFFER, INPUT, NOT, SELECTOR, XNOR};
+use cases::circuits::{circuit, example_a, record, selecting, selector, small, BUFFER, INPUT, NOT, SELECTOR, XNOR};
 use cases::selects::{self, Sort, WIRED};
 use cases::{damage, drawn, Random};
 use defects::defects;
@@ -319,9 +319,8 @@ fn wrong_programs() {
 
 #[test]
 fn two_defects_at_once() {
-    let circuit = [record(INPUT, false, 0, 0), record(INPUT, true, 0, 0), record(AND, true, 0, 1)].concat();
-    let defects: [Defect<Check>; 9] = defects![];
-    first_defect_is_told(&Check { circuit, answer: vec![7; 32] }, &defects);
+    let defects: [Defect<Check>; 10] = defects![];
+    first_defect_is_told(&Check { circuit: selecting(), answer: vec![7; 32] }, &defects);
 }
 
 /// The safe calls, on the marked examples and beside the second program.

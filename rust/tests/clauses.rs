@@ -5,7 +5,7 @@ mod defects;
 mod exchanged;
 mod harness;
 
-use cases::circuits::{circuit, record, small, AND, INPUT, NOT, XOR};
+use cases::circuits::{circuit, record, selecting, small, INPUT, NOT, XOR};
 use cases::faults::{self, some};
 use cases::selects::{self, Sort, EVERY};
 use cases::{damage, drawn, Random};
@@ -96,13 +96,16 @@ fn boundaries_and_largest() {
 }
 
 /// What can be wrong, in the order in which it is looked for.
-const DEFECTS: [Defect<Clauses>; 12] =
-    defects![(6, |case| case.fault.extend([0; 8])), (7, |case| case.fault[3] = 2), (11, |case| case.words.clear()),];
+const DEFECTS: [Defect<Clauses>; 14] = defects![
+    (6, |case| case.fault.extend([0; 8])),
+    (7, |case| case.fault[..3].copy_from_slice(&[1, 0, 3])),
+    (7, |case| case.fault[3] = 2),
+    (11, |case| case.words.clear()),
+];
 
 #[test]
 fn two_defects_at_once() {
-    let circuit = [record(INPUT, false, 0, 0), record(INPUT, true, 0, 0), record(AND, true, 0, 1)].concat();
-    first_defect_is_told(&lend(&mut Random::new(5), circuit), &DEFECTS);
+    first_defect_is_told(&lend(&mut Random::new(5), selecting()), &DEFECTS);
 }
 
 /// Another list of clauses, and otherwise what the second program says.

@@ -7,7 +7,7 @@ mod harness;
 #[path = "wrong/rules.rs"]
 mod rules;
 
-use cases::circuits::{record, sources, AND, INPUT};
+use cases::circuits::{record, selecting, sources, AND, INPUT};
 use cases::faults::{self, inputs};
 use cases::files::{boundaries, example_a, largest, small};
 use cases::selects::{self, Sort, EVERY};
@@ -76,8 +76,9 @@ fn boundaries_and_largest() {
 }
 
 /// What can be wrong, in the order in which it is looked for.
-const DEFECTS: [Defect<Dictionary>; 15] = defects![
+const DEFECTS: [Defect<Dictionary>; 17] = defects![
     (6, |case| case.faults.push(0)),
+    (7, |case| case.faults[8..11].copy_from_slice(&[1, 0, 3])),
     (7, |case| case.faults[11] = 2),
     (8, |case| case.patterns.push(0)),
     (9, |case| case.patterns[3] = 3),
@@ -87,9 +88,8 @@ const DEFECTS: [Defect<Dictionary>; 15] = defects![
 
 #[test]
 fn two_defects_at_once() {
-    let circuit = [record(INPUT, false, 0, 0), record(INPUT, true, 0, 0), record(AND, true, 0, 1)].concat();
     let mut random = Random::new(5);
-    let files = Files::some(&mut random, circuit, 2, 3);
+    let files = Files::some(&mut random, selecting(), 2, 3);
     first_defect_is_told(&lend(&mut random, files), &DEFECTS);
 }
 

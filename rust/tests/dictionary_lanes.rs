@@ -201,8 +201,9 @@ fn sizes_of_lent_memory() {
 }
 
 /// What can be wrong, in the order in which it is looked for, sizes by one too many.
-const DEFECTS: [Defect<DictionaryLanes>; 15] = defects![
+const DEFECTS: [Defect<DictionaryLanes>; 17] = defects![
     (6, |case| case.faults.push(0)),
+    (7, |case| case.faults[8..11].copy_from_slice(&[1, 0, 3])),
     (7, |case| case.faults[11] = 2),
     (8, |case| case.patterns.push(0)),
     (9, |case| case.patterns[3] = 3),

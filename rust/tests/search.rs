@@ -10,7 +10,7 @@ mod rules;
 mod wrong;
 
 use budgets::budget;
-use cases::circuits::{self, always_0, circuit, parity, record, AND, INPUT};
+use cases::circuits::{self, always_0, circuit, parity, selecting};
 use cases::faults::{self, some};
 use cases::selects::{self, Sort, EVERY};
 use cases::{damage, drawn, Random, Tally};
@@ -154,8 +154,9 @@ fn verdicts_and_all_vectors() {
 }
 
 /// What can be wrong, in the order in which it is looked for.
-const DEFECTS: [Defect<Search>; 13] = defects![
+const DEFECTS: [Defect<Search>; 15] = defects![
     (6, |case| case.fault.extend([0; 8])),
+    (7, |case| case.fault[..3].copy_from_slice(&[1, 0, 3])),
     (7, |case| case.fault[3] = 2),
     (10, |case| case.test.push(0)),
     (10, |case| case.work.clear()),
@@ -163,8 +164,7 @@ const DEFECTS: [Defect<Search>; 13] = defects![
 
 #[test]
 fn two_defects_at_once() {
-    let circuit = [record(INPUT, false, 0, 0), record(INPUT, true, 0, 0), record(AND, true, 0, 1)].concat();
-    first_defect_is_told(&lend(&mut Random::new(6), circuit), &DEFECTS);
+    first_defect_is_told(&lend(&mut Random::new(6), selecting()), &DEFECTS);
 }
 
 #[test]

@@ -238,8 +238,9 @@ fn no_budget_at_all() {
 }
 
 /// What can be wrong, in the order in which it is looked for, sizes by one too many.
-const DEFECTS: [Defect<SearchAll>; 16] = defects![
+const DEFECTS: [Defect<SearchAll>; 18] = defects![
     (6, |case| case.faults.push(0)),
+    (7, |case| case.faults[8..11].copy_from_slice(&[1, 0, 3])),
     (7, |case| case.faults[11] = 2),
     (10, |case| case.budgets.push(0)),
     (10, |case| case.outcomes.push(0)),

@@ -111,6 +111,11 @@ pub fn always_0() -> Vec<u8> {
     [record(INPUT, false, 0, 0), record(NOT, false, 0, 0), record(AND, true, 0, 1)].concat()
 }
 
+/// Lines 0, 1 inputs; 2 = selector of 0 and 1 by 0; lines 1 and 2 outputs.
+pub fn selecting() -> Vec<u8> {
+    [record(INPUT, false, 0, 0), record(INPUT, true, 0, 0), selector(true, 0, 1, 0)].concat()
+}
+
 /// The parity of 64 inputs: nothing is known at its output, line 126, before all of them are.
 pub fn parity() -> Vec<u8> {
     let mut circuit = record(INPUT, false, 0, 0).repeat(64);
