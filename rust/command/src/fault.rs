@@ -24,11 +24,25 @@ impl Fault {
         [low, high, self.site as u8, u8::from(self.value), 0, 0, 0, 0]
     }
 
-    /// The fault of a record, if the circuit has it.
-    fn of_record(record: &[u8], circuit: &Circuit) -> Option<Fault> {
-        let &[low, high, site, value @ (0 | 1), 0, 0, 0, 0] = record else { return None };
-        let fault = Fault { line: usize::from(u16::from_le_bytes([low, high])), site: usize::from(site), value: value == 1 };
-        (fault.line < circuit.size() && fault.site <= circuit.kind(fault.line).pins()).then_some(fault)
+    /// The fault of a record, or what is wrong with it: the first that is, in the order in which the library looks.
+    fn of_record(record: &[u8], circuit: &Circuit) -> Result<Fault, String> {
+        let (line, last) = (usize::from(u16::from_le_bytes([record[0], record[1]])), circuit.size() - 1);
+        if line > last {
+            return Err(format!("its line number is {line}, and the last is {last}"));
+        }
+        let site = match record[2] {
+            0 => 0,
+            pin => read_pin(&pin.to_string(), line, circuit)?,
+        };
+        let value = match record[3] {
+            0 => false,
+            1 => true,
+            other => return Err(format!("its stuck value is {other}, which is neither 0 nor 1")),
+        };
+        match record[4..] {
+            [0, 0, 0, 0] => Ok(Fault { line, site, value }),
+            _ => Err("its bytes 4 to 7 are not all 0".to_string()),
+        }
     }
 
     /// As a user writes it: `G9/0`, or `G9.1/0` at its first pin.
@@ -86,7 +100,8 @@ fn of_records(bytes: &[u8], circuit: &Circuit) -> Result<Vec<Fault>, String> {
     if !bytes.len().is_multiple_of(8) {
         return Err(format!("records of faults have 8 bytes each, and {} bytes are no multiple of that", bytes.len()));
     }
-    let one = |(place, record)| Fault::of_record(record, circuit).ok_or_else(|| Refusal::new(7, place).to_string());
+    let refused = |place, says| format!("{}: {says}", Refusal::new(7, place));
+    let one = |(place, record)| Fault::of_record(record, circuit).map_err(|says| refused(place, says));
     (0..).zip(bytes.chunks_exact(8)).map(one).collect()
 }
 

@@ -84,19 +84,37 @@ fn long_words() {
     assert!(began.elapsed().as_secs_f64() < 5.0, "{:?}", began.elapsed());
 }
 
+/// What is said of a record of this number.
+fn refused_record(number: usize, says: &str) -> String {
+    format!(": refusal 7: a fault record breaks its layout or names no line (record {number}): {says}")
+}
+
+/// Of a record the first thing that is wrong is told, whatever follows.
 #[test]
 fn records_of_faults() {
     let lists = Lists::new("records of faults");
     let fine = [9, 0, 0, 0, 0, 0, 0, 0];
-    for (at, byte) in [(0, 11), (1, 1), (2, 3), (3, 2), (4, 1), (7, 255)] {
+    let last = "its bytes 4 to 7 are not all 0";
+    let cases = [
+        (0, 11, "its line number is 11, and the last is 10"),
+        (1, 1, "its line number is 265, and the last is 10"),
+        (2, 3, "`22` has no pin `3`: it is NAND with pins 1 and 2"),
+        (3, 2, "its stuck value is 2, which is neither 0 nor 1"),
+        (4, 1, last),
+        (5, 1, last),
+        (6, 1, last),
+        (7, 255, last),
+    ];
+    for (at, byte, says) in cases {
         let mut wrong = fine;
         wrong[at] = byte;
-        let says = ": refusal 7: a fault record breaks its layout or names no line (record 1)";
-        assert_eq!(lists.with("faults", [fine, wrong].concat()), lists.about("faults", says), "byte {at}");
+        let says = lists.about("faults", &refused_record(1, says));
+        assert_eq!(lists.with("faults", [fine, wrong].concat()), says, "byte {at}");
+        wrong[(at + 1).max(2)..].fill(255);
+        assert_eq!(lists.with("faults", [fine, wrong, [255; 8]].concat()), says, "byte {at} and all that follow");
     }
-    // an input has no pins
-    let says = ": refusal 7: a fault record breaks its layout or names no line (record 0)";
-    assert_eq!(lists.with("faults", [4, 0, 1, 0, 0, 0, 0, 0]), lists.about("faults", says));
+    let no_pins = refused_record(0, "`7` has no pin `1`: it is INPUT with no pins");
+    assert_eq!(lists.with("faults", [4, 0, 1, 0, 0, 0, 0, 0]), lists.about("faults", &no_pins));
     let says = ": records of faults have 8 bytes each, and 9 bytes are no multiple of that";
     assert_eq!(lists.with("faults", [&fine[..], &[0]].concat()), lists.about("faults", says));
 }
@@ -123,10 +141,13 @@ fn selects() {
         let list = directory.write("list", format!("8/0\n{word}\n"));
         assert_eq!(ullimaqsu(&words(&list)), refused(&format!("{}: line 2, column 1: {says}", list.display())));
     }
-    for (line, site) in [(8, 4), (8, 255), (5, 3)] {
+    for (line, site, says) in [
+        (8, 4, "`8` has no pin `4`: it is SELECTOR with pins 1 to 3"),
+        (8, 255, "`8` has no pin `255`: it is SELECTOR with pins 1 to 3"),
+        (5, 3, "`5` has no pin `3`: it is INPUT with no pins"),
+    ] {
         let records = directory.write("records", [line, 0, site, 0, 0, 0, 0, 0]);
-        let says = "refusal 7: a fault record breaks its layout or names no line (record 0)";
-        assert_eq!(ullimaqsu(&words(&records)), refused(&format!("{}: {says}", records.display())));
+        assert_eq!(ullimaqsu(&words(&records)), refused(&format!("{}{}", records.display(), refused_record(0, says))));
     }
 }
 
