@@ -94,7 +94,7 @@ impl Circuit {
 }
 
 /// Accepted records begin with a 0: their first line is an input. Records whose first line is a gate are told as such too: no right text begins
-/// with a byte below 9, nor has one after a 9, which is a tab and the kind of a selector.
+/// with a byte below 9, nor with a 9, which is a tab and the kind of a selector, and then one below 9.
 pub fn is_records(bytes: &[u8]) -> bool {
     matches!(bytes, [0..b'\t', ..] | [b'\t', 0..b'\t', ..])
 }
