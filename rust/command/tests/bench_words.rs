@@ -88,7 +88,7 @@ fn hint_at(text: &[u8], place: usize, listed: &[u8]) -> &'static str {
 /// Whether it begins with a word for a selector.
 fn is_selector(text: &[u8]) -> bool {
     let word = text.iter().take_while(|byte| byte.is_ascii_alphanumeric() || **byte == b'_');
-    ["selector", "mux"].contains(&word.map(|&byte| char::from(byte).to_ascii_lowercase()).collect::<String>().as_str())
+    ["selector", "sel", "mux"].contains(&word.map(|&byte| char::from(byte).to_ascii_lowercase()).collect::<String>().as_str())
 }
 
 /// Refusal 15: the name, and whether it is used or defined there.
@@ -253,13 +253,14 @@ fn selectors() {
     let directory = Directory::new("selectors");
     let text = |statement: &str| format!("INPUT(a)\nOUTPUT(a)\n{statement}").into_bytes();
     let says = "after `=` there must be BUFF, NOT, AND, NAND, OR, NOR, XOR or XNOR, in capitals, and here is";
-    for (statement, letter) in [("y=SELECTOR(a,a,a)", 'S'), ("y = selector", 's'), ("y=\tMUX(a,a,a)", 'M'), ("y=Mux#", 'M')] {
+    let selectors = ["y=SELECTOR(a,a,a)", "y = selector", "y=SEL(a,a,a)", "y=sel ", "y=\tMUX(a,a,a)", "y=Mux#"];
+    for (statement, letter) in selectors.into_iter().zip("SsSsMM".chars()) {
         assert_eq!(words(&directory, &text(statement)), format!("{says} `{letter}`; {NO_SELECTOR}"));
     }
-    for other in ["y=SELECT(a,a,a)", "y=MUX2(a,a,a)", "y=_MUX(a)", "y=NMUX(a)", "MUX(a)"] {
+    for other in ["y=SELECT(a,a,a)", "y=SE(a,a,a)", "y=MUX2(a,a,a)", "y=_MUX(a)", "y=NMUX(a)", "MUX(a)"] {
         assert!(!words(&directory, &text(other)).contains("selector"), "{other}");
     }
-    let texts = ["SELECTOR=NOT(a)", "MUX=SELECTOR(a)", "a1=SELECTOR", "a1=OR(MUX,a)", "a1=ORMUX(a)"].map(text);
+    let texts = ["SELECTOR=NOT(a)", "SEL=NOT(a)", "MUX=SELECTOR(a)", "a1=SELECTOR", "a1=SEL", "a1=OR(MUX,a)", "a1=ORMUX(a)"].map(text);
     assert_eq!(check_all("selectors", texts.to_vec()), [0, 14, 15]);
 }
 

@@ -9,8 +9,8 @@ const GATES: [Kind; 8] = [Kind::Buffer, Kind::Not, Kind::And, Kind::Nand, Kind::
 /// What some files have for BUFF.
 const SHORT_BUFFER: &str = "BUF";
 
-/// Words for what the notation has none for: the one that the commands print, and the one that other tools have.
-const SELECTOR: [&str; 2] = [Kind::Selector.word(), "MUX"];
+/// Words for what the notation has none for: the one that the commands print, the one in pictures, and the one that other tools have.
+const SELECTOR: [&str; 3] = [Kind::Selector.word(), "SEL", "MUX"];
 
 type Read<T> = Result<T, Stuck>;
 
