@@ -44,7 +44,7 @@ impl Kind {
         KINDS[self as usize].1
     }
 
-    /// How many sources it has.
+    /// How many pins it has.
     pub fn pins(self) -> usize {
         match self {
             Input => 0,

@@ -24,8 +24,9 @@ pub const COMMAND: Command = Command {
     ],
     says: "shows the value of every line under a pattern, and with a fault the faulty value beside it",
     more: "\
-A row for each line: its name, its kind, its sources and its value, 0, 1 or X. With a fault the faulty value follows, and a mark: * where both are
-known and differ, ? where exactly one is X. The last line then says what the fault dictionary has for this pattern and this fault.
+A row for each line: its name, its kind, its sources and its value, 0, 1 or X. Of a selector the third of the sources is its select. With a fault the
+faulty value follows, and a mark: * where both are known and differ, ? where exactly one is X. The last line then says what the fault dictionary has
+for this pattern and this fault.
 
 The picture has the inputs at the left, in the order of the pattern from top to bottom, the gates in columns by level, and the outputs at the
 right. A wire of 1 is thick, one of 0 is thin, one of X is dashed. The fault's place has a cross, and lines that differ are red. A selector has 0 and 1
