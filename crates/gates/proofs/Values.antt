@@ -2,7 +2,7 @@
 -- Assumes nothing.
 use mathlib.Core.Path.{_≡_, refl}
 use mathlib.Core.Bool.{false}
-use Prim.Native.Nat.{ℕ, zero, suc, _<_}
+use Prim.Native.Nat.{ℕ, zero, suc, _≤_, _<_}
 use native.Mathlib.Omega.{arith}
 use borrow.Author.Tests.{le-ltb}
 use Rattle.gates.specs.Gate.{known, threeOf, Refines}
@@ -15,6 +15,14 @@ unfolding threeOf
 three-small zero = omega arith
 three-small (suc zero) = omega arith
 three-small (suc (suc a)) = rw (unknown a) (omega arith)
+
+-- what is 0, 1 or X already counts as itself
+pub three-own : (a : ℕ) → a ≤ 2 → a ≡ threeOf a
+unfolding threeOf
+three-own zero h = refl
+three-own (suc zero) h = refl
+three-own (suc (suc zero)) h = refl
+three-own (suc (suc (suc a))) h = absurd (omega arith)
 
 pub three-known : (a : ℕ) → a < 2 → threeOf a < 2
 unfolding threeOf

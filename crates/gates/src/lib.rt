@@ -70,7 +70,7 @@ fn digit(block: u64, row: usize, place: usize) -> u8
 }
 
 // The value of a selector whose sources show `first` and `second` and whose select sees c: where that is X, the value of both if they are the same. By
-// choices and not looked up, so that the loop which all kinds share is compiled nearly as it would be without it.
+// choices and not looked up, for the sake of the loop that all kinds share (docs/DECISIONS.md, 110).
 fn selected(first: usize, second: usize, c: u8) -> u8
     requires { ⌜ (first ≤ 2) × (second ≤ 2) ⌝ }
     ensures { λ r. ⌜ r ≡ selectOf first second c ⌝ }

@@ -98,7 +98,7 @@ fn records_are_no_text() {
 
 /// Records with selectors are made of no text: beside one they stay, behind a link too, unless they are named.
 #[test]
-fn records_of_no_text() {
+fn selectors_beside_a_text() {
     let directory = Directory::new("selectors beside a text");
     let (file, with_selectors) = (directory.write("text.bench", c17()), fs::read(selectors("circuit")).expect("records"));
     let beside = directory.write("circuit.rec", &with_selectors);

@@ -1,32 +1,25 @@
 -- `gates::selected` meets its contract: one answer for each branch.
 -- Assumes nothing.
-use mathlib.Core.Path.{_≡_, refl}
-use mathlib.Core.Bool.{_&&_, and-false}
-use Prim.Native.Nat.{ℕ, zero, suc, _≤_}
-use native.Mathlib.Omega.{arith}
-use lib.Dec.{eqb}
+use mathlib.Core.Path.{_≡_, refl, _∙_}
+use mathlib.Core.Bool.{Bool, true, false, _&&_, and-false}
+use Prim.Native.Nat.{ℕ, _≤_}
 use borrow.Author.Tests.{eq-eqb, ne-eqb}
 use borrow.Author.Needs.{needs}
 use Rattle.ground.specs.Choose.{choose}
 use Rattle.gates.specs.Gate.{known, X, threeOf}
 use Rattle.gates.specs.Words.{selectOf}
+use Rattle.gates.proofs.Values.{three-own}
 use Rattle.gates.proofs.selected.Statement.{statement}
 use Rattle.gates.proofs.selected.Tie as tie
 
--- what is 0, 1 or X already counts as itself
-three-own : (a : ℕ) → a ≤ 2 → a ≡ threeOf a
-unfolding threeOf
-three-own zero h = refl
-three-own (suc zero) h = refl
-three-own (suc (suc zero)) h = refl
-three-own (suc (suc (suc a))) h = absurd (omega arith)
-
 -- two that are the same are that value if it is known, else X
-same-own : (a : ℕ) → a ≤ 2 → a ≡ choose (known a && (known a && eqb a a)) a X
-same-own zero h = refl
-same-own (suc zero) h = refl
-same-own (suc (suc zero)) h = refl
-same-own (suc (suc (suc a))) h = absurd (omega arith)
+same-own : (a : ℕ) → a ≤ 2 → a ≡ choose (known a && (known a && true)) a X
+unfolding threeOf
+same-own a h = three-own a h ∙ go (known a)
+  where
+    go : (t : Bool) → choose t a X ≡ choose (t && (t && true)) a X
+    go true = refl
+    go false = refl
 
 returns : tie.Need-returns
 unfolding selectOf
@@ -42,7 +35,9 @@ returns-3 c = simp (ne-eqb _ _ (c .before .before .if1 .left), ne-eqb _ _ (c .be
 
 returns-4 : tie.Need-returns-4
 unfolding selectOf
-returns-4 c = simp (ne-eqb _ _ (c .before .before .if1 .left), ne-eqb _ _ (c .before .if2 .left)) (rw (← c .if3 .left) (same-own _ (c .before .before .before .pre .0)))
+returns-4 c =
+    simp (ne-eqb _ _ (c .before .before .if1 .left), ne-eqb _ _ (c .before .if2 .left), eq-eqb _ _ (c .if3 .left))
+    (rw (← c .if3 .left) (same-own _ (c .before .before .before .pre .0)))
 
 pub selected-spec : {M : Type 1} → statement M
 selected-spec = tie.close (tie.spec (λ c. search needs) returns (λ c. search needs) returns-2 returns-3 (λ c. search needs) returns-4)
