@@ -8,6 +8,7 @@ use Rattle.answers.specs.declared.Ruling.{Ruling}
 use Rattle.answers.specs.declared.Ruling.the-variants.{Fine, Refused}
 use Rattle.circuit.specs.declared.Checked.{Checked}
 use Rattle.circuit.specs.Record.{linesOf, inputsOf}
+use Rattle.simulate.proofs.Small.{all-small}
 use Rattle.rows.specs.Table.{tableOf}
 use Rattle.rows.specs.Owed.{TableReady}
 use Rattle.dictionary.specs.Promise.{Answered}
@@ -16,7 +17,7 @@ use Rattle.dictionary.proofs.Checked.{Taken, all-refuses}
 
 -- what is not refused is ready
 pub ready : {places : ℕ} {c fs ps : List ℕ} {table work : ℕ} → Taken places c fs ps table work → TableReady 256 places c (linesOf c) (inputsOf c) fs ps table work
-ready k = record {
+ready {ps = ps} k = record {
   well = k .good .well;
   most-lines = k .good .most-lines;
   some-inputs = k .good .some-inputs;
@@ -25,6 +26,7 @@ ready k = record {
   fault-lines = λ j l. k .faults .faults j l .line;
   fault-values = λ j l. k .faults .faults j l .value;
   patterns = k .patterns .records;
+  pattern-values = all-small ps (k .patterns .bytes);
   entries = k .table-is;
   room = k .work-is;
 }

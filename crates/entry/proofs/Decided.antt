@@ -12,7 +12,8 @@ use Rattle.lists.specs.declared.Fault.{Fault}
 use Rattle.simulate.specs.Simulate.{unforced, stuckAt}
 use Rattle.simulate.specs.Vectors.{NoX}
 use Rattle.simulate.specs.Work.{goodOf, faultyOf}
-use Rattle.simulate.proofs.Known.{unforced-keeps, stuck-keeps, values-known}
+use Rattle.simulate.proofs.Keeps.{unforced-keeps, stuck-keeps}
+use Rattle.simulate.proofs.Known.{values-known}
 use Rattle.tables.specs.Entries.{unknown}
 use Rattle.entry.specs.Entry.{Test, entryBy}
 use Rattle.entry.specs.Words.{Differ, Agree, SomeOutput, EntryBy}
@@ -43,6 +44,6 @@ module _ {t : Test} {P : ℕ → ℕ → Type 0} (passes : Passes t P) where
   decided fault c p n small well full =
       known-decided c (goodOf c p n) (faultyOf fault c p n) n
       (λ k l. (
-        values-known unforced unforced-keeps c p n well full k,
-        values-known (stuckAt fault) (stuck-keeps fault (omega arith)) c p n well full k,
+        values-known unforced (unforced-keeps 2) c p n well full k,
+        values-known (stuckAt fault) (stuck-keeps 2 fault (omega arith)) c p n well full k,
       ))

@@ -24,4 +24,5 @@ pub entry-made : (fault : Fault) (c : List ℕ) (n : ℕ) (w w′ : List ℕ) {r
     → r ≡ entryBy asExpected c (take n w′) (drop n w′) n
     → FaultEntryDone fault c n w w′ r
 unfolding entryAt
-entry-made fault c n w w′ adds e p good = record { entry-is = of-halves asExpected fault c p n (adds p good) e; work-is = adds p good }
+entry-made fault c n w w′ adds e p small good =
+    let all = adds p small good in record { entry-is = of-halves asExpected fault c p n all e; work-is = all }

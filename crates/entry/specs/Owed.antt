@@ -9,6 +9,7 @@ use lib.ListN.{length, take}
 use Rattle.ground.specs.Choose.{choose}
 use Rattle.lists.specs.declared.Fault.{Fault}
 use Rattle.simulate.specs.Work.{goodOf, bothOf}
+use Rattle.simulate.specs.Owed.{AllSmall}
 use Rattle.tables.specs.Entries.{pass, fail, unknown}
 use Rattle.entry.specs.Entry.{Test, differ, agree, asExpected, entryAt}
 
@@ -36,4 +37,4 @@ pub record EntryRead (fault : Fault) (c p : List ℕ) (n : ℕ) (work : List ℕ
 
 -- where the first half of w has the good values, under whatever pattern
 abbrev pub FaultEntryDone : Fault → List ℕ → ℕ → List ℕ → List ℕ → ℕ → Type 0
-FaultEntryDone fault c n w w′ r = (p : List ℕ) → take n w ≡ goodOf c p n → EntryRead fault c p n w′ r
+FaultEntryDone fault c n w w′ r = (p : List ℕ) → AllSmall p → take n w ≡ goodOf c p n → EntryRead fault c p n w′ r

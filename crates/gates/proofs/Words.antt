@@ -78,7 +78,7 @@ in-words k v =
     (λ l. other k v l ∙ sym (no-rule k v l))
     (either k (suc lastKind))
 
--- the selector, of sources that count as x and y
-pub by-select : (a b c : ℕ) {k x y r : ℕ} → k ≡ selector → x ≡ threeOf a → y ≡ threeOf b → r ≡ selectOf x y c → r ≡ gateOf k (atPins a b c)
+-- so the selector
+pub by-select : (a b c : ℕ) {k r : ℕ} → k ≡ selector → r ≡ selectOf a b c → r ≡ gateOf k (atPins a b c)
 unfolding ruleOf
-by-select a b c e p q s = s ∙ rw (e, p, q) (sym (in-words selector (atPins a b c) ∙ sources-clip selector a b c))
+by-select a b c e s = s ∙ rw e (sym (in-words selector (atPins a b c)))

@@ -12,6 +12,7 @@ use Rattle.lists.specs.Faults.{faultCount}
 use Rattle.lists.specs.Patterns.{patternCount, patternAt}
 use Rattle.lists.proofs.Patterns.{part-fits}
 use Rattle.lists.proofs.Parts.{lent, back, width-is, lent-long}
+use Rattle.simulate.proofs.Small.{part-small}
 use Rattle.lane_lines.specs.Lines.{bothWords}
 use Rattle.rows.specs.Table.{lastFault}
 use Rattle.rows.specs.Owed.{TableReady}
@@ -83,6 +84,7 @@ module _ (c : List ℕ) (n m : ℕ) (fs ps t : List ℕ) (from rows : ℕ) where
         fault-lines = r .fault-lines;
         fault-values = r .fault-values;
         patterns = from-records ps (r .patterns) next (r .some-inputs);
+        pattern-values = part-small ps (rows * m) (from * m) (r .pattern-values);
         entries = mul-comm rows (faultCount fs) ∙ ap (λ (x : ℕ). faultCount fs * x) (sym (from-count ps (r .patterns) next (r .some-inputs)));
         room = r .room;
       })

@@ -10,7 +10,7 @@ use Rattle.lanes.specs.declared.Lanes.{Lanes}
 use Rattle.lists.specs.declared.Fault.{Fault}
 use Rattle.simulate.specs.Simulate.{unforced, stuckAt, lineValue}
 use Rattle.simulate.specs.Work.{goodOf, faultyOf}
-use Rattle.simulate.specs.Owed.{lineIn, SimulateDone}
+use Rattle.simulate.specs.Owed.{lineIn, Any, SimulateDone}
 use Rattle.simulate.proofs.Below.{makes-faulty}
 use Rattle.simulate.proofs.Halves.{lentHalf, filled, lent-is, filled-is}
 use Rattle.lane_lines.specs.Lines.{lanePattern}
@@ -36,10 +36,10 @@ module _ (fault : Fault) {c : List ℕ} {n : ℕ} {w w′ : List ℕ} {a : Lanes
       lane : (i : ℕ) → lineTurns c (stuck i) (fault .line + 1) (n - (fault .line + 1)) ≡ faultyOf fault c (p i) n
       lane i =
           let long : length (stuck i) ≡ n = simp length-set (size i) in
-          let done : SimulateDone c (stuck i) (fault .line + 1) (lineTurns c (stuck i) (fault .line + 1) (n - (fault .line + 1))) =
-          subst (λ (x : ℕ). SimulateDone c (stuck i) (fault .line + 1) (lineTurns c (stuck i) (fault .line + 1) (x - (fault .line + 1)))) long
+          let done : SimulateDone Any c (stuck i) (fault .line + 1) (lineTurns c (stuck i) (fault .line + 1) (n - (fault .line + 1))) =
+          subst (λ (x : ℕ). SimulateDone Any c (stuck i) (fault .line + 1) (lineTurns c (stuck i) (fault .line + 1) (x - (fault .line + 1)))) long
           (turns-simulate c (stuck i) (fault .line + 1) (rw long (ready .ordered)) (omega arith)) in
-          makes-faulty fault {vs = goodOf c (p i) n} (rw (size i) (ready .ordered)) (omega (arith, size i)) refl (simp length-set) done (p i) (ap (goodOf c (p i)) (sym (size i)))
+          makes-faulty fault {vs = goodOf c (p i) n} (rw (size i) (ready .ordered)) (omega (arith, size i)) (λ q _ s. refl) (simp length-set) done (p i) tt (ap (goodOf c (p i)) (sym (size i)))
           ∙ ap (faultyOf fault c (p i)) (size i)
 
 -- the second half of the work memory, lent with the good lines in it

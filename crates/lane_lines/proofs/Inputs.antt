@@ -25,7 +25,7 @@ use Rattle.lanes.specs.declared.Lanes.{Lanes}
 use Rattle.lanes.specs.Lanes.{lanesOf, laid}
 use Rattle.lanes.proofs.Values.{laid-same}
 use Rattle.simulate.specs.Work.{goodOf}
-use Rattle.simulate.specs.Owed.{inputOr, InputsFrom, SimulateDone}
+use Rattle.simulate.specs.Owed.{inputOr, InputsFrom, Any, SimulateDone}
 use Rattle.simulate.proofs.Settled.{ordered, all-good}
 use Rattle.lane_lines.specs.Lines.{lanePattern, goodWords}
 use Rattle.lane_lines.specs.Owed.{lanesAt, PairInside, Carries, LinesReady, lineTurns, SimulateWordsDone, InputWordsDone}
@@ -122,7 +122,7 @@ module _ (c : List ℕ) (m n : ℕ) (ps : List ℕ) where
       lane : (i : ℕ) → lineTurns c (inputsIn i) 0 (n - 0) ≡ goodOf c (lanePattern m ps i) n
       lane i =
           let size = inputs-long i in
-          all-good c (lanePattern m ps i) (inputsIn i) refl (inputs-from i)
-          (subst (λ (x : ℕ). SimulateDone c (inputsIn i) 0 (lineTurns c (inputsIn i) 0 (x - 0))) size
+          all-good c (lanePattern m ps i) (inputsIn i) tt refl (inputs-from i)
+          (subst (λ (x : ℕ). SimulateDone Any c (inputsIn i) 0 (lineTurns c (inputsIn i) 0 (x - 0))) size
           (turns-simulate c (inputsIn i) 0 (rw size (ordered well)) (omega arith)))
           ∙ ap (goodOf c (lanePattern m ps i)) size

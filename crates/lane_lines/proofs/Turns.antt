@@ -9,20 +9,20 @@ use native.Mathlib.Omega.{arith}
 use lib.ListN.{length}
 use Rattle.lanes.specs.declared.Lanes.{Lanes}
 use Rattle.simulate.specs.Simulate.{unforced}
-use Rattle.simulate.specs.Owed.{Ordered, lineIn, SimulateDone}
+use Rattle.simulate.specs.Owed.{Ordered, lineIn, Any, SimulateDone}
 use Rattle.simulate.proofs.Settled as settled
 use Rattle.lane_lines.specs.Owed.{Carries, LinesReady, LineDone, lineTurns, SimulateWordsDone}
 use Rattle.lane_lines.proofs.Words.{putAt, put-long, put-carries}
 
 -- ---- in one lane
 
-so-far : (c vs : List ℕ) (start : ℕ) → Ordered c (length vs) → (j : ℕ) → start + j ≤ length vs → settled.SoFar c vs start (lineTurns c vs start j) (start + j)
-so-far c vs start o zero h = rw (add-zero start) (settled.start c vs start (omega arith))
+so-far : (c vs : List ℕ) (start : ℕ) → Ordered c (length vs) → (j : ℕ) → start + j ≤ length vs → settled.SoFar Any c vs start (lineTurns c vs start j) (start + j)
+so-far c vs start o zero h = rw (add-zero start) (settled.start Any c vs start (omega arith))
 so-far c vs start o (suc j) h =
-    rw (add-suc start j, ← add-one (start + j)) (settled.more (so-far c vs start o j (omega arith)) o (omega arith) refl)
+    rw (add-suc start j, ← add-one (start + j)) (settled.more (so-far c vs start o j (omega arith)) o (omega arith) (λ f p _ s left. refl))
 
 -- all turns taken, the lines are simulated
-pub turns-simulate : (c vs : List ℕ) (start : ℕ) → Ordered c (length vs) → start ≤ length vs → SimulateDone c vs start (lineTurns c vs start (length vs - start))
+pub turns-simulate : (c vs : List ℕ) (start : ℕ) → Ordered c (length vs) → start ≤ length vs → SimulateDone Any c vs start (lineTurns c vs start (length vs - start))
 turns-simulate c vs start o h = settled.finished (so-far c vs start o (length vs - start) (omega arith)) (omega arith)
 
 -- ---- in every lane

@@ -81,6 +81,7 @@ module _ {c fs : List ℕ} {n inputs b : ℕ} (os ks ts : List ℕ) {w : ℕ} (r
         shaped = shaped (rw (known .lines, known .inputs) (known .good .well));
         faults = omega (arith, first-outcomes, r .faults .records .multiple);
         lines = λ j l. rw (known .lines) (r .faults .faults j (omega (arith, first-outcomes)) .line);
+        values = λ j l. r .faults .faults j (omega (arith, first-outcomes)) .value;
         looks = λ j l. looks-at r (omega (arith, first-outcomes));
         most = rw (known .inputs) (known .good .most-inputs);
         most-lines = rw (known .lines) (known .good .most-lines);

@@ -25,7 +25,8 @@ use Rattle.simulate.specs.Simulate.{unforced}
 use Rattle.simulate.specs.Boolean.{Vector, Detects}
 use Rattle.simulate.specs.Vectors.{NoX, Fills}
 use Rattle.simulate.specs.Work.{goodOf, faultyOf}
-use Rattle.simulate.proofs.Known.{unforced-keeps, values-known}
+use Rattle.simulate.proofs.Keeps.{unforced-keeps}
+use Rattle.simulate.proofs.Known.{values-known}
 use Rattle.tables.specs.Entries.{pass, fail, unknown}
 use Rattle.entry.specs.Entry.{entryAt}
 use Rattle.entry.proofs.Words.{expected-passes, entry-small, fail-some, pass-every}
@@ -66,7 +67,7 @@ module _ (fault : Fault) (small : fault .value ≤ 1) (c p : List ℕ) (n : ℕ)
   -- without X every output is compared
   none : NoX p → entryAt fault c p n ≡ pass → (x : Vector) → Fills p x → Detects c fault n x → ⊥
   none full e x fills d =
-      let known = values-known unforced unforced-keeps c p n well full (d .line) in
+      let known = values-known unforced (unforced-keeps 2) c p n well full (d .line) in
       d .differ (clears-is e x fills (d .line) (record { inside = d .inside; output = d .output; known = known }))
 
   means : Means (entryAt fault c p n) c fault n p

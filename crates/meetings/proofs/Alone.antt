@@ -21,7 +21,7 @@ pub run-ready : {alone : Bool} {c : List ℕ} {fault : Fault} {n : ℕ} {s : Nod
 run-ready p = (
   p .most,
   record {
-    ready = record { shaped = rw (p .shaped .inputs-are) (p .shaped); line = p .line; looks = rw (p .shaped .inputs-are) (p .looks); two = p .two };
+    ready = record { shaped = rw (p .shaped .inputs-are) (p .shaped); line = p .line; value = p .value; looks = rw (p .shaped .inputs-are) (p .looks); two = p .two };
     node = rw (p .shaped .inputs-are) (p .node);
     test-size = p .size;
   },

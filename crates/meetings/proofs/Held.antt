@@ -30,6 +30,7 @@ module _ (alone : Bool) {c fs : List ℕ} (bs : List ℕ) (held : Held) {n : ℕ
   meet-ready e = record {
     shaped = r .list .shaped;
     line = rw e (r .list .lines i h);
+    value = rw e (r .list .values i h);
     looks = rw e (r .list .looks i h);
     two = r .list .two;
     good = r .good;

@@ -6,7 +6,7 @@ use mathlib.Core.List.{List}
 use Prim.Native.Nat.{ℕ, _+_, _*_, _≤_, _<_}
 use lib.ListN.{length, getD, take}
 use Rattle.lists.specs.declared.Fault.{Fault}
-use Rattle.lists.specs.Faults.{faultLine, faultAt}
+use Rattle.lists.specs.Faults.{faultLine, faultValue, faultAt}
 use Rattle.lists.specs.Patterns.{patternAt}
 use Rattle.simulate.specs.Work.{goodOf}
 use Rattle.simulate.specs.Owed.{Shaped}
@@ -21,6 +21,7 @@ use Rattle.sides.specs.Look.{lookOf}
 pub record MeetReady (alone : Bool) (c : List ℕ) (fault : Fault) (n : ℕ) (s : Node) (level test : ℕ) (w : List ℕ) : Type 0 where
   pub shaped : Shaped c (length s) n
   pub line : fault .line < n
+  pub value : fault .value ≤ 1
   pub looks : Looks (length s) (lookOf fault c n)
   pub two : length w ≡ n + n
   pub good : alone ≡ false → take n w ≡ goodOf c s n
@@ -43,6 +44,7 @@ pub record ListReady (c fs : List ℕ) (n inputs budgets outcomes counts tests r
   pub shaped : Shaped c inputs n
   pub faults : 8 * outcomes ≤ length fs
   pub lines : (j : ℕ) → j < outcomes → faultLine fs j < n
+  pub values : (j : ℕ) → j < outcomes → faultValue fs j ≤ 1
   pub looks : (j : ℕ) → j < outcomes → Looks inputs (lookOf (faultAt fs j) c n)
   pub most : inputs ≤ 64
   pub most-lines : n ≤ 2048

@@ -2,7 +2,7 @@
 -- Assumes nothing.
 use mathlib.Core.Path.{_≡_, sym, ap, _∙_}
 use mathlib.Core.List.{List}
-use Prim.Native.Nat.{ℕ, _+_, _*_, _≤_, _<_}
+use Prim.Native.Nat.{ℕ, _+_, _*_, _-_, _≤_, _<_}
 use native.Mathlib.Omega.{arith}
 use lib.ListN.{length}
 use lib.Seq.{drop-drop}
@@ -11,6 +11,7 @@ use Rattle.lists.specs.Patterns.{patternCount}
 use Rattle.lists.proofs.Patterns.{part-fits, pattern-fits}
 use Rattle.lists.proofs.Parts.{lent, back, width-is, lent-long, lent-piece}
 use Rattle.simulate.specs.Work.{bothOf}
+use Rattle.simulate.proofs.Small.{part-small}
 use Rattle.rows.specs.Table.{lastFault}
 use Rattle.rows.specs.Owed.{RowReady, RowDone, TableReady, PutRowDone}
 
@@ -34,7 +35,9 @@ module _ (c : List ℕ) (n m : ℕ) (fs ps t : List ℕ) (i : ℕ) where
       (record {
         well = rw (lent-long (i * m) m ps (pattern-fits ps (r .patterns) h)) (r .well);
         faults = r .faults .multiple;
+        small = part-small ps (i * m + m - i * m) (i * m) (r .pattern-values);
         lines = r .fault-lines;
+        values = r .fault-values;
         some = r .faults .some;
         two = omega (arith, r .room);
       })

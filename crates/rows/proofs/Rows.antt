@@ -12,6 +12,7 @@ use Rattle.ground.specs.Lists.{grow}
 use Rattle.lists.specs.declared.Fault.{Fault}
 use Rattle.lists.specs.Faults.{faultCount, faultAt}
 use Rattle.simulate.specs.Work.{goodOf, faultyOf, bothOf}
+use Rattle.simulate.specs.Owed.{AllSmall}
 use Rattle.simulate.proofs.Work.{good-long, good-front, both-length}
 use Rattle.entry.specs.Owed.{EntryRead, FaultEntryDone}
 use Rattle.rows.specs.Table.{rowTo}
@@ -41,11 +42,12 @@ module _ {c : List ℕ} {n : ℕ} {p fs : List ℕ} {width : ℕ} {row work : Li
   pub more : {fault : Fault} {work′ : List ℕ} {e : ℕ}
       → j < width
       → fault ≡ faultAt fs j
+      → AllSmall p
       → FaultEntryDone fault c n work work′ e
       → SoFar c n p fs width (set row j e) work′ (j + 1)
   unfolding grow
-  more {fault} {work′} {e} l is looks =
-      let k : EntryRead (faultAt fs j) c p n work′ e = rw is at (looks p (so .good)) in
+  more {fault} {work′} {e} l is small looks =
+      let k : EntryRead (faultAt fs j) c p n work′ e = rw is at (looks p small (so .good)) in
       let back : j + 1 - 1 ≡ j = omega arith in
       record {
         at-most = omega arith;

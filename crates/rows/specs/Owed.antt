@@ -9,6 +9,7 @@ use Rattle.circuit.specs.Formed.{WellFormed}
 use Rattle.lists.specs.Faults.{faultCount, faultLine, faultValue}
 use Rattle.lists.specs.Patterns.{patternCount, patternAt}
 use Rattle.simulate.specs.Work.{bothOf}
+use Rattle.simulate.specs.Owed.{AllSmall}
 use Rattle.rows.specs.Table.{rowOf, tableOf, lastFault, tableWork}
 
 -- ---- the row of one pattern
@@ -16,7 +17,9 @@ use Rattle.rows.specs.Table.{rowOf, tableOf, lastFault, tableWork}
 pub record RowReady (c : List ℕ) (n : ℕ) (p fs : List ℕ) (row work : ℕ) : Type 0 where
   pub well : WellFormed c (length p) n
   pub faults : length fs ≡ 8 * row
+  pub small : AllSmall p
   pub lines : (j : ℕ) → j < row → faultLine fs j < n
+  pub values : (j : ℕ) → j < row → faultValue fs j ≤ 1
   pub some : 1 ≤ row
   pub two : work ≡ n + n
 
@@ -36,6 +39,7 @@ pub record TableReady (most places : ℕ) (c : List ℕ) (n m : ℕ) (fs ps : Li
   pub fault-lines : (j : ℕ) → j < faultCount fs → faultLine fs j < n
   pub fault-values : (j : ℕ) → j < faultCount fs → faultValue fs j ≤ 1
   pub patterns : Records m most (length ps)
+  pub pattern-values : AllSmall ps
   pub entries : table ≡ faultCount fs * patternCount m ps
   pub room : work ≡ places * n
 

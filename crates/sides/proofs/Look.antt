@@ -16,7 +16,9 @@ use Rattle.entry.proofs.Words.{agree-passes, entry-three, fail-some, pass-every
 use Rattle.entry.proofs.Decided.{decided}
 use Rattle.nodes.specs.Node.{Node, IsNode, countX}
 use Rattle.nodes.proofs.Node.{all-set}
+use Rattle.simulate.specs.Owed.{AllSmall}
 use Rattle.simulate.proofs.Settled.{shaped}
+use Rattle.simulate.proofs.Small.{all-small}
 use Rattle.sides.specs.Look.{settled, Settled, lookOf}
 use Rattle.sides.specs.Owed.{SideReady}
 
@@ -47,11 +49,16 @@ module _ (fault : Fault) (c : List ℕ) (n : ℕ) (s : Node) where
       without : NoX s → lookOf fault c n s ≡ 2 → ⊥
       without = decided agree-passes fault c s n small (rw (i .size) well)
 
+-- a node has no other values than 0, 1 and X
+pub node-small : {n : ℕ} {s : Node} → IsNode n s → AllSmall s
+node-small {n} {s} i = all-small s (λ k l. i .bytes k (omega (arith, i .size)))
+
 -- what a search of an accepted circuit needs
 pub prepared : (fault : Fault) (c : List ℕ) (n room : ℕ) → WellFormed c (inputsBefore c n) n → fault .line < n → fault .value ≤ 1 → room ≡ n + n → SideReady c fault n room
 prepared fault c n room well line small two = record {
   shaped = shaped well;
   line = line;
+  value = small;
   looks = record { three = λ s i. look-three fault c n s; unknown = λ s i. unknown-has-x fault c n s small well i };
   two = two;
 }

@@ -2,12 +2,12 @@
 -- Assumes nothing.
 use mathlib.Core.Path.{_≡_}
 use mathlib.Core.List.{List}
-use Prim.Native.Nat.{ℕ, _+_, _<_}
+use Prim.Native.Nat.{ℕ, _+_, _≤_, _<_}
 use lib.ListN.{take}
 use Rattle.circuit.specs.Record.{inputsBefore}
 use Rattle.lists.specs.declared.Fault.{Fault}
 use Rattle.simulate.specs.Work.{goodOf}
-use Rattle.simulate.specs.Owed.{Shaped}
+use Rattle.simulate.specs.Owed.{Shaped, AllSmall}
 use Rattle.nodes.specs.Node.{Node}
 use Rattle.nodes.specs.Walk.{Looks}
 use Rattle.sides.specs.Look.{lookOf, lookWork}
@@ -16,6 +16,7 @@ use Rattle.sides.specs.Look.{lookOf, lookWork}
 pub record SideReady (c : List ℕ) (fault : Fault) (n room : ℕ) : Type 0 where
   pub shaped : Shaped c (inputsBefore c n) n
   pub line : fault .line < n
+  pub value : fault .value ≤ 1
   pub looks : Looks (inputsBefore c n) (lookOf fault c n)
   pub two : room ≡ n + n
 
@@ -25,4 +26,4 @@ pub record VisitDone (fault : Fault) (c : List ℕ) (n : ℕ) (s : Node) (r : �
 
 -- where the first half of w has the good values of whatever node
 abbrev pub LookDone : Fault → List ℕ → ℕ → List ℕ → ℕ → List ℕ → Type 0
-LookDone fault c n w r w′ = (s : Node) → take n w ≡ goodOf c s n → VisitDone fault c n s r w′
+LookDone fault c n w r w′ = (s : Node) → AllSmall s → take n w ≡ goodOf c s n → VisitDone fault c n s r w′

@@ -15,7 +15,7 @@ use Rattle.circuit.specs.Record.{isInput, inputsBefore}
 use Rattle.lists.specs.declared.Fault.{Fault}
 use Rattle.simulate.specs.Simulate.{unforced, stuckAt, gateValue, lineValue}
 use Rattle.simulate.specs.Work.{goodOf, faultyOf}
-use Rattle.simulate.specs.Owed.{Ordered, lineIn, SimulatedTo, Leaves, SimulateDone, SimulateFaultDone}
+use Rattle.simulate.specs.Owed.{Ordered, lineIn, SimulatedTo, Leaves, Scope, SimulateDone, SimulateFaultDone}
 use Rattle.simulate.proofs.Settled.{settled-more}
 
 module _ (fault : Fault) where
@@ -57,14 +57,15 @@ module _ (fault : Fault) where
   }
 
   -- with the fault's line and the lines above it simulated, they are the faulty ones
-  pub makes-faulty : {c vs vs′ : List ℕ} {v : ℕ}
+  pub makes-faulty : {scope : Scope} {c vs vs′ : List ℕ} {v : ℕ}
       → Ordered c (length vs)
       → fault .line < length vs
-      → v ≡ lineIn (stuckAt fault) c vs (fault .line)
+      → ((p : List ℕ) → scope (stuckAt fault) p → SimulatedTo (stuckAt fault) c p vs (fault .line) → v ≡ lineIn (stuckAt fault) c vs (fault .line))
       → length (set vs (fault .line) v) ≡ length vs
-      → SimulateDone c (set vs (fault .line) v) (fault .line + 1) vs′
-      → SimulateFaultDone fault c vs vs′
-  makes-faulty {c} {vs} {vs′} {v} o l e long sim p q =
+      → SimulateDone scope c (set vs (fault .line) v) (fault .line + 1) vs′
+      → SimulateFaultDone scope fault c vs vs′
+  makes-faulty {c = c} {vs = vs} {v = v} o l e long sim p inside q =
       let at-line : SimulatedTo (stuckAt fault) c p vs (fault .line) = rw q (good-settled c p (length vs) l) in
-      let after : SimulatedTo (stuckAt fault) c p (set vs (fault .line) v) (fault .line + 1) = rw e (settled-more (o .lower (fault .line) l) l at-line) in
-      sim (stuckAt fault) p stuck-leaves after ∙ ap (faultyOf fault c p) long
+      let after : SimulatedTo (stuckAt fault) c p (set vs (fault .line) v) (fault .line + 1) =
+      rw (e p inside at-line) (settled-more (o .lower (fault .line) l) l at-line) in
+      sim (stuckAt fault) p inside stuck-leaves after ∙ ap (faultyOf fault c p) long

@@ -9,7 +9,8 @@ use lib.ListN.{length, getD, take, drop, set, length-set, length-take, length-dr
 use lib.Seq.{take-suc, take-suc-set, take-set-le, drop-set-add, getD-take, take-at, drop-at, take-all, length-take-le}
 use Rattle.lists.specs.declared.Fault.{Fault}
 use Rattle.simulate.specs.Work.{goodOf, faultyOf}
-use Rattle.simulate.specs.Owed.{SimulateFaultDone, FaultyValuesDone}
+use Rattle.simulate.specs.Owed.{ThreeValued, SimulateFaultDone, FaultyValuesDone}
+use Rattle.simulate.proofs.Keeps.{stuck-keeps}
 
 -- ---- the loop that copies
 
@@ -72,8 +73,8 @@ module _ (n : ℕ) (w w′ u : List ℕ) (two : length w ≡ n + n) (copied : w�
   filled-is =
       rw (drop-of-length-le (drop n w′) {i = length w′ - n} (simp length-drop (omega (arith, copied-long))), append-nil, copied, take-at (take n w) (take n w) n half-long)
 
-  pub adds-faulty : (fault : Fault) (c : List ℕ) → SimulateFaultDone fault c (lentHalf n w′) u → FaultyValuesDone fault c n w (filled n w′ u)
-  adds-faulty fault c makes p good =
+  pub adds-faulty : (fault : Fault) (c : List ℕ) → fault .value ≤ 1 → SimulateFaultDone ThreeValued fault c (lentHalf n w′) u → FaultyValuesDone fault c n w (filled n w′ u)
+  adds-faulty fault c bit makes p small good =
       let long : length (lentHalf n w′) ≡ n = lent-long n w′ copied-long in
-      let u-is : u ≡ faultyOf fault c p n = makes p (lent-is ∙ good ∙ ap (goodOf c p) (sym long)) ∙ ap (faultyOf fault c p) long in
+      let u-is : u ≡ faultyOf fault c p n = makes p (record { keeps = stuck-keeps 3 fault (omega arith); pattern = small }) (lent-is ∙ good ∙ ap (goodOf c p) (sym long)) ∙ ap (faultyOf fault c p) long in
       filled-is ∙ rw (good, u-is)

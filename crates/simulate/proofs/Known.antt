@@ -1,11 +1,10 @@
 -- Without X in the pattern, and where what forces a value forces a known one, every line's value is known.
 -- Assumes nothing.
 use mathlib.Core.Path.{_≡_, refl}
-use mathlib.Core.Bool.{Bool, true, false, _&&_}
+use mathlib.Core.Bool.{Bool, true, false}
 use mathlib.Core.List.{List}
 use Prim.Native.Nat.{ℕ, _<_}
 use native.Mathlib.Omega.{arith}
-use lib.Dec.{eqb}
 use lib.ListN.{length, getD}
 use borrow.Author.Tests.{eqb-true, eqb-false}
 use Rattle.ground.specs.Choose.{choose}
@@ -13,27 +12,13 @@ use Rattle.ground.proofs.Grow.{grow-each}
 use Rattle.gates.proofs.Laws.{gate-known}
 use Rattle.circuit.specs.Record.{kindAt, pinAt, isInput, inputsBefore}
 use Rattle.circuit.specs.Formed.{WellFormed}
-use Rattle.lists.specs.declared.Fault.{Fault}
-use Rattle.simulate.specs.Simulate.{Forcing, unforced, stuckAt, gateValue, lineValue, valuesTo}
+use Rattle.simulate.specs.Simulate.{Forcing, gateValue, lineValue, valuesTo}
 use Rattle.simulate.specs.Vectors.{NoX}
+use Rattle.simulate.specs.Owed.{Keeps}
 use Rattle.simulate.proofs.Inputs.{input-below}
 use Rattle.simulate.proofs.Settled.{shaped}
 
-abbrev pub Keeps : Forcing → Type 0
-Keeps f = (k s x : ℕ) → x < 2 → f k s x < 2
-
-pub unforced-keeps : Keeps unforced
-unforced-keeps k s x h = h
-
-pub stuck-keeps : (fault : Fault) → fault .value < 2 → Keeps (stuckAt fault)
-unfolding stuckAt
-stuck-keeps fault h k s x g = go (eqb k (fault .line) && eqb s (fault .site))
-  where
-    go : (b : Bool) → choose b (fault .value) x < 2
-    go true = h
-    go false = g
-
-module _ (f : Forcing) (keeps : Keeps f) (c p : List ℕ) (n : ℕ) (well : WellFormed c (length p) n) (full : NoX p) where
+module _ (f : Forcing) (keeps : Keeps 2 f) (c p : List ℕ) (n : ℕ) (well : WellFormed c (length p) n) (full : NoX p) where
   gate-value-known : (vs : List ℕ) (k : ℕ) → k < n → (kindAt c k ≡ 0 → ⊥) → ((j : ℕ) → getD vs j 0 < 2) → gateValue f c vs k < 2
   unfolding gateValue
   gate-value-known vs k l ne below = gate-known (kindAt c k) _ (omega arith) (well .kinds k l) (λ s a b. keeps k s _ (below (pinAt c k s)))

@@ -1,4 +1,6 @@
 pub mod Line
+pub mod Keeps
+pub mod Small
 pub mod Settled
 pub mod Inputs
 pub mod Below

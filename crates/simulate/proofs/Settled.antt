@@ -20,7 +20,7 @@ use Rattle.circuit.specs.Record.{kindAt, pinAt, isInput, inputsBefore}
 use Rattle.circuit.specs.Formed.{Lower, WellFormed}
 use Rattle.simulate.specs.Simulate.{Forcing, unforced, gateValue, lineValue, valuesTo}
 use Rattle.simulate.specs.Work.{goodOf}
-use Rattle.simulate.specs.Owed.{Ordered, Shaped, lineIn, InputsFrom, SimulatedTo, Leaves, SimulateDone}
+use Rattle.simulate.specs.Owed.{Ordered, Shaped, lineIn, InputsFrom, SimulatedTo, Leaves, Scope, SimulateDone}
 
 pub ordered : {c : List ℕ} {m n : ℕ} → WellFormed c m n → Ordered c n
 ordered w = record {
@@ -80,33 +80,44 @@ line-left f c vs k left =
 -- ---- the loop
 
 -- vs₀ at the start, vs when it comes to line k
-pub record SoFar (c vs₀ : List ℕ) (start : ℕ) (vs : List ℕ) (k : ℕ) : Type 0 where
+pub record SoFar (scope : Scope) (c vs₀ : List ℕ) (start : ℕ) (vs : List ℕ) (k : ℕ) : Type 0 where
   pub above : start ≤ k
   pub at-most : k ≤ length vs₀
   pub long : length vs ≡ length vs₀
-  pub settled : (f : Forcing) (p : List ℕ) → Leaves f start → SimulatedTo f c p vs₀ start → SimulatedTo f c p vs k
+  pub settled : (f : Forcing) (p : List ℕ) → scope f p → Leaves f start → SimulatedTo f c p vs₀ start → SimulatedTo f c p vs k
 
-pub start : (c vs : List ℕ) (k : ℕ) → k ≤ length vs → SoFar c vs k vs k
-start c vs k h = record { above = omega arith; at-most = h; long = refl; settled = λ f p _ s. s }
+pub start : (scope : Scope) (c vs : List ℕ) (k : ℕ) → k ≤ length vs → SoFar scope c vs k vs k
+start scope c vs k h = record { above = omega arith; at-most = h; long = refl; settled = λ f p _ _ s. s }
 
-module _ {c vs₀ vs : List ℕ} {k start : ℕ} (so : SoFar c vs₀ start vs k) where
-  pub more : {v : ℕ} → Ordered c (length vs₀) → k < length vs₀ → v ≡ lineIn unforced c vs k → SoFar c vs₀ start (set vs k v) (k + 1)
+module _ {scope : Scope} {c vs₀ vs : List ℕ} {k start : ℕ} (so : SoFar scope c vs₀ start vs k) where
+  -- v is the value of line k under whatever is in scope and leaves the line alone
+  pub more : {v : ℕ}
+      → Ordered c (length vs₀)
+      → k < length vs₀
+      → ((f : Forcing) (p : List ℕ) → scope f p → SimulatedTo f c p vs k → ((s w : ℕ) → f k s w ≡ w) → v ≡ lineIn unforced c vs k)
+      → SoFar scope c vs₀ start (set vs k v) (k + 1)
   more {v} o l e = record {
     above = omega (arith, so .above);
     at-most = omega arith;
     long = length-set vs k v ∙ so .long;
-    settled = λ f p left s.
-        rw (e ∙ sym (line-left f c vs k (λ t w. left k t w (so .above))))
-        (settled-more (o .lower k l) (omega (arith, so .long)) (so .settled f p left s));
+    settled = λ f p inside left s.
+        let below = so .settled f p inside left s in
+        let alone : (t w : ℕ) → f k t w ≡ w = λ t w. left k t w (so .above) in
+        rw (e f p inside below alone ∙ sym (line-left f c vs k alone)) (settled-more (o .lower k l) (omega (arith, so .long)) below);
   }
 
-  pub finished : length vs₀ ≤ k → SimulateDone c vs₀ start vs
-  finished l f p left s =
+  pub finished : length vs₀ ≤ k → SimulateDone scope c vs₀ start vs
+  finished l f p inside left s =
       let e : k ≡ length vs₀ = omega (arith, so .at-most) in
-      sym (take-all k vs (omega (arith, so .long))) ∙ so .settled f p left s .done ∙ ap (valuesTo f c p) e
+      sym (take-all k vs (omega (arith, so .long))) ∙ so .settled f p inside left s .done ∙ ap (valuesTo f c p) e
 
 -- with the inputs' lines set, all lines simulated have the good values
-pub all-good : (c p vs₀ : List ℕ) {vs vs′ : List ℕ} → length vs ≡ length vs₀ → InputsFrom c p vs 0 → SimulateDone c vs 0 vs′ → vs′ ≡ goodOf c p (length vs₀)
+pub all-good : {scope : Scope} (c p vs₀ : List ℕ) {vs vs′ : List ℕ}
+    → scope unforced p
+    → length vs ≡ length vs₀
+    → InputsFrom c p vs 0
+    → SimulateDone scope c vs 0 vs′
+    → vs′ ≡ goodOf c p (length vs₀)
 unfolding grow
-all-good c p vs₀ long inputs simulated =
-    simulated unforced p (λ l s v _. refl) (record { done = refl; inputs = inputs }) ∙ ap (goodOf c p) long
+all-good c p vs₀ inside long inputs simulated =
+    simulated unforced p inside (λ l s v _. refl) (record { done = refl; inputs = inputs }) ∙ ap (goodOf c p) long

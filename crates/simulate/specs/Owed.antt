@@ -7,10 +7,11 @@ use Prim.Native.Nat.{ℕ, _+_, _*_, _≤_, _<_}
 use lib.ListN.{length, getD, take}
 use Rattle.ground.specs.Choose.{choose}
 use Rattle.gates.specs.Gate.{lastKind}
+use Rattle.gates.specs.Owed.{SourcesSmall}
 use Rattle.circuit.specs.Record.{kindAt, pinAt, isInput, inputsBefore}
 use Rattle.circuit.specs.Formed.{Lower}
 use Rattle.lists.specs.declared.Fault.{Fault}
-use Rattle.simulate.specs.Simulate.{Forcing, gateValue, valuesTo}
+use Rattle.simulate.specs.Simulate.{Forcing, stuckAt, gateValue, valuesTo}
 use Rattle.simulate.specs.Work.{goodOf, faultyOf, bothOf}
 
 -- so many lines, every gate above its sources; a line whose kind has no rule is X, and its sources are just lines
@@ -24,16 +25,22 @@ pub record Shaped (c : List ℕ) (inputs n : ℕ) : Type 0 where
   pub ordered : Ordered c n
   pub inputs-are : inputsBefore c n ≡ inputs
 
--- a circuit of n lines, and room for two values a line
-pub record GoodValuesReady (c : List ℕ) (inputs n room : ℕ) : Type 0 where
-  pub shaped : Shaped c inputs n
+-- each of them 0, 1 or X
+abbrev pub AllSmall : List ℕ → Type 0
+AllSmall vs = (i : ℕ) → getD vs i 0 ≤ 2
+
+-- a circuit of n lines, a pattern for it, and room for two values a line
+pub record GoodValuesReady (c p : List ℕ) (n room : ℕ) : Type 0 where
+  pub shaped : Shaped c (length p) n
+  pub small : AllSmall p
   pub two : room ≡ n + n
 
--- the same with a fault on one of the lines
+-- the circuit with a fault on one of the lines
 pub record FaultyValuesReady (c : List ℕ) (fault : Fault) (n room : ℕ) : Type 0 where
   pub ordered : Ordered c n
   pub two : room ≡ n + n
   pub line : fault .line < n
+  pub value : fault .value ≤ 1
 
 -- what an input's line is set to before its turn, where i inputs stand below it; a gate's line is X until its turn
 unfoldable pub inputOr : List ℕ → List ℕ → ℕ → ℕ → ℕ
@@ -42,6 +49,10 @@ inputOr c p k i = choose (isInput c k) (getD p i 0) 2
 -- the value of line k, where vs has the values below it and an input's own
 unfoldable pub lineIn : Forcing → List ℕ → List ℕ → ℕ → ℕ
 lineIn f c vs k = f k 0 (choose (isInput c k) (getD vs k 0) (gateValue f c vs k))
+
+-- the first two pins of the gate at line k see 0, 1 or X, if it has a rule
+abbrev pub PinsSmall : Forcing → List ℕ → List ℕ → ℕ → Type 0
+PinsSmall f c vs k = (kindAt c k ≡ 0 → ⊥) → SourcesSmall (kindAt c k) (f k 1 (getD vs (pinAt c k 1) 0)) (f k 2 (getD vs (pinAt c k 2) 0))
 
 -- each input's line from k on holds its value of the pattern p
 abbrev pub InputsFrom : List ℕ → List ℕ → List ℕ → ℕ → Type 0
@@ -56,14 +67,31 @@ pub record SimulatedTo (f : Forcing) (c p vs : List ℕ) (k : ℕ) : Type 0 wher
 abbrev pub Leaves : Forcing → ℕ → Type 0
 Leaves f k = (l s v : ℕ) → k ≤ l → f l s v ≡ v
 
--- where the lines below start are settled, under whatever pattern and forcing that leaves the others alone, vs′ has the values of all
-abbrev pub SimulateDone : List ℕ → List ℕ → ℕ → List ℕ → Type 0
-SimulateDone c vs start vs′ = (f : Forcing) (p : List ℕ) → Leaves f start → SimulatedTo f c p vs start → vs′ ≡ valuesTo f c p (length vs)
+-- a forcing that makes no value below b one from b on
+abbrev pub Keeps : ℕ → Forcing → Type 0
+Keeps b f = (k s x : ℕ) → x < b → f k s x < b
 
--- where vs has the good values, under whatever pattern, vs′ has the faulty ones
-abbrev pub SimulateFaultDone : Fault → List ℕ → List ℕ → List ℕ → Type 0
-SimulateFaultDone fault c vs vs′ = (p : List ℕ) → vs ≡ goodOf c p (length vs) → vs′ ≡ faultyOf fault c p (length vs)
+-- which forcings and patterns a simulation is for: all of them, or those that bring no other values than 0, 1 and X
+abbrev pub Scope : Type 1
+Scope = Forcing → List ℕ → Type 0
+
+abbrev pub Any : Scope
+Any f p = Unit {0}
+
+pub record ThreeValued (f : Forcing) (p : List ℕ) : Type 0 where
+  pub keeps : Keeps 3 f
+  pub pattern : AllSmall p
+
+-- where the lines below start are settled, under a pattern and a forcing in scope that leaves the others alone, vs′ has the values of all
+abbrev pub SimulateDone : Scope → List ℕ → List ℕ → ℕ → List ℕ → Type 0
+SimulateDone scope c vs start vs′ =
+    (f : Forcing) (p : List ℕ) → scope f p → Leaves f start → SimulatedTo f c p vs start → vs′ ≡ valuesTo f c p (length vs)
+
+-- where vs has the good values, under whatever pattern in scope, vs′ has the faulty ones
+abbrev pub SimulateFaultDone : Scope → Fault → List ℕ → List ℕ → List ℕ → Type 0
+SimulateFaultDone scope fault c vs vs′ =
+    (p : List ℕ) → scope (stuckAt fault) p → vs ≡ goodOf c p (length vs) → vs′ ≡ faultyOf fault c p (length vs)
 
 -- where the first half of w has the good values, w′ has these and then the faulty ones
 abbrev pub FaultyValuesDone : Fault → List ℕ → ℕ → List ℕ → List ℕ → Type 0
-FaultyValuesDone fault c n w w′ = (p : List ℕ) → take n w ≡ goodOf c p n → w′ ≡ bothOf fault c p n
+FaultyValuesDone fault c n w w′ = (p : List ℕ) → AllSmall p → take n w ≡ goodOf c p n → w′ ≡ bothOf fault c p n

@@ -11,12 +11,12 @@ ghost use lib.ListN.{length, take, drop};
 ghost use Rattle.circuit.specs.Record.{kindAt, Inside};
 ghost use Rattle.simulate.specs.Simulate.{unforced, stuckAt};
 ghost use Rattle.simulate.specs.Work.{goodOf};
-ghost use Rattle.simulate.specs.Owed.{Ordered, Shaped, GoodValuesReady, FaultyValuesReady, inputOr, lineIn, InputsFrom, SimulateDone, SimulateFaultDone, FaultyValuesDone};
+ghost use Rattle.simulate.specs.Owed.{Ordered, Shaped, AllSmall, GoodValuesReady, FaultyValuesReady, inputOr, lineIn, PinsSmall, InputsFrom, ThreeValued, SimulateDone, SimulateFaultDone, FaultyValuesDone};
 
 // The value of line k; an input's line has it already.
 fn line_value(circuit: &[u8], values: &[u8], k: usize) -> u8
     requires { ⌜ Ordered (now circuit) (length (now values)) × (k < length (now values)) ⌝ }
-    ensures { λ r. ⌜ r ≡ lineIn unforced (now (circuit .entry)) (now (values .entry)) k ⌝ }
+    ensures { λ r. ⌜ (PinsSmall unforced (now (circuit .entry)) (now (values .entry)) k → r ≡ lineIn unforced (now (circuit .entry)) (now (values .entry)) k) ⌝ }
 {
     let kind = circuit[8 * k];
     if kind == 0 {
@@ -31,7 +31,7 @@ fn line_value(circuit: &[u8], values: &[u8], k: usize) -> u8
 // Gives every line from `start` on its value.
 fn simulate_from(circuit: &[u8], values: &mut [u8], start: usize)
     requires { ⌜ Ordered (now circuit) (length (now values)) × (start ≤ length (now values)) ⌝ }
-    ensures { λ _. ⌜ SimulateDone (now (circuit .entry)) (now (values .entry)) start (now (values .exit)) ⌝ }
+    ensures { λ _. ⌜ SimulateDone ThreeValued (now (circuit .entry)) (now (values .entry)) start (now (values .exit)) ⌝ }
 {
     let mut k = start;
     while k < values.len() {
@@ -69,7 +69,7 @@ fn put_inputs(circuit: &[u8], pattern: &[u8], values: &mut [u8])
 
 // The good values of all lines.
 fn simulate(circuit: &[u8], pattern: &[u8], values: &mut [u8])
-    requires { ⌜ Shaped (now circuit) (length (now pattern)) (length (now values)) ⌝ }
+    requires { ⌜ Shaped (now circuit) (length (now pattern)) (length (now values)) × AllSmall (now pattern) ⌝ }
     ensures { λ _. ⌜ now (values .exit) ≡ goodOf (now (circuit .entry)) (now (pattern .entry)) (length (now (values .entry))) ⌝ }
 {
     put_inputs(circuit, pattern, values);
@@ -78,7 +78,7 @@ fn simulate(circuit: &[u8], pattern: &[u8], values: &mut [u8])
 
 // The first half of the work memory gets the good values.
 pub fn good_values(circuit: &[u8], pattern: &[u8], work: &mut [u8], n: usize)
-    requires { ⌜ GoodValuesReady (now circuit) (length (now pattern)) n (length (now work)) ⌝ }
+    requires { ⌜ GoodValuesReady (now circuit) (now pattern) n (length (now work)) ⌝ }
     ensures { λ _. ⌜ now (work .exit) ≡ goodOf (now (circuit .entry)) (now (pattern .entry)) n ++ drop n (now (work .entry)) ⌝ }
 {
     simulate(circuit, pattern, &mut work[..n]);
@@ -94,7 +94,8 @@ fn seen(fault: Fault, site: u8, v: u8) -> u8
 // The value of the fault's line.
 fn stuck_value(circuit: &[u8], fault: Fault, values: &[u8]) -> u8
     requires { ⌜ Ordered (now circuit) (length (now values)) × (fault .line < length (now values)) ⌝ }
-    ensures { λ r. ⌜ r ≡ lineIn (stuckAt fault) (now (circuit .entry)) (now (values .entry)) (fault .line) ⌝ }
+    ensures { λ r. ⌜ (PinsSmall (stuckAt fault) (now (circuit .entry)) (now (values .entry)) (fault .line)
+        → r ≡ lineIn (stuckAt fault) (now (circuit .entry)) (now (values .entry)) (fault .line)) ⌝ }
 {
     let line = fault.line;
     let kind = circuit[8 * line];
@@ -113,7 +114,7 @@ fn stuck_value(circuit: &[u8], fault: Fault, values: &[u8]) -> u8
 // Turns good values into faulty ones, from the fault's line on.
 fn simulate_fault(circuit: &[u8], fault: Fault, values: &mut [u8])
     requires { ⌜ Ordered (now circuit) (length (now values)) × (fault .line < length (now values)) ⌝ }
-    ensures { λ _. ⌜ SimulateFaultDone fault (now (circuit .entry)) (now (values .entry)) (now (values .exit)) ⌝ }
+    ensures { λ _. ⌜ SimulateFaultDone ThreeValued fault (now (circuit .entry)) (now (values .entry)) (now (values .exit)) ⌝ }
 {
     let line = fault.line;
     let v = stuck_value(circuit, fault, values);

@@ -1,9 +1,9 @@
--- `gates::block` meets its contract: antt computes the nine digits of each kind from the table.
+-- `gates::block` meets its contract: antt computes the sixteen digits of each kind from the table.
 -- Assumes nothing.
 use mathlib.Core.Path.{_≡_, refl, sym}
 use Prim.Native.Nat.{ℕ, _+_, _≤_}
 use native.Mathlib.Omega.{arith}
-use Rattle.gates.specs.Gate.{gateTable}
+use Rattle.gates.specs.Gate.{gateTable, threeOf}
 use Rattle.gates.specs.Owed.{blockOf}
 use Rattle.gates.proofs.Digits.{no-block}
 use Rattle.gates.proofs.block.Statement.{statement}
@@ -21,7 +21,7 @@ no-kind c =
     sym (no-block _ (passed 6 six (r .0 .0 .1) (r .0 .1) (r .1)))
 
 pub block-spec : {M : Type 1} → statement M
-unfolding blockOf gateTable
+unfolding blockOf gateTable threeOf
 block-spec =
     tie.close
     (tie.spec

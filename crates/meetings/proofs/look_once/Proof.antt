@@ -11,6 +11,7 @@ use Rattle.simulate.proofs.Work.{good-front}
 use Rattle.standings.proofs.Meeting.{met-test, met-open}
 use Rattle.sides.specs.Look.{lookWork}
 use Rattle.sides.specs.Owed.{VisitDone}
+use Rattle.sides.proofs.Look.{node-small}
 use Rattle.meetings.proofs.look_once.Statement.{statement}
 use Rattle.meetings.proofs.look_once.Tie as tie
 
@@ -19,10 +20,10 @@ abbrev entry : tie.After-look-at → tie.Start
 entry c = c .before .before .before .before .before .before
 
 look-at-requires : tie.Need-look-at-requires
-look-at-requires c κs = let p = c .before .before .before .before .before .pre .0 in record { ordered = p .shaped .ordered; two = p .two; line = p .line }
+look-at-requires c κs = let p = c .before .before .before .before .before .pre .0 in record { ordered = p .shaped .ordered; two = p .two; line = p .line; value = p .value }
 
 told : (c : tie.After-look-at) → let a = entry c .args in VisitDone (a .fault) (a .circuit .now) (a .n) (a .node .now) (c .look-at .result) (c .look-at .last .1 .1 .0)
-told c = c .look-at .ensures (entry c .args .node .now) (entry c .pre .0 .good refl)
+told c = c .look-at .ensures (entry c .args .node .now) (node-small (entry c .pre .0 .node)) (entry c .pre .0 .good refl)
 
 -- the good values stay
 good : (c : tie.After-look-at) → let a = entry c .args in take (a .n) (c .look-at .last .1 .1 .0) ≡ goodOf (a .circuit .now) (a .node .now) (a .n)

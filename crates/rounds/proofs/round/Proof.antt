@@ -9,6 +9,7 @@ use Rattle.ground.proofs.Counting.{count-most}
 use Rattle.nodes.proofs.Node.{x-inside, x-nowhere}
 use Rattle.simulate.proofs.Work.{good-front}
 use Rattle.standings.proofs.Levels.{met-none, met-last}
+use Rattle.sides.proofs.Look.{node-small}
 use Rattle.meetings.proofs.Coming.{same-size, ready-still}
 use Rattle.rounds.specs.Owed.{looksAt}
 use Rattle.rounds.proofs.None.{none-looks}
@@ -57,6 +58,11 @@ returns-2 c =
       over = λ h j b. met .meet-all .ensures j b .nodes-met refl;
     }
 
+good-values-requires : tie.Need-good-values-requires
+good-values-requires c κs =
+    let p = entry (c .before .before .before .before) .pre in
+    record { shaped = p .list .shaped; small = node-small (p .node); two = p .list .two }
+
 meet-all-requires-2 : tie.Need-meet-all-requires-2
 meet-all-requires-2 c κs =
     let good = c .before .before .before .before .before .before in
@@ -95,7 +101,7 @@ round-spec =
     (λ c. search needs)
     (λ c. search needs)
     returns-2
-    (λ c κs. search needs)
+    good-values-requires
     meet-all-requires-2
     (λ c κs. search needs)
     (λ c. search needs)

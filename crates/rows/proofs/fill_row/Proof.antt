@@ -16,7 +16,7 @@ abbrev μ-loop : tie.MeasureT-loop
 μ-loop circuit n pattern faults row₀ work₀ j₀ row work j = length row₀ - j
 
 good-values-requires : tie.Need-good-values-requires Inv-loop μ-loop
-good-values-requires c κs = let s = c .before .before .before .before .before .before in record { shaped = shaped (s .pre .well); two = s .pre .two }
+good-values-requires c κs = let s = c .before .before .before .before .before .before in record { shaped = shaped (s .pre .well); small = s .pre .small; two = s .pre .two }
 
 loop-holds : tie.Need-loop-holds Inv-loop μ-loop
 loop-holds c = let s = c .before .before .before .before .before .before .before .before .before in
@@ -38,6 +38,7 @@ fault-entry-requires c κs =
       ordered = ordered (s .pre .well);
       two = so .room;
       line = rw (c .before .read-fault .ensures) (s .pre .lines _ (omega (arith, so .long)));
+      value = rw (c .before .read-fault .ensures) (s .pre .values _ (omega (arith, so .long)));
     }
 
 slice-write-row : tie.Need-slice-write-row Inv-loop μ-loop
@@ -50,7 +51,8 @@ loop-again c =
     let entered = c .before .before in
     let read = entered .before .before in
     let turn = read .before .before in
-    more (turn .loop .inv) (omega (arith, turn .loop .inv .long)) (read .read-fault .ensures) (entered .fault-entry .ensures)
+    let s = turn .before .before .before .before .before .before .before .before .before .before in
+    more (turn .loop .inv) (omega (arith, turn .loop .inv .long)) (read .read-fault .ensures) (s .pre .small) (entered .fault-entry .ensures)
 
 same-length : tie.Need-same-length Inv-loop μ-loop
 same-length c = c .before .loop .inv .long

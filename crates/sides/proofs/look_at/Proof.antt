@@ -8,10 +8,10 @@ use Rattle.sides.proofs.look_at.Tie as tie
 
 returns : tie.Need-returns
 unfolding lookOf lookWork
-returns c s front =
+returns c s small front =
     let f = c .before .before .before .before in
     let a = f .before .before .before .before .args in
-    let all = f .faulty-values .ensures s front in
+    let all = f .faulty-values .ensures s small front in
     record { says = of-halves settled (a .fault) (a .circuit .now) s (a .n) all (c .entry-by .ensures); work = all }
 
 pub look-at-spec : {M : Type 1} → statement M

@@ -15,7 +15,7 @@ returns : tie.Need-returns
 returns c = let s = c .before .before .before .before .before .before .before .before .before .before in
     adds-faulty (s .args .n) (s .args .work .now) (c .before .before .before .before .before .before .copy-half .last .0)
     (c .before .before .simulate-fault .last .1 .1 .0) (s .pre .two) (c .before .before .before .before .before .before .copy-half .ensures)
-    (s .args .fault) (s .args .circuit .now) (c .before .before .simulate-fault .ensures)
+    (s .args .fault) (s .args .circuit .now) (s .pre .value) (c .before .before .simulate-fault .ensures)
 
 pub faulty-values-spec : {M : Type 1} → statement M
 faulty-values-spec =

@@ -17,7 +17,7 @@ slice-aggregate-simulate c = sym (length-take-le _ _ (omega arith))
 simulate-requires : tie.Need-simulate-requires
 simulate-requires c κs =
     let s = c .before .before .before .before in
-    rw (length-take-le (s .args .n) (s .args .work .now) (omega arith)) (s .pre .shaped)
+    rw (length-take-le (s .args .n) (s .args .work .now) (omega arith)) (s .pre .shaped, s .pre .small)
 
 returns : tie.Need-returns
 returns c = let s = c .before .before .before .before .before .before .before in

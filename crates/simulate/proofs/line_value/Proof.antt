@@ -3,13 +3,13 @@
 use native.Mathlib.Omega.{arith}
 use mathlib.Core.Path.{refl}
 use borrow.Author.Needs.{needs}
-use Rattle.simulate.proofs.Line.{input-in, gate-in, source-inside}
+use Rattle.simulate.proofs.Line.{input-in, small-gate-in, source-inside}
 use Rattle.simulate.specs.Simulate.{unforced}
 use Rattle.simulate.proofs.line_value.Statement.{statement}
 use Rattle.simulate.proofs.line_value.Tie as tie
 
 returns : tie.Need-returns
-returns c = input-in unforced _ _ _ (c .before .if1 .taken)
+returns c _ = input-in unforced _ _ _ (c .before .if1 .taken)
 
 shared-slice-read-gate : tie.Need-shared-slice-read-gate
 shared-slice-read-gate c =
@@ -30,12 +30,12 @@ shared-slice-read-gate-3 c =
     rw (c .before .before .before .source3 .ensures) (source-inside (s .pre .0) (s .pre .1) (gate .if1 .left) 3 (omega arith) (omega arith))
 
 returns-2 : tie.Need-returns-2
-returns-2 c =
+returns-2 c small =
     let select = c .before .before .before .before in
     let second = select .before in
     let first = second .before in
-    gate-in unforced _ _ _ (first .before .if1 .left) (rw (first .source .ensures) refl) (rw (second .source2 .ensures) refl)
-    (rw (select .source3 .ensures) refl) (c .gate .ensures)
+    small-gate-in unforced _ _ _ (first .before .if1 .left) (rw (first .source .ensures) refl) (rw (second .source2 .ensures) refl)
+    (rw (select .source3 .ensures) refl) (c .gate .ensures) small
 
 pub line-value-spec : {M : Type 1} → statement M
 line-value-spec =

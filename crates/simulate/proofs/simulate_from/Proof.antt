@@ -1,20 +1,22 @@
--- `simulate::simulate_from` meets its contract. The invariant: under every forcing that leaves these lines alone, the lines passed are settled.
+-- `simulate::simulate_from` meets its contract. The invariant: under every forcing of 0, 1 and X that leaves these lines alone, the lines passed are settled.
 -- Assumes nothing.
 use native.Mathlib.Omega.{arith}
 use lib.ListN.{length}
 use Prim.Native.Nat.{_-_}
+use Rattle.simulate.specs.Owed.{ThreeValued}
+use Rattle.simulate.proofs.Small.{left-small}
 use Rattle.simulate.proofs.Settled.{SoFar, start, more, finished}
 use Rattle.simulate.proofs.simulate_from.Statement.{statement}
 use Rattle.simulate.proofs.simulate_from.Tie as tie
 
 abbrev Inv-loop : tie.InvT-loop
-Inv-loop circuit values₀ start k₀ values k = SoFar circuit values₀ start values k
+Inv-loop circuit values₀ start k₀ values k = SoFar ThreeValued circuit values₀ start values k
 
 abbrev μ-loop : tie.MeasureT-loop
 μ-loop circuit values₀ start k₀ values k = length values₀ - k
 
 loop-holds : tie.Need-loop-holds Inv-loop μ-loop
-loop-holds c = start _ _ _ (c .before .before .pre .1)
+loop-holds c = start ThreeValued _ _ _ (c .before .before .pre .1)
 
 line-value-requires : tie.Need-line-value-requires Inv-loop μ-loop
 line-value-requires c κs =
@@ -26,7 +28,9 @@ slice-write-values c = omega (arith, c .before .before .before .loop .inv .long)
 
 loop-again : tie.Need-loop-again Inv-loop μ-loop
 loop-again c =
-    more (c .before .before .before .loop .inv) (c .before .before .before .before .before .before .pre .0) (omega arith) (c .line-value .ensures)
+    let turn = c .before .before .before in
+    let ordered = turn .before .before .before .pre .0 in
+    more (turn .loop .inv) ordered (omega arith) (λ f p small so left. c .line-value .ensures (left-small small _ (ordered .lower _ (omega arith)) so left))
 
 same-length : tie.Need-same-length Inv-loop μ-loop
 same-length c = c .before .loop .inv .long

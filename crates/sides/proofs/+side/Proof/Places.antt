@@ -131,7 +131,7 @@ module _ (t : ℕ) where
 
   -- the same once the work memory is another of that length
   pub ready-with : (c : Entry) {room : ℕ} → room ≡ length (work c) → SideReady (c .args .circuit .now) (c .args .fault) (c .args .n) room
-  ready-with c same = let r = ready c in record { shaped = r .shaped; line = r .line; looks = r .looks; two = same ∙ r .two }
+  ready-with c same = let r = ready c in record { shaped = r .shaped; line = r .line; value = r .value; looks = r .looks; two = same ∙ r .two }
 
   pub node-at : (c : Entry) → IsNode (inputsBefore (c .args .circuit .now) (c .args .n)) (node c)
   node-at c = c .pre .1 .1
