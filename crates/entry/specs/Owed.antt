@@ -35,6 +35,6 @@ pub record EntryRead (fault : Fault) (c p : List ℕ) (n : ℕ) (work : List ℕ
   pub entry-is : r ≡ entryAt fault c p n
   pub work-is : work ≡ bothOf fault c p n
 
--- where the first half of w has the good values, under whatever pattern
+-- where the first half of w has the good values, under whatever pattern of 0, 1 and X
 abbrev pub FaultEntryDone : Fault → List ℕ → ℕ → List ℕ → List ℕ → ℕ → Type 0
 FaultEntryDone fault c n w w′ r = (p : List ℕ) → AllSmall p → take n w ≡ goodOf c p n → EntryRead fault c p n w′ r

@@ -7,7 +7,7 @@ use mir.Facts.{and-yes}
 use Rattle.ground.specs.Choose.{one}
 use Rattle.ground.specs.Below.{allBelow}
 use Rattle.ground.proofs.Below.{at-below}
-use Rattle.gates.specs.Gate.{lastKind, pinsOf, gateTable, selectorTable, threeOf, gateOf, atPins}
+use Rattle.gates.specs.Gate.{X, lastKind, pinsOf, gateTable, selectorTable, threeOf, gateOf, atPins}
 use Rattle.gates.specs.Words.{notOf, andOf, orOf, xorOf, selectOf, ruleOf}
 use Rattle.gates.specs.Boolean.{boolGate}
 use Rattle.gates.proofs.Table.{tableAt}
@@ -44,6 +44,18 @@ smallTest k a b c = leb (tableAt k a b c) 2
 pub small-all : T (allGates smallTest)
 unfolding smallTest gateTable selectorTable
 small-all = tt
+
+-- ---- two X's at the first two pins give X
+
+unfoldable pub unknownTest : ℕ → ℕ → Bool
+unknownTest k c = eqb (tableAt k X X c) X
+
+unknown-all : T (allBelow (suc lastKind) (λ k. allBelow 3 (unknownTest k)))
+unfolding unknownTest gateTable selectorTable
+unknown-all = tt
+
+pub at-unknown : (k c : ℕ) → k < suc lastKind → c < 3 → T (unknownTest k c)
+at-unknown k c l = at-below 3 (unknownTest k) (at-below (suc lastKind) (λ m. allBelow 3 (unknownTest m)) unknown-all k l) c
 
 -- ---- where each pin that the kind has sees a known value, the gate's value is known
 

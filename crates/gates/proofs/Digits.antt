@@ -42,12 +42,12 @@ looked-up k a b l p q =
 pub by-digit : {k a b : ℕ} (c : ℕ) {number x y r : ℕ}
     → k < selector
     → (a ≤ 2) × (b ≤ 2)
-    → number ≡ blockOf k
     → x ≡ a
     → y ≡ b
+    → number ≡ blockOf k
     → r ≡ digitOf number x y
     → r ≡ gateOf k (atPins a b c)
-by-digit {k} {a} {b} c l small e f g s =
+by-digit {k} {a} {b} c l small f g e s =
     s
     ∙ rw (e, f, g) (looked-up k a b l (omega (arith, small .0)) (omega (arith, small .1)))
     ∙ ap₂ (λ (x y : ℕ). getD gateTable (placeOf k x y) X) (three-own a (small .0)) (three-own b (small .1))

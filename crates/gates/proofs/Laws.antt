@@ -9,11 +9,11 @@ use lib.Dec.{T, leb, eqb, leb→le, ltb→lt, eqb→eq}
 use borrow.Author.Tests.{eq-eqb, ne-eqb, lt-leb, leb-true, leb-false}
 use Rattle.ground.specs.Choose.{choose, one}
 use Rattle.ground.proofs.Tests.{either, one-same}
-use Rattle.gates.specs.Gate.{lastKind, selector, pinsOf, threeOf, gateOf, Refines}
+use Rattle.gates.specs.Gate.{X, lastKind, selector, pinsOf, threeOf, gateOf, atPins, Refines}
 use Rattle.gates.specs.Boolean.{boolGate}
 use Rattle.gates.proofs.Values.{three-small, three-known, three-refines}
 use Rattle.gates.proofs.Table.{other}
-use Rattle.gates.proofs.Computed.{at-gates, smallTest, small-all, seesX, knownTest, known-all, refines, pinRefines, refineTest, at-refined, boolTest, at-booleans}
+use Rattle.gates.proofs.Computed.{at-gates, smallTest, small-all, unknownTest, at-unknown, seesX, knownTest, known-all, refines, pinRefines, refineTest, at-refined, boolTest, at-booleans}
 
 -- at each pin that the kind has
 abbrev pub AtPins : ℕ → (ℕ → Type 0) → Type 0
@@ -58,6 +58,12 @@ gate-small k v =
     (λ l. leb→le _ 2 (at-gates smallTest small-all k _ _ _ l (three-small (v 1)) (three-small (v 2)) (three-small (v 3))))
     (λ l. omega (arith, other k v l))
     (either k (suc lastKind))
+
+-- of two X's every kind makes X, a selector whatever its select sees
+pub gate-unknown : (k c : ℕ) → gateOf k (atPins X X c) ≡ X
+unfolding unknownTest gateOf threeOf
+gate-unknown k c =
+    ⊎-elim (λ l. eqb→eq _ _ (at-unknown k (threeOf c) l (three-small c))) (other k (atPins X X c)) (either k (suc lastKind))
 
 -- known values at its pins give a known value
 pub gate-known : (k : ℕ) (v : ℕ → ℕ) → 1 ≤ k → k ≤ lastKind → AtPins k (λ s. v s < 2) → gateOf k v < 2

@@ -41,13 +41,11 @@ third-clip : (k a b c : ℕ) → ruleOf k (atPins a b (suc (suc c))) ≡ ruleOf 
 unfolding ruleOf selectOf
 third-clip k a b c = simp (not0 c, not1 c)
 
-sources-clip : (k a b c : ℕ) → ruleOf k (atPins a b c) ≡ ruleOf k (atPins (threeOf a) (threeOf b) c)
-sources-clip k a b c =
+values-clip : (k a b c : ℕ) → ruleOf k (atPins a b c) ≡ ruleOf k (atPins (threeOf a) (threeOf b) (threeOf c))
+values-clip k a b c =
     clip (λ (x : ℕ). ruleOf k (atPins x b c)) (first-clip k b c) a
     ∙ clip (λ (y : ℕ). ruleOf k (atPins (threeOf a) y c)) (second-clip k (threeOf a) c) b
-
-values-clip : (k a b c : ℕ) → ruleOf k (atPins a b c) ≡ ruleOf k (atPins (threeOf a) (threeOf b) (threeOf c))
-values-clip k a b c = sources-clip k a b c ∙ clip (λ (z : ℕ). ruleOf k (atPins (threeOf a) (threeOf b) z)) (third-clip k (threeOf a) (threeOf b)) c
+    ∙ clip (λ (z : ℕ). ruleOf k (atPins (threeOf a) (threeOf b) z)) (third-clip k (threeOf a) (threeOf b)) c
 
 clipped : (k : ℕ) (v : ℕ → ℕ) → ruleOf k v ≡ ruleOf k (atPins (threeOf (v 1)) (threeOf (v 2)) (threeOf (v 3)))
 unfolding ruleOf
@@ -78,7 +76,7 @@ in-words k v =
     (λ l. other k v l ∙ sym (no-rule k v l))
     (either k (suc lastKind))
 
--- so the selector
+-- so a selector's value is that of its words
 pub by-select : (a b c : ℕ) {k r : ℕ} → k ≡ selector → r ≡ selectOf a b c → r ≡ gateOf k (atPins a b c)
 unfolding ruleOf
 by-select a b c e s = s ∙ rw e (sym (in-words selector (atPins a b c)))

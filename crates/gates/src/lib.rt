@@ -32,7 +32,7 @@ pub fn pins(kind: u8) -> usize
 }
 
 // The table of the kinds with at most two pins. A kind has sixteen digits in four rows: its first pin chooses the row, its second the digit in it, each
-// in the order 0, 1, X. 2 is X. A fourth row and a fourth digit in each, which say X once more, make the way to a digit short.
+// in the order 0, 1, X. 2 is X. A fourth row and a fourth digit in each, which are for X once more, make the way to a digit short.
 fn block(kind: u8) -> u64
     ensures { λ r. ⌜ r ≡ blockOf kind ⌝ }
 {
@@ -57,7 +57,7 @@ fn digit(block: u64, row: usize, place: usize) -> u8
     requires { ⌜ (row ≤ 255) × (place ≤ 255) ⌝ }
     ensures { λ r. ⌜ r ≡ digitOf block row place ⌝ }
 {
-    // four bits a digit, four digits a row; beyond the block it starts again
+    // four bits a digit, four digits a row; modulo 64, so that the shift has its bound whatever row and place are (docs/DECISIONS.md, 60)
     let before = (16 * row + 4 * place) % 64;
     (block << before >> 60) as u8
 }
@@ -79,14 +79,20 @@ fn selected(first: u8, second: u8, select: u8) -> u8
     first
 }
 
-// The value of a gate whose pins see a, b and c, where the first two see 0, 1 or X: no line of an accepted circuit has another value, so none is looked
-// for. A kind takes no notice of what is at a pin that it lacks.
+// The value of a gate for a, b and c at its pins, where a and b are 0, 1 or X; numbers above 2 are not looked for, as simulation brings none. Which of
+// these values is at a pin that the kind lacks makes no difference.
 pub fn gate(kind: u8, a: u8, b: u8, c: u8) -> u8
     ensures { λ r. ⌜ (SourcesSmall kind a b → r ≡ gateOf kind (atPins a b c)) ⌝ }
 {
-    // tested first, so that a kind of at most two pins has this test alone
+    let first = wide(a);
+    let second = wide(b);
+    // two X's, which alone have this sum, give X whatever the kind is; where most lines are X the processor foresees that, and waits for no line below
+    if first + second == 4 {
+        return X;
+    }
+    // tested before the other kinds, so that those of at most two pins have this test alone
     if kind < SELECTOR {
-        return digit(block(kind), wide(a), wide(b));
+        return digit(block(kind), first, second);
     }
     if SELECTOR < kind {
         return X;

@@ -38,8 +38,8 @@ pub record MeetDone (alone : Bool) (c : List ℕ) (fault : Fault) (n : ℕ) (s :
 
 -- ---- a list of faults at one node
 
--- a circuit of n lines, faults on them, of which a node without X always says something, a budget for each, and room for the outcome, the count and the
--- test of each and for two values a line
+-- a circuit of n lines, faults on them that are stuck at 0 or 1, of which a node without X always says something, a budget for each, and room for the
+-- outcome, the count and the test of each and for two values a line
 pub record ListReady (c fs : List ℕ) (n inputs budgets outcomes counts tests room : ℕ) : Type 0 where
   pub shaped : Shaped c inputs n
   pub faults : 8 * outcomes ≤ length fs

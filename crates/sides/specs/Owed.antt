@@ -12,7 +12,7 @@ use Rattle.nodes.specs.Node.{Node}
 use Rattle.nodes.specs.Walk.{Looks}
 use Rattle.sides.specs.Look.{lookOf, lookWork}
 
--- a circuit of n lines, a fault on one of them, of which a node without X always says something, and room for two values a line
+-- a circuit of n lines, a fault on one of them that is stuck at 0 or 1, of which a node without X always says something, and room for two values a line
 pub record SideReady (c : List ℕ) (fault : Fault) (n room : ℕ) : Type 0 where
   pub shaped : Shaped c (inputsBefore c n) n
   pub line : fault .line < n
@@ -24,6 +24,6 @@ pub record VisitDone (fault : Fault) (c : List ℕ) (n : ℕ) (s : Node) (r : �
   pub says : r ≡ lookOf fault c n s
   pub work : w′ ≡ lookWork fault c n s
 
--- where the first half of w has the good values of whatever node
+-- where the first half of w has the good values of whatever node of 0, 1 and X
 abbrev pub LookDone : Fault → List ℕ → ℕ → List ℕ → ℕ → List ℕ → Type 0
 LookDone fault c n w r w′ = (s : Node) → AllSmall s → take n w ≡ goodOf c s n → VisitDone fault c n s r w′

@@ -1,4 +1,4 @@
--- The two halves of the work memory: the second gets what the first has, and is lentHalf to get the faulty values.
+-- The two halves of the work memory: the second gets what the first has, and is lent to get the faulty values.
 -- Assumes nothing.
 use mathlib.Core.Path.{_≡_, refl, sym, ap, _∙_}
 use mathlib.Core.List.{List, _++_, append-nil}
@@ -44,9 +44,9 @@ module _ {n k : ℕ} {w₀ w : List ℕ} (two : length w₀ ≡ n + n) (so : SoF
       let half : length (drop n w) ≡ n = rw (length-drop n w) (omega (arith, so .long)) in
       sym (take-append-drop n w) ∙ rw (so .first, ← take-all k (drop n w) (omega arith), so .second, e)
 
--- ---- the second half, lentHalf
+-- ---- the second half, lent
 
--- what is lentHalf of w, and what the whole holds when u has come back
+-- what is lent of w, and what the whole holds when u has come back
 abbrev pub lentHalf : ℕ → List ℕ → List ℕ
 lentHalf n w = take (length w - n) (drop n w)
 

@@ -20,7 +20,7 @@ use Rattle.simulate.specs.Owed.{AllSmall, PinsSmall, SimulatedTo, ThreeV
 
 -- ---- lists of such values
 
--- whatever stands at the places that a list has, there is a 0 beyond them
+-- it is enough to look at the places that a list has: beyond them there is a 0
 pub all-small : (vs : List ℕ) → ((i : ℕ) → i < length vs → getD vs i 0 ≤ 2) → AllSmall vs
 all-small vs h i = ⊎-elim (h i) (λ l. omega (arith, List·getD-eq-default vs 0 l)) (either i (length vs))
 

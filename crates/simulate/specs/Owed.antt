@@ -35,7 +35,7 @@ pub record GoodValuesReady (c p : List ℕ) (n room : ℕ) : Type 0 where
   pub small : AllSmall p
   pub two : room ≡ n + n
 
--- the circuit with a fault on one of the lines
+-- the same circuit and room, and a fault on one of the lines, which is stuck at 0 or 1
 pub record FaultyValuesReady (c : List ℕ) (fault : Fault) (n room : ℕ) : Type 0 where
   pub ordered : Ordered c n
   pub two : room ≡ n + n
@@ -92,6 +92,6 @@ abbrev pub SimulateFaultDone : Scope → Fault → List ℕ → List ℕ → Lis
 SimulateFaultDone scope fault c vs vs′ =
     (p : List ℕ) → scope (stuckAt fault) p → vs ≡ goodOf c p (length vs) → vs′ ≡ faultyOf fault c p (length vs)
 
--- where the first half of w has the good values, w′ has these and then the faulty ones
+-- where the first half of w has the good values, under whatever pattern of 0, 1 and X, w′ has these and then the faulty ones
 abbrev pub FaultyValuesDone : Fault → List ℕ → ℕ → List ℕ → List ℕ → Type 0
 FaultyValuesDone fault c n w w′ = (p : List ℕ) → AllSmall p → take n w ≡ goodOf c p n → w′ ≡ bothOf fault c p n

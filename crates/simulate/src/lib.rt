@@ -1,5 +1,6 @@
 // Simulation with three values: the values of all lines, of the good circuit and of one with a single stuck-at fault.
-// The loop over the lines knows no fault: the faulty circuit is simulated from the line after the fault's on.
+// The loop over the lines knows no fault: the faulty circuit is simulated from the line after the fault's on. All is said of patterns and stuck values
+// that are 0, 1 or X, which every caller has; under others the gates give no value that is promised.
 use circuit::equal;
 use circuit::source;
 use gates::gate;

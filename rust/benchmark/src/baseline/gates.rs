@@ -1,4 +1,4 @@
-//! The gate rule in Rust: by branches over the kind, and as a table.
+//! The gate rule in Rust: by branches over the kind, and as a table whose rows are digits of a number, as the proved code has it.
 
 pub trait Gates {
     /// The value of a gate whose pins see `a` and `b`.
@@ -68,32 +68,32 @@ impl Gates for Branches {
     }
 }
 
-/// By kind, the first source and the second.
-const TABLE: [[[u8; 3]; 3]; 9] = [
-    [[2, 2, 2], [2, 2, 2], [2, 2, 2]], // input
-    [[0, 0, 0], [1, 1, 1], [2, 2, 2]], // buffer
-    [[1, 1, 1], [0, 0, 0], [2, 2, 2]], // NOT
-    [[0, 0, 0], [0, 1, 2], [0, 2, 2]], // AND
-    [[1, 1, 1], [1, 0, 2], [1, 2, 2]], // NAND
-    [[0, 1, 2], [1, 1, 1], [2, 1, 2]], // OR
-    [[1, 0, 2], [0, 0, 0], [2, 0, 2]], // NOR
-    [[0, 1, 2], [1, 0, 2], [2, 2, 2]], // XOR
-    [[1, 0, 2], [0, 1, 2], [2, 2, 2]], // XNOR
+/// By kind: a row of digits for each value of the first source, a digit in it for each of the second.
+const TABLE: [u64; 9] = [
+    0x2222_2222_2222_2222, // input
+    0x0000_1111_2222_2222, // buffer
+    0x1111_0000_2222_2222, // NOT
+    0x0000_0122_0222_0222, // AND
+    0x1111_1022_1222_1222, // NAND
+    0x0122_1111_2122_2122, // OR
+    0x1022_0000_2022_2022, // NOR
+    0x0122_1022_2222_2222, // XOR
+    0x1022_0122_2222_2222, // XNOR
 ];
 
-/// By the select, the first source and the second.
-const SELECTED: [[[u8; 3]; 3]; 3] = [
-    [[0, 0, 0], [1, 1, 1], [2, 2, 2]], // 0
-    [[0, 1, 2], [0, 1, 2], [0, 1, 2]], // 1
-    [[0, 2, 2], [2, 1, 2], [2, 2, 2]], // X
-];
+/// By the select.
+const SELECTED: [u64; 3] = [0x0000_1111_2222_2222, 0x0122_0122_0122_0122, 0x0222_2122_2222_2222];
+
+fn digit(block: u64, a: u8, b: u8) -> u8 {
+    (block.wrapping_shl(16 * u32::from(a) + 4 * u32::from(b)) >> 60) as u8
+}
 
 impl Gates for Table {
     fn value(kind: u8, a: u8, b: u8) -> u8 {
-        TABLE.get(kind as usize).map_or(2, |rows| rows[a.min(2) as usize][b.min(2) as usize])
+        TABLE.get(kind as usize).map_or(2, |&block| digit(block, a, b))
     }
 
     fn selected(a: u8, b: u8, select: u8) -> u8 {
-        SELECTED[select.min(2) as usize][a.min(2) as usize][b.min(2) as usize]
+        digit(SELECTED[select.min(2) as usize], a, b)
     }
 }
