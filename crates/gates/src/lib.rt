@@ -90,7 +90,7 @@ pub fn gate(kind: u8, a: u8, b: u8, c: u8) -> u8
     if first + second == 4 {
         return X;
     }
-    // tested before the other kinds, so that those of at most two pins have this test alone
+    // tested before the other kinds, so that those of at most two pins have no other test of their kind
     if kind < SELECTOR {
         return digit(block(kind), first, second);
     }

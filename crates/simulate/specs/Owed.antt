@@ -25,7 +25,7 @@ pub record Shaped (c : List ℕ) (inputs n : ℕ) : Type 0 where
   pub ordered : Ordered c n
   pub inputs-are : inputsBefore c n ≡ inputs
 
--- each of them 0, 1 or X
+-- each value of a list is 0, 1 or X
 abbrev pub AllSmall : List ℕ → Type 0
 AllSmall vs = (i : ℕ) → getD vs i 0 ≤ 2
 

@@ -1,6 +1,6 @@
 -- `gates::gate` meets its contract: two X's give X, a kind's digit is the value of its table, and a selector goes by the rule in words.
 -- Assumes nothing.
-use mathlib.Core.Path.{_≡_, sym, _∙_}
+use mathlib.Core.Path.{_≡_, sym}
 use mathlib.Core.Logic.{⊎-elim}
 use Prim.Native.Nat.{ℕ, suc, _+_, _<_}
 use native.Mathlib.Omega.{arith}

@@ -1,4 +1,4 @@
--- `simulate::simulate_from` meets its contract. The invariant: under every forcing of 0, 1 and X that leaves these lines alone, the lines passed are settled.
+-- `simulate::simulate_from` meets its contract. The invariant: under every pattern and forcing of 0, 1 and X that leaves these lines alone, the lines passed are settled.
 -- Assumes nothing.
 use native.Mathlib.Omega.{arith}
 use lib.ListN.{length}
