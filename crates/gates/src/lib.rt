@@ -86,7 +86,7 @@ pub fn gate(kind: u8, a: u8, b: u8, c: u8) -> u8
 {
     let first = wide(a);
     let second = wide(b);
-    // two X's, which alone have this sum, give X whatever the kind is; where most lines are X the processor foresees that, and waits for no line below
+    // two X's, which alone have this sum, give X whatever the kind is; told first for circuits whose gates read the lines just below (docs/DECISIONS.md, 60)
     if first + second == 4 {
         return X;
     }
