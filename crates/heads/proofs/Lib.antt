@@ -1,0 +1,4 @@
+pub mod Pins
+pub mod Forest
+pub mod Says
+pub mod Fewer

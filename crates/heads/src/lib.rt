@@ -1,0 +1,1 @@
+// Bound lines, free lines and head lines: definitions and what is so of them.
