@@ -1,0 +1,5 @@
+pub mod Needs
+pub mod OneNeed
+pub mod Lines
+pub mod Only
+pub mod Tree

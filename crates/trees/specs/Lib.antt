@@ -1,0 +1,2 @@
+pub mod Need
+pub mod Setting
