@@ -1,0 +1,4 @@
+pub mod Needs
+pub mod Lines
+pub mod Heads
+pub mod Inputs

@@ -1,0 +1,40 @@
+use borrow.Author.Tests.{eq-eqb, ne-eqb}
+use Rattle.setting.specs.Owed.{inputPut}
+use borrow.Author.Needs.{needs}
+use Rattle.setting.proofs.put_input.Statement.{statement}
+use Rattle.setting.proofs.put_input.Tie as tie
+
+mul-if1 : tie.Need-mul-if1
+mul-if1 c = search needs
+
+shared-slice-read-if1 : tie.Need-shared-slice-read-if1
+shared-slice-read-if1 c = search needs
+
+shared-slice-read-test : tie.Need-shared-slice-read-test
+shared-slice-read-test c = search needs
+
+slice-write-test : tie.Need-slice-write-test
+slice-write-test c = c .before .before .before .pre .input (c .before .if1 .taken)
+
+same-length : tie.Need-same-length
+same-length c = search needs
+
+returns : tie.Need-returns
+unfolding inputPut
+returns c = simp (eq-eqb _ _ (c .before .if1 .taken))
+
+returns-2 : tie.Need-returns-2
+unfolding inputPut
+returns-2 c = simp (ne-eqb _ _ (c .if1 .left))
+
+pub put-input-spec : {M : Type 1} → statement M
+put-input-spec =
+    tie.close
+    (tie.spec
+    mul-if1
+    shared-slice-read-if1
+    shared-slice-read-test
+    slice-write-test
+    same-length
+    returns
+    returns-2)
