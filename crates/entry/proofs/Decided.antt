@@ -21,7 +21,7 @@ use Rattle.entry.proofs.Words.{Passes, entry-words}
 
 module _ {t : Test} {P : ℕ → ℕ → Type 0} (passes : Passes t P) where
   -- known values at every output differ at one, or agree at all
-  known-decided : (c g f : List ℕ) (n : ℕ) → ((k : ℕ) → k < n → (getD g k 0 < 2) × (getD f k 0 < 2)) → entryBy t c g f n ≡ unknown → ⊥
+  pub known-decided : (c g f : List ℕ) (n : ℕ) → ((k : ℕ) → k < n → outAt c k ≡ 1 → (getD g k 0 < 2) × (getD f k 0 < 2)) → entryBy t c g f n ≡ unknown → ⊥
   known-decided c g f n known e =
       omega (arith, words .is-pass (λ k l out. passes .covers _ _ (go k l out (ℕ-discrete (getD g k 0) (getD f k 0)))))
     where
@@ -29,10 +29,11 @@ module _ {t : Test} {P : ℕ → ℕ → Type 0} (passes : Passes t P) where
       words = entry-words passes c g f n
 
       go : (k : ℕ) → k < n → outAt c k ≡ 1 → Dec (getD g k 0 ≡ getD f k 0) → Agree (getD g k 0) (getD f k 0)
-      go k l out (yes q) = record { good-known = known k l .0; faulty-known = known k l .1; equal = q }
+      go k l out (yes q) = let both = known k l out in record { good-known = both .0; faulty-known = both .1; equal = q }
       go k l out (no d) =
+          let both = known k l out in
           let there : SomeOutput Differ c g f n =
-          (k, record { inside = l; output = out; holds = record { good-known = known k l .0; faulty-known = known k l .1; differ = d } }) in
+          (k, record { inside = l; output = out; holds = record { good-known = both .0; faulty-known = both .1; differ = d } }) in
           absurd (omega (arith, words .is-fail there))
 
   pub decided : (fault : Fault) (c p : List ℕ) (n : ℕ)
@@ -43,7 +44,7 @@ module _ {t : Test} {P : ℕ → ℕ → Type 0} (passes : Passes t P) where
       → ⊥
   decided fault c p n small well full =
       known-decided c (goodOf c p n) (faultyOf fault c p n) n
-      (λ k l. (
+      (λ k _ _. (
         values-known unforced (unforced-keeps 2) c p n well full k,
         values-known (stuckAt fault) (stuck-keeps 2 fault (omega arith)) c p n well full k,
       ))

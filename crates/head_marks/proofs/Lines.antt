@@ -24,23 +24,18 @@ use Rattle.reads.specs.Reads.{readsOf, branches}
 use Rattle.reads.specs.Owed.{Counted}
 use Rattle.reads.proofs.Counted.{counted-branches}
 use Rattle.heads.specs.Heads.{somePin, bound, readByBound, head}
-use Rattle.heads.specs.Marks.{Marked}
+use Rattle.heads.specs.Marks.{markOf, Marked}
 use Rattle.heads.proofs.Pins.{pin-lower}
 use Rattle.heads.proofs.Forest.{bound-law}
 use Rattle.heads.proofs.Says.{head-is}
 use Rattle.head_marks.specs.Owed.{binds, markBy, MarkedBy, SourcesMarked, MarkedTo, LineReady, MarkLineDone, MarkReady}
 use Rattle.head_marks.proofs.Pins.{marked-as}
 
--- a mark says which is so
+-- 2 is for bound lines
 is-two : (b r : Bool) → eqb (markBy b r) 2 ≡ b
 is-two true r = refl
 is-two false true = refl
 is-two false false = refl
-
-is-one : (b r : Bool) → eqb (markBy b r) 1 ≡ (not b && r)
-is-one true r = refl
-is-one false true = refl
-is-one false false = refl
 
 -- whether a line had its turn, with one turn more
 turn-other : (j k : ℕ) → (j ≡ k → ⊥) → ltb j k ≡ ltb j (suc k)
@@ -112,12 +107,15 @@ module _ {c reads₀ reads marks₀ marks : List ℕ} {k : ℕ} (p : MarkReady c
   }
 
   pub all-marked : length marks ≤ k → Marked c (length marks₀) marks
-  unfolding readByBound
+  unfolding readByBound markOf
   all-marked l =
       let e : k ≡ length marks₀ = omega (arith, so .at-most, so .long) in
       let m : MarkedTo c (length marks₀) (length marks₀) marks = rw e at (so .marked) in
       record {
         long = so .long;
-        bounds = λ j h. rw (m .are j h, lt-ltb j (length marks₀) h) (is-two (bound c (length marks₀) j) (readByBound c (length marks₀) j));
-        heads = λ j h. rw (m .are j h, lt-ltb j (length marks₀) h) (is-one (bound c (length marks₀) j) (readByBound c (length marks₀) j) ∙ head-is (p .well) j);
+        are = λ j h. rw (m .are j h, lt-ltb j (length marks₀) h, ← head-is (p .well) j) (go (bound c (length marks₀) j) (readByBound c (length marks₀) j));
       }
+    where
+      go : (b r : Bool) → markBy b r ≡ choose b 2 (one (not b && r))
+      go true r = refl
+      go false r = refl

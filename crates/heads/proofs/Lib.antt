@@ -2,3 +2,4 @@ pub mod Pins
 pub mod Forest
 pub mod Says
 pub mod Fewer
+pub mod Marks

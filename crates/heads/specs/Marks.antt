@@ -1,13 +1,16 @@
--- Marks of the lines in memory, one byte a line: 2 bound, 1 head line, 0 another free line.
+-- Marks of the lines in memory, one byte a line.
 -- Assumes nothing.
 use mathlib.Core.Path.{_≡_}
 use mathlib.Core.List.{List}
 use Prim.Native.Nat.{ℕ, _<_}
-use lib.Dec.{eqb}
 use lib.ListN.{length, getD}
+use Rattle.ground.specs.Choose.{choose, one}
 use Rattle.heads.specs.Heads.{bound, head}
+
+-- 2 bound, 1 head line, 0 another free line
+unfoldable pub markOf : List ℕ → ℕ → ℕ → ℕ
+markOf c n k = choose (bound c n k) 2 (one (head c n k))
 
 pub record Marked (c : List ℕ) (n : ℕ) (marks : List ℕ) : Type 0 where
   pub long : length marks ≡ n
-  pub bounds : (k : ℕ) → k < n → eqb (getD marks k 0) 2 ≡ bound c n k
-  pub heads : (k : ℕ) → k < n → eqb (getD marks k 0) 1 ≡ head c n k
+  pub are : (k : ℕ) → k < n → getD marks k 0 ≡ markOf c n k

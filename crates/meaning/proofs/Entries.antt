@@ -46,7 +46,7 @@ module _ (fault : Fault) (small : fault .value ≤ 1) (c p : List ℕ) (n : ℕ)
       record {
         line = w .0;
         compared = record { inside = w .1 .inside; output = eq-eqb _ _ (w .1 .output); known = w .1 .holds .good-known };
-        differ = λ x fills. differ-truths fault small c p n well x fills (w .0) (w .1 .holds);
+        differ = λ x fills. differ-truths fault small c p n (well .inputs-are) x fills (w .0) (w .1 .holds);
       }
 
   each : entryAt fault c p n ≡ fail → (x : Vector) → Fills p x → Detects c fault n x
@@ -58,7 +58,7 @@ module _ (fault : Fault) (small : fault .value ≤ 1) (c p : List ℕ) (n : ℕ)
   unfolding entryAt
   clears-is e x fills k h =
       let all = pass-every expected-passes c (goodOf c p n) (faultyOf fault c p n) n e in
-      agree-truths fault small c p n well x fills k (all k (h .inside) (eqb-true _ _ (h .output)) (h .known))
+      agree-truths fault small c p n (well .inputs-are) x fills k (all k (h .inside) (eqb-true _ _ (h .output)) (h .known))
 
   decided-is : NoX p → entryAt fault c p n ≡ unknown → ⊥
   unfolding entryAt

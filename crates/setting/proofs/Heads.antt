@@ -15,6 +15,7 @@ use Rattle.ground.specs.Lists.{grow, table}
 use Rattle.ground.proofs.Counting.{count-suc, count-most, count-below}
 use Rattle.heads.specs.Heads.{head, headsBefore, headsOf}
 use Rattle.heads.specs.Marks.{Marked}
+use Rattle.heads.proofs.Marks.{heads}
 use Rattle.trees.specs.Setting.{headValue}
 use Rattle.setting.specs.Owed.{HeadReady, headOr}
 
@@ -36,7 +37,7 @@ module _ {c node w₀ w marks : List ℕ} {k used : ℕ} (marked : Marked c (len
   pub head-ready : length node ≡ headsOf c (length w₀) → k < length w₀ → HeadReady marks node k used
   head-ready e l = record {
     line = omega (arith, marked .long);
-    head = λ q. omega (arith, so .used-is, count-below (head c (length w₀)) k (length w₀) l (sym (marked .heads k l) ∙ eq-eqb _ 1 q));
+    head = λ q. omega (arith, so .used-is, count-below (head c (length w₀)) k (length w₀) l (sym (heads marked k l) ∙ eq-eqb _ 1 q));
   }
 
   pub next-head : {v x : ℕ} → k < length w₀ → v ≡ headOr marks node k used → x ≡ one (eqb (getD marks k 0) 1) → Heads c node w₀ (set w k v) (k + 1) (used + x)
@@ -44,8 +45,8 @@ module _ {c node w₀ w marks : List ℕ} {k used : ℕ} (marked : Marked c (len
   next-head {v} {x} l e q = record {
     at-most = omega arith;
     long = length-set w k v ∙ so .long;
-    used-is = rw (add-one k, count-suc k (head c (length w₀)), ← so .used-is, q, marked .heads k l);
-    are = rw (add-one k, take-suc-set w k v (omega (arith, so .long)), so .are, e, marked .heads k l, so .used-is);
+    used-is = rw (add-one k, count-suc k (head c (length w₀)), ← so .used-is, q, heads marked k l);
+    are = rw (add-one k, take-suc-set w k v (omega (arith, so .long)), so .are, e, heads marked k l, so .used-is);
   }
 
   pub all-heads : length w₀ ≤ k → w ≡ table (headValue c (length w₀) node) (length w₀)

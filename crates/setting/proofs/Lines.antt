@@ -11,6 +11,7 @@ use Rattle.gates.specs.Gate.{pinsOf}
 use Rattle.gates.proofs.Laws.{few-pins}
 use Rattle.circuit.specs.Record.{kindAt, pinAt}
 use Rattle.heads.specs.Marks.{Marked}
+use Rattle.heads.proofs.Marks.{bounds}
 use Rattle.trees.specs.Need.{needOf}
 use Rattle.trees.specs.Setting.{putPins, setLine, setBelow}
 
@@ -55,11 +56,11 @@ module _ {c : List ℕ} {k v : ℕ} {w₀ : List ℕ} {kind has : ℕ} {w : List
 module _ {c : List ℕ} (w : List ℕ) {marks : List ℕ} {k : ℕ} (marked : Marked c (length w) marks) (l : k < length w) where
   pub line-bound : getD marks k 0 ≡ 2 → w ≡ setLine c (length w) k w
   unfolding setLine
-  line-bound e = rw (sym (marked .bounds k l) ∙ eq-eqb _ 2 e)
+  line-bound e = rw (sym (bounds marked k l) ∙ eq-eqb _ 2 e)
 
   pub line-free : {w′ : List ℕ} → (getD marks k 0 ≡ 2 → ⊥) → w′ ≡ putPins c k (getD w k 0) (pinsOf (kindAt c k)) w → w′ ≡ setLine c (length w) k w
   unfolding setLine
-  line-free d e = e ∙ rw (sym (marked .bounds k l) ∙ ne-eqb _ 2 d)
+  line-free d e = e ∙ rw (sym (bounds marked k l) ∙ ne-eqb _ 2 d)
 
 -- ---- the lines: those from k on are done
 

@@ -1,0 +1,1 @@
+// The circuit cut at its head lines, and that it does what the circuit does.
