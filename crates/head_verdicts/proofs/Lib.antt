@@ -1,0 +1,3 @@
+pub mod Known
+pub mod Look
+pub mod Verdicts
