@@ -1,3 +1,4 @@
 pub mod Sums
 pub mod Pins
 pub mod Counted
+pub mod Sourced

@@ -1,0 +1,33 @@
+use mathlib.Core.Path.{refl}
+use borrow.Author.Needs.{needs}
+use Rattle.search_heads.proofs.Running.{copy-room, lines-ready, search-ready}
+use Rattle.search_heads.proofs.run_cut.Statement.{statement}
+use Rattle.search_heads.proofs.run_cut.Tie as tie
+
+copy-requires : tie.Need-copy-requires
+copy-requires c κs = copy-room (c .before .before .before .before .before .before .before .before .pre)
+
+cut-lines-requires : tie.Need-cut-lines-requires
+cut-lines-requires c κs =
+    let s = c .before .before .before .before .before .before .before .before .before .before .before .before in
+    lines-ready (s .pre) (s .args .lines .now) refl (c .before .before .before .copy .ensures .1)
+
+search-cut-requires : tie.Need-search-cut-requires
+search-cut-requires c κs = search-ready (c .before .before .before .before .before .before .before .before .before .before .before .before .before .before .before .before .before .before .before .before .pre) (c .before .before .before .before .before .before .before .cut-lines .ensures)
+
+returns : tie.Need-returns
+returns c = c .before .before .before .before .before .before .before .before .search-cut .ensures
+
+pub run-cut-spec : {M : Type 1} → statement M
+run-cut-spec =
+    tie.close
+    (tie.spec
+    copy-requires
+    cut-lines-requires
+    search-cut-requires
+    (λ c. search needs)
+    (λ c. search needs)
+    (λ c. search needs)
+    (λ c. search needs)
+    (λ c. search needs)
+    returns)
