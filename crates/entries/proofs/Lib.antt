@@ -1,3 +1,4 @@
 pub mod OneResult
 pub mod Engines
 pub mod Lent
+pub mod Found

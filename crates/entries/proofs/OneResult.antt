@@ -5,8 +5,9 @@ use mathlib.Core.List.{List}
 use Prim.Native.Nat.{ℕ}
 use Rattle.answers.specs.Rules.{Rule}
 use Rattle.answers.specs.Area.{Numbers}
+use Rattle.nodes.specs.declared.Verdict.{Verdict}
 use Rattle.replies.proofs.Entered.{one-return}
-use Rattle.entries.specs.Entries.{EngineEntered, LentEntered, SearchEntered, SearchAllEntered}
+use Rattle.entries.specs.Entries.{EngineEntered, LentEntered, FoundEntered, SearchAllEntered}
 
 -- of either engine
 module _ {places : ℕ} {left c fs ps t w a : List ℕ} {r s : ℕ} {t₁ w₁ a₁ t₂ w₂ a₂ : List ℕ} where
@@ -23,14 +24,15 @@ module _ {A : Type 0} {rules : List Rule} {good : Numbers} {m new : List A} {a :
   pub one-lent : LentEntered rules good m new a r m₁ a₁ → LentEntered rules good m new a s m₂ a₂ → (r ≡ s) × (m₁ ≡ m₂) × (a₁ ≡ a₂)
   one-lent p q = let o = one-return (p .answer) (q .answer) in (o .0, p .lent ∙ sym (q .lent), o .1)
 
-module _ {c f : List ℕ} {b : ℕ} {t w a : List ℕ} {r s : ℕ} {t₁ w₁ a₁ t₂ w₂ a₂ : List ℕ} where
+-- of either search for one fault
+module _ {rules : List Rule} {found : Verdict} {t test w work a : List ℕ} {r s : ℕ} {t₁ w₁ a₁ t₂ w₂ a₂ : List ℕ} where
   pub one-found :
-      SearchEntered c f b t w a r t₁ w₁ a₁
-      → SearchEntered c f b t w a s t₂ w₂ a₂
+      FoundEntered rules found t test w work a r t₁ w₁ a₁
+      → FoundEntered rules found t test w work a s t₂ w₂ a₂
       → (r ≡ s) × (t₁ ≡ t₂) × (w₁ ≡ w₂) × (a₁ ≡ a₂)
   one-found p q =
       let o = one-return (p .answer) (q .answer) in
-      (o .0, p .test ∙ sym (q .test), p .work ∙ sym (q .work), o .1)
+      (o .0, p .test-is ∙ sym (q .test-is), p .work-is ∙ sym (q .work-is), o .1)
 
 module _ {c fs bs o k t w a : List ℕ} {r s : ℕ} {o₁ k₁ t₁ w₁ a₁ o₂ k₂ t₂ w₂ a₂ : List ℕ} where
   pub one-list :

@@ -18,7 +18,9 @@ use Rattle.tables.specs.Marks.{keptRules}
 use Rattle.lists.specs.Faults.{faultAt}
 use Rattle.needs.specs.Needs as needs
 use Rattle.findings.specs.Findings.{findingOf, findingNumbers}
+use Rattle.nodes.specs.declared.Verdict.{Verdict}
 use Rattle.search.specs.Promise.{searchRules, verdictFor, testFor, workFor, verdictNumbers}
+use Rattle.search_heads.specs.Promise.{headVerdictFor, headTestFor, headWorkFor}
 use Rattle.list_search.specs.Works.{worksFor}
 use Rattle.search_all.specs.Promise.{outcomesFor, countsFor, testsFor, searchAllRules}
 use Rattle.line_clauses.specs.Clauses.{variablesOf}
@@ -61,11 +63,22 @@ CompactEntered F P t m a r m′ a′ = LentEntered (keptRules F P t m) done m (n
 abbrev pub auditNumbers : ℕ → ℕ → List ℕ → List ℕ → Numbers
 auditNumbers F P t m = told (refusal (keptRules F P t m)) (findingNumbers (findingOf (entriesOf F t) F P m))
 
--- the test search: outcome and nodes; the test buffer t and the work memory w become t′ and w′
-pub record SearchEntered (c f : List ℕ) (b : ℕ) (t w a : List ℕ) (r : ℕ) (t′ w′ a′ : List ℕ) : Type 0 where
-  pub answer : Entered a (told (refusal (searchRules c f (length t) (length w))) (verdictNumbers (verdictFor c (faultAt f 0) b))) r a′
-  pub test : t′ ≡ entered a t (unless (refusal (searchRules c f (length t) (length w))) t (testFor c (faultAt f 0) b t))
-  pub work : w′ ≡ entered a w (unless (refusal (searchRules c f (length t) (length w))) w (workFor c (faultAt f 0) b w))
+-- a search for one fault: outcome and nodes; the test buffer t and the work memory w, lent with the answer area a, become t′ and w′, which are to hold
+-- `test` and `work`
+pub record FoundEntered (rules : List Rule) (found : Verdict) (t test w work a : List ℕ) (r : ℕ) (t′ w′ a′ : List ℕ) : Type 0 where
+  pub answer : Entered a (told (refusal rules) (verdictNumbers found)) r a′
+  pub test-is : t′ ≡ entered a t (unless (refusal rules) t test)
+  pub work-is : w′ ≡ entered a w (unless (refusal rules) w work)
+
+-- over inputs
+abbrev pub SearchEntered : List ℕ → List ℕ → ℕ → List ℕ → List ℕ → List ℕ → ℕ → List ℕ → List ℕ → List ℕ → Type 0
+SearchEntered c f b t w a r t′ w′ a′ =
+    FoundEntered (searchRules c f (length t) (length w)) (verdictFor c (faultAt f 0) b) t (testFor c (faultAt f 0) b t) w (workFor c (faultAt f 0) b w) a r t′ w′ a′
+
+-- over head lines, where these serve the fault
+abbrev pub SearchHeadsEntered : List ℕ → List ℕ → ℕ → List ℕ → List ℕ → List ℕ → ℕ → List ℕ → List ℕ → List ℕ → Type 0
+SearchHeadsEntered c f b t w a r t′ w′ a′ =
+    FoundEntered (searchRules c f (length t) (length w)) (headVerdictFor c (faultAt f 0) b) t (headTestFor c (faultAt f 0) b t) w (headWorkFor c (faultAt f 0) b w) a r t′ w′ a′
 
 -- the search for a list of faults: done; outcomes o, counts k, tests t and the work memory w become o′, k′, t′ and w′
 pub record SearchAllEntered (c fs bs o k t w a : List ℕ) (r : ℕ) (o′ k′ t′ w′ a′ : List ℕ) : Type 0 where

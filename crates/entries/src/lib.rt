@@ -19,8 +19,9 @@ use replies::of_written;
 use replies::report;
 use search::search;
 use search_all::search_all;
+use search_heads::search_heads;
 ghost use Rattle.answers.specs.Area.{Entered};
-ghost use Rattle.entries.specs.Entries.{checkNumbers, auditNumbers, DictionaryEntered, DictionaryLanesEntered, CompactEntered, SearchEntered, SearchAllEntered, ClausesEntered, BenchEntered, BenchNamesEntered};
+ghost use Rattle.entries.specs.Entries.{checkNumbers, auditNumbers, DictionaryEntered, DictionaryLanesEntered, CompactEntered, SearchEntered, SearchHeadsEntered, SearchAllEntered, ClausesEntered, BenchEntered, BenchNamesEntered};
 
 #[no_mangle]
 pub extern "C" fn ullimaqsu_check(circuit: &[u8], answer: &mut [u8]) -> u32
@@ -117,6 +118,25 @@ pub extern "C" fn ullimaqsu_search(
         return OTHER_SIZE;
     }
     let v = search(circuit, fault, budget, test, work);
+    report(of_searched(v), answer)
+}
+
+#[no_mangle]
+pub extern "C" fn ullimaqsu_search_heads(
+    circuit: &[u8],
+    fault: &[u8],
+    budget: u64,
+    test: &mut [u8],
+    work: &mut [u8],
+    answer: &mut [u8],
+) -> u32
+    ensures { λ r. ⌜ SearchHeadsEntered (now (circuit .entry)) (now (fault .entry)) budget
+        (now (test .entry)) (now (work .entry)) (now (answer .entry)) r (now (test .exit)) (now (work .exit)) (now (answer .exit)) ⌝ }
+{
+    if answer.len() != AREA {
+        return OTHER_SIZE;
+    }
+    let v = search_heads(circuit, fault, budget, test, work);
     report(of_searched(v), answer)
 }
 

@@ -2,12 +2,12 @@
 -- Assumes nothing.
 use borrow.Author.Tests.{eq-eqb, ne-eqb}
 use borrow.Author.Needs.{needs}
-use Rattle.replies.proofs.Entered.{other-size, stays, reported, becomes}
+use Rattle.entries.proofs.Found.{nothing-found, found-reported}
 use Rattle.entries.proofs.ullimaqsu_search.Statement.{statement}
 use Rattle.entries.proofs.ullimaqsu_search.Tie as tie
 
 returns : tie.Need-returns
-returns c = let other = ne-eqb _ _ (c .if1 .taken) in record { answer = other-size _ other; test = stays _ other; work = stays _ other }
+returns c = nothing-found (ne-eqb _ _ (c .if1 .taken))
 
 -- the places, the last first: the report, the answer in numbers, the part, the test of the size
 returns-2 : tie.Need-returns-2
@@ -16,13 +16,8 @@ returns-2 c =
     let reply = told .before .before in
     let called = reply .before .before .before .before .before in
     let sized = called .before .before .before in
-    let right = eq-eqb _ _ (sized .if1 .left) in
     let done = called .search .ensures in
-    record {
-      answer = reported (told .report .ensures) (reply .of-searched .ensures) (done .numbers);
-      test = becomes _ right (done .test);
-      work = becomes _ right (done .work);
-    }
+    found-reported (eq-eqb _ _ (sized .if1 .left)) (told .report .ensures) (reply .of-searched .ensures) (done .numbers) (done .test) (done .work)
 
 pub ullimaqsu-search-spec : {M : Type 1} → statement M
 ullimaqsu-search-spec =
