@@ -35,6 +35,16 @@ pub fn selector(output: bool, first: usize, second: usize, select: usize) -> [u8
     record
 }
 
+/// The record of a line that reads as many of these lines as its kind has pins.
+pub fn gate(kind: u8, output: bool, mut read: [usize; 3]) -> [u8; 8] {
+    read[sources(kind)..].fill(0);
+    let [first, second, select] = read;
+    match kind {
+        SELECTOR => selector(output, first, second, select),
+        _ => record(kind, output, first, second),
+    }
+}
+
 /// A line's number at one of the pins of a record, from 1.
 pub fn source(record: &[u8], pin: usize) -> usize {
     usize::from(u16::from_le_bytes([record[2 * pin], record[2 * pin + 1]]))
@@ -91,13 +101,19 @@ fn of_kinds(random: &mut Random, lines: usize, inputs: usize, last: u8) -> Vec<u
             };
         }
         let output = random.once_in(sparse);
-        bytes.extend(if kind == SELECTOR { selector(output, read[0], read[1], read[2]) } else { record(kind, output, read[0], read[1]) });
+        bytes.extend(gate(kind, output, read));
     }
-    if outputs(&bytes) == 0 {
-        let line = if random.once_in(2) { lines - 1 } else { random.below(lines) };
-        bytes[8 * line + 1] = 1;
-    }
+    need_output(random, &mut bytes);
     bytes
+}
+
+/// Makes a line an output, often the last one, where there is none.
+pub fn need_output(random: &mut Random, circuit: &mut [u8]) {
+    let lines = circuit.len() / 8;
+    if outputs(circuit) == 0 {
+        let line = if random.once_in(2) { lines - 1 } else { random.below(lines) };
+        circuit[8 * line + 1] = 1;
+    }
 }
 
 /// Example A of document 01: lines 0, 1, 2 inputs; 3 = AND(0, 1); 4 = OR(3, 2), output.

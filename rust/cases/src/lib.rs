@@ -9,12 +9,14 @@ pub mod files;
 mod lanes;
 mod lent;
 pub mod marked;
+pub mod placed;
 mod random;
 pub mod said;
 pub mod selects;
 pub mod tables;
 mod tally;
 pub mod texts;
+pub mod trees;
 
 pub use directory::Directory;
 pub use files::Files;
