@@ -4,7 +4,7 @@ use crate::compact::Row;
 use crate::fault::Fault;
 use crate::pattern::{self, Pattern};
 use crate::refusal::{ensure, Refusal};
-use crate::values::{byte, Value};
+use crate::values::{bytes, Value};
 
 /// What a pattern says about a fault.
 #[derive(Clone, Copy, Debug, PartialEq, Eq)]
@@ -38,8 +38,7 @@ impl Circuit {
 
     /// The bytes of the good and then of the faulty values.
     pub fn work(&self, pattern: &[Value], fault: Fault) -> Vec<u8> {
-        let (good, faulty) = (self.values(pattern, None), self.values(pattern, Some(fault)));
-        good.iter().chain(&faulty).map(byte).collect()
+        bytes(&self.values(pattern, None), &self.values(pattern, Some(fault)))
     }
 
     /// One entry for each fault.

@@ -59,7 +59,15 @@ pub fn audit(fault_count: u64, pattern_count: u64, table: &[u8], marks: &[u8], a
 }
 
 pub fn search(circuit: &[u8], fault: &[u8], budget: u64, test: &[u8], work: &[u8], answer: &[u8]) -> Seen {
-    let searched = crate::search(circuit, fault, budget, test.len(), work.len());
+    found(test, work, answer, crate::search(circuit, fault, budget, test.len(), work.len()))
+}
+
+pub fn search_heads(circuit: &[u8], fault: &[u8], budget: u64, test: &[u8], work: &[u8], answer: &[u8]) -> Seen {
+    found(test, work, answer, crate::search_heads(circuit, fault, budget, test.len(), work.len()))
+}
+
+/// What the entry of a search for one fault does.
+fn found(test: &[u8], work: &[u8], answer: &[u8], searched: Result<Searched, Refusal>) -> Seen {
     let written = |Searched { outcome, nodes, test: found, work: last }| {
         (vec![outcome as u64, nodes], vec![found.unwrap_or(test.to_vec()).into(), last.unwrap_or(work.to_vec()).into()])
     };

@@ -18,6 +18,7 @@ pub mod program;
 pub mod refusal;
 pub mod search;
 pub mod search_all;
+pub mod search_heads;
 pub mod slice;
 pub mod values;
 
@@ -34,5 +35,6 @@ pub use program::{program, Files};
 pub use refusal::Refusal;
 pub use search::{search, Look, Outcome, Search, Searched};
 pub use search_all::search_all;
+pub use search_heads::search_heads;
 pub use slice::Slice;
 pub use values::Value;

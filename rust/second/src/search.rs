@@ -32,11 +32,10 @@ pub enum Look {
     Open,
 }
 
-impl Circuit {
-    /// What a node says: every output is looked at, known or not.
-    pub fn look(&self, node: &[Value], fault: Fault) -> Look {
-        let (good, faulty) = (self.values(node, None), self.values(node, Some(fault)));
-        let both: Vec<_> = self.outputs().map(|line| good[line].zip(faulty[line])).collect();
+impl Look {
+    /// What is said by the good and faulty values at some outputs: each of these is looked at, known or not.
+    pub fn at(outputs: impl Iterator<Item = (Value, Value)>) -> Look {
+        let both: Vec<_> = outputs.map(|(good, faulty)| good.zip(faulty)).collect();
         if both.iter().flatten().any(|(good, faulty)| good != faulty) {
             Look::Fails
         } else if both.iter().all(Option::is_some) {
@@ -47,12 +46,20 @@ impl Circuit {
     }
 }
 
-/// All nodes in the order of the search, each with what it says, as if no test ended it.
-pub fn nodes(circuit: &Circuit, fault: Fault) -> impl Iterator<Item = (Pattern, Look)> + '_ {
-    let mut waiting = vec![vec![None; circuit.inputs().count()]];
+impl Circuit {
+    /// What a node says: every output is looked at.
+    pub fn look(&self, node: &[Value], fault: Fault) -> Look {
+        let (good, faulty) = (self.values(node, None), self.values(node, Some(fault)));
+        Look::at(self.outputs().map(|line| (good[line], faulty[line])))
+    }
+}
+
+/// All nodes of so many values in the order of the search, each with what it says, as if no test ended it.
+pub fn nodes<'a>(values: usize, look: impl Fn(&[Value]) -> Look + 'a) -> impl Iterator<Item = (Pattern, Look)> + 'a {
+    let mut waiting = vec![vec![None; values]];
     std::iter::from_fn(move || {
         let node = waiting.pop()?;
-        let look = circuit.look(&node, fault);
+        let look = look(&node);
         if look == Look::Open {
             let first = node.iter().position(Option::is_none).expect("without X every output is known");
             for value in [true, false] {
@@ -65,10 +72,10 @@ pub fn nodes(circuit: &Circuit, fault: Fault) -> impl Iterator<Item = (Pattern, 
     })
 }
 
-/// Looks at no more than `budget` nodes.
-pub fn search_circuit(circuit: &Circuit, fault: Fault, budget: u64) -> Search {
+/// Looks at no more than `budget` of these nodes.
+pub fn search_nodes(nodes: impl Iterator<Item = (Pattern, Look)>, budget: u64) -> Search {
     let mut search = Search { outcome: Outcome::Redundant, nodes: 0, last: None };
-    for (node, look) in nodes(circuit, fault) {
+    for (node, look) in nodes {
         if search.nodes == budget {
             return Search { outcome: Outcome::GivenUp, ..search };
         }
@@ -80,6 +87,11 @@ pub fn search_circuit(circuit: &Circuit, fault: Fault, budget: u64) -> Search {
     search
 }
 
+/// The search over the patterns of a circuit.
+pub fn search_circuit(circuit: &Circuit, fault: Fault, budget: u64) -> Search {
+    search_nodes(nodes(circuit.inputs().count(), |node| circuit.look(node, fault)), budget)
+}
+
 /// What the search leaves in lent memory, where it writes.
 pub struct Searched {
     pub outcome: Outcome,
@@ -88,19 +100,32 @@ pub struct Searched {
     pub work: Option<Vec<u8>>,
 }
 
-/// The search for a fault of a circuit, and what it leaves.
-pub fn searched(circuit: &Circuit, fault: Fault, budget: u64) -> Searched {
-    let Search { outcome, nodes, last } = search_circuit(circuit, fault, budget);
-    let work = last.as_ref().map(|node| circuit.work(node, fault));
-    let test = last.filter(|_| outcome == Outcome::Test).map(|node| node.iter().map(byte).collect());
-    Searched { outcome, nodes, test, work }
+impl Search {
+    /// What it leaves, where its last node makes this work memory and, if it is the test, this pattern.
+    pub fn leaves(self, work: impl Fn(&Pattern) -> Vec<u8>, pattern: impl Fn(&Pattern) -> Pattern) -> Searched {
+        let Search { outcome, nodes, last } = self;
+        let work = last.as_ref().map(work);
+        let test = last.filter(|_| outcome == Outcome::Test).map(|node| pattern(&node).iter().map(byte).collect());
+        Searched { outcome, nodes, test, work }
+    }
 }
 
-/// The test search, lent a test buffer and a work memory of these sizes.
-pub fn search(circuit: &[u8], fault: &[u8], budget: u64, test: usize, work: usize) -> Result<Searched, Refusal> {
+/// The search for a fault of a circuit, and what it leaves.
+pub fn searched(circuit: &Circuit, fault: Fault, budget: u64) -> Searched {
+    search_circuit(circuit, fault, budget).leaves(|node| circuit.work(node, fault), Pattern::clone)
+}
+
+/// Reads what a search for one fault is given, lent a test buffer and a work memory of these sizes.
+pub fn read(circuit: &[u8], fault: &[u8], test: usize, work: usize) -> Result<(Circuit, Fault), Refusal> {
     let circuit = Circuit::read(circuit)?;
     let fault = Fault::read_all(&circuit, fault, 1)?[0];
     ensure(test == circuit.inputs().count(), 10)?;
     ensure(work == 2 * circuit.lines.len(), 10)?;
+    Ok((circuit, fault))
+}
+
+/// The test search.
+pub fn search(circuit: &[u8], fault: &[u8], budget: u64, test: usize, work: usize) -> Result<Searched, Refusal> {
+    let (circuit, fault) = read(circuit, fault, test, work)?;
     Ok(searched(&circuit, fault, budget))
 }

@@ -50,6 +50,11 @@ pub fn byte(value: &Value) -> u8 {
     value.map_or(2, u8::from)
 }
 
+/// The bytes of the good and then of the faulty values.
+pub fn bytes(good: &[Value], faulty: &[Value]) -> Vec<u8> {
+    good.iter().chain(faulty).map(byte).collect()
+}
+
 impl Gate<Value> {
     /// The value that a gate makes of those at its pins. An input makes none.
     pub fn value(self) -> Value {
@@ -77,14 +82,22 @@ impl Circuit {
     /// The same where gates go by this rule.
     pub fn values_by(&self, rule: fn(Gate<Value>) -> Value, pattern: &[Value], fault: Option<Fault>) -> Vec<Value> {
         let mut pattern = pattern.iter().copied();
+        let given = |line: usize| (self.lines[line].gate == Gate::Input).then(|| pattern.next().expect("a value for each input"));
+        self.values_given(rule, given, fault)
+    }
+
+    /// The same where some lines are given their values, asked for in line order, and the gates of the others go by this rule.
+    pub fn values_given(
+        &self,
+        rule: fn(Gate<Value>) -> Value,
+        mut given: impl FnMut(usize) -> Option<Value>,
+        fault: Option<Fault>,
+    ) -> Vec<Value> {
         let mut values = Vec::with_capacity(self.lines.len());
         for (number, line) in self.lines.iter().enumerate() {
             let stuck = |site| fault.filter(|fault| (fault.line, fault.site) == (number, site)).map(|fault| Some(fault.stuck));
             let seen = |pin, source: usize| stuck(Site::Pin(pin)).unwrap_or(values[source]);
-            let value = match line.gate {
-                Gate::Input => pattern.next().expect("a value for each input"),
-                gate => rule(gate.over(seen)),
-            };
+            let value = given(number).unwrap_or_else(|| rule(line.gate.over(seen)));
             values.push(stuck(Site::Line).unwrap_or(value));
         }
         values

@@ -1,61 +1,16 @@
-//! The second program against what complete input vectors do, which is evaluated here on its own, over Booleans.
+//! The second program against what complete input vectors do.
+mod vectors;
+
 use cases::selects::{valued, wired, VALUED, WIRED};
-use cases::{circuits, drawn, faults, Random, Tally};
-use second::circuit::{Circuit, Gate};
+use cases::{drawn, Random, Tally};
 use second::clauses::clauses_of;
 use second::search::{search_circuit, Search};
 use second::values::byte;
-use second::{Entry, Fault, Look, Outcome, Site, Value};
-
-/// A line's value, by asking for those that it reads.
-fn truth(circuit: &Circuit, vector: &[bool], fault: Option<Fault>, line: usize) -> bool {
-    let stuck = |site| fault.filter(|fault| fault.line == line && fault.site == site).map(|fault| fault.stuck);
-    let pin = |pin, source| stuck(Site::Pin(pin)).unwrap_or_else(|| truth(circuit, vector, fault, source));
-    stuck(Site::Line).unwrap_or_else(|| match circuit.lines[line].gate {
-        Gate::Input => vector[circuit.inputs().position(|input| input == line).expect("an input")],
-        Gate::Buffer(a) => pin(1, a),
-        Gate::Not(a) => !pin(1, a),
-        Gate::And(a, b) => pin(1, a) && pin(2, b),
-        Gate::Nand(a, b) => !(pin(1, a) && pin(2, b)),
-        Gate::Or(a, b) => pin(1, a) || pin(2, b),
-        Gate::Nor(a, b) => !(pin(1, a) || pin(2, b)),
-        Gate::Xor(a, b) => pin(1, a) != pin(2, b),
-        Gate::Xnor(a, b) => pin(1, a) == pin(2, b),
-        Gate::Selector(a, b, select) => {
-            if pin(3, select) {
-                pin(2, b)
-            } else {
-                pin(1, a)
-            }
-        }
-    })
-}
-
-/// Some output differs.
-fn detects(circuit: &Circuit, vector: &[bool], fault: Fault) -> bool {
-    circuit.outputs().any(|line| truth(circuit, vector, None, line) != truth(circuit, vector, Some(fault), line))
-}
-
-/// All fillings of the X's.
-fn fillings(pattern: &[Value]) -> Vec<Vec<bool>> {
-    pattern.iter().fold(vec![vec![]], |done, value| {
-        let known = value.map_or(vec![false, true], |value| vec![value]);
-        done.iter().flat_map(|start| known.iter().map(move |&value| [&start[..], &[value]].concat())).collect()
-    })
-}
+use second::{Circuit, Entry, Fault, Look, Outcome, Value};
+use vectors::{detects, fillings, tiny_of, truth};
 
 fn tiny(random: &mut Random) -> (Circuit, Vec<Fault>) {
     tiny_of(random, 10)
-}
-
-/// A circuit of so many lines at most, and all its faults.
-fn tiny_of(random: &mut Random, most: usize) -> (Circuit, Vec<Fault>) {
-    let lines = 1 + random.below(most);
-    let inputs = 1 + random.below(lines.min(4));
-    let bytes = circuits::circuit(random, lines, inputs);
-    let circuit = Circuit::read(&bytes).expect("sound");
-    let faults = Fault::read_all(&circuit, &faults::every(&bytes).concat(), 256).expect("sound");
-    (circuit, faults)
 }
 
 /// Every pattern of so many values.
