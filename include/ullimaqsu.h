@@ -212,6 +212,28 @@ uint32_t ullimaqsu_search(const uint8_t *circuit, size_t circuit_len,
                           uint8_t *work, size_t work_len,
                           uint8_t *answer, size_t answer_len);
 
+/* The test search that decides at head lines, for one fault. Refusals 1, 2, 4 to 7 and 10, as for ullimaqsu_search. N is the number of lines, n of
+   inputs.
+   A line branches if two or more pins read it, those of one gate counted singly. A line is bound if one of its pins reads a line that branches
+   or is bound, else it is free; a head line is a free line that branches or that a bound line reads. Before a head line lies a tree of free
+   lines.
+   For a fault at a bound line or at one of its pins, and for a head line itself stuck, a node has one value for each head line, in line order.
+   All other free lines are X at it, and their outputs are not looked at; else nodes, budget and outcome are those of ullimaqsu_search. For any
+   other fault, as at a pin of a head line, this is ullimaqsu_search.
+   The test buffer, exactly n bytes, is written only for a test: with the trees set for it, from each head line down. Where a value of its first
+   source alone makes a line's value that source has it, and the others stay X. Otherwise AND, NAND, OR and NOR set both sources, XOR and XNOR
+   the first to 0 and the second to what is then needed, a selector its select to 0 and its first source. Inputs that nothing is put on are X.
+   The work memory, exactly 2 N bytes, holds the last node itself, good values and after them faulty ones: free lines that are no head lines
+   are X in it, for a test too; with budget 0 it stays.
+   Answer: the outcome, and the number of nodes looked at. These may be more than ullimaqsu_search needs; where both reach a verdict it is the
+   same. */
+uint32_t ullimaqsu_search_heads(const uint8_t *circuit, size_t circuit_len,
+                                const uint8_t *fault, size_t fault_len,
+                                uint64_t budget,
+                                uint8_t *test, size_t test_len,
+                                uint8_t *work, size_t work_len,
+                                uint8_t *answer, size_t answer_len);
+
 /* The test search, for a list of faults with one budget each. Refusals 1, 2, 4 to 7 and 10. N is the number of lines, n of inputs.
    Does in one call what single searches do, one after the other with the same work memory. The results of a fault are its outcome, the count
    of nodes looked at, and n test bytes, written only for a test. Budgets, outcomes and counts are exactly as many as the faults, the test

@@ -21,6 +21,9 @@ macro_rules! entries {
             Search = ullimaqsu_search(
                 circuit: &[u8], fault: &[u8], budget: u64, test: &mut [u8], work: &mut [u8], answer: &mut [u8]
             );
+            SearchHeads = ullimaqsu_search_heads(
+                circuit: &[u8], fault: &[u8], budget: u64, test: &mut [u8], work: &mut [u8], answer: &mut [u8]
+            );
             SearchAll = ullimaqsu_search_all(
                 circuit: &[u8], faults: &[u8], budgets: &[u64], outcomes: &mut [u8], counts: &mut [u64], tests: &mut [u8],
                 work: &mut [u8], answer: &mut [u8]

@@ -202,8 +202,37 @@ pub fn audit(fault_count: u64, pattern_count: u64, table: &[u8], marks: &[u8]) -
 pub fn search(circuit: &[u8], fault: &[u8], budget: u64, test: &mut [u8], work: &mut [u8]) -> Result<Search, Refusal> {
     let mut area = [0; 32];
     let returned = enter(Call::Search { circuit, fault, budget, test, work, answer: &mut area });
+    searched(circuit, returned, area)
+}
+
+/// What the entry of a search for one fault answered.
+fn searched(circuit: &[u8], returned: u32, area: [u8; 32]) -> Result<Search, Refusal> {
     let [number, nodes, ..] = answered_of(circuit, returned, area)?;
     Ok(Search { outcome: Outcome::numbered(number), nodes })
+}
+
+/// The test search that decides at head lines, the free lines next to those which can be reached from a branch, as [`search`] decides at inputs:
+/// so it needs few nodes where wide trees lie before few head lines. It serves faults at bound lines and at their pins, and head lines that are
+/// stuck; for any other fault it is [`search`]. The test buffer, one byte for each input, is written only for a test, with the trees set for it.
+/// The work memory, two bytes for each line, then holds the good and the faulty values of the last node, in which all free lines but the head
+/// lines are X; with budget 0 it stays. A refusal writes nothing.
+///
+/// Lines 0 and 1 are inputs, line 2 is their AND. It is a head line, since line 3, an XOR, reads it twice:
+///
+/// ```
+/// use ullimaqsu::{search_heads, Outcome};
+/// let tree = [0, 0, 0, 0, 0, 0, 0, 0, 0, 0, 0, 0, 0, 0, 0, 0, 3, 1, 0, 0, 1, 0, 0, 0, 7, 1, 2, 0, 2, 0, 0, 0];
+/// let head_stuck_at_1 = [2, 0, 0, 1, 0, 0, 0, 0];
+/// let (mut test, mut work) = ([9; 2], [9; 8]);
+/// let found = search_heads(&tree, &head_stuck_at_1, u64::MAX, &mut test, &mut work)?;
+/// assert_eq!((found.outcome, found.nodes, test), (Outcome::Test, 2, [0, 2]));
+/// assert_eq!(work, [2, 2, 0, 0, 2, 2, 1, 0]);
+/// # Ok::<(), ullimaqsu::Refusal>(())
+/// ```
+pub fn search_heads(circuit: &[u8], fault: &[u8], budget: u64, test: &mut [u8], work: &mut [u8]) -> Result<Search, Refusal> {
+    let mut area = [0; 32];
+    let returned = enter(Call::SearchHeads { circuit, fault, budget, test, work, answer: &mut area });
+    searched(circuit, returned, area)
 }
 
 /// The test search for a list of faults with a budget for each: in one call what [`search`] does for one fault after the other, with the

@@ -208,6 +208,7 @@ fn words_of_fields() {
             ullimaqsu::dictionary(&circuit, &fault, &pattern, &mut [0], &mut [0; 36]).err(),
             ullimaqsu::dictionary_lanes(&circuit, &fault, &pattern, &mut [0], &mut [0; 72]).err(),
             ullimaqsu::search(&circuit, &fault, 0, &mut [0; 2], &mut [0; 36]).err(),
+            ullimaqsu::search_heads(&circuit, &fault, 0, &mut [0; 2], &mut [0; 36]).err(),
             ullimaqsu::search_all(&circuit, &fault, &[0], &mut [0; 2], &mut [0; 36]).err(),
             ullimaqsu::clauses(&circuit, &fault, &mut []).err(),
         ];
