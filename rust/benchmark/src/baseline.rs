@@ -11,6 +11,7 @@ pub mod gates;
 pub mod lanes;
 pub mod search;
 pub mod search_all;
+pub mod search_heads;
 mod simulate;
 
 /// Writes the numbers of an answer.

@@ -3,7 +3,7 @@ use crate::baseline::gates::{Branches, Table};
 use crate::parts;
 use crate::timing::Row;
 use cases::circuits::{self, record, AND, INPUT, NOT, XOR};
-use cases::{faults, texts, Files, Random};
+use cases::{faults, texts, trees, Files, Random};
 
 /// Random lines without selectors, faults on lines, and patterns.
 fn drawn(lines: usize, inputs: usize, fault_count: usize, pattern_count: usize) -> Files {
@@ -43,17 +43,44 @@ fn smaller_table() -> Vec<u8> {
     (0..16384).map(|_| random.pick(&[0, 0, 0, 1, 2])).collect()
 }
 
-/// 20 inputs and 480 gates, and a fault that no vector detects: the search looks at many nodes.
+/// 20 inputs and 480 gates, and a fault that no vector detects: the search looks at many nodes. Every input branches, so that there are no trees.
 fn redundant() -> Files {
-    let random = &mut Random::new(5);
-    let mut circuit = record(INPUT, false, 0, 0).repeat(20);
-    for line in 20..498 {
-        let kind = 3 + random.below(6) as u8;
-        circuit.extend(record(kind, false, random.below(line.min(20)), line - 1 - random.below(19.min(line))));
+    above(record(INPUT, false, 0, 0).repeat(20), &(0..20).collect::<Vec<_>>())
+}
+
+/// The same over 20 trees of three inputs each.
+fn redundant_over_trees() -> Files {
+    let random = &mut Random::new(7);
+    let mut trees = record(INPUT, false, 0, 0).repeat(60);
+    for tree in 0..20 {
+        let [one, other] = [3, 3].map(|kind| kind + random.below(6) as u8);
+        trees.extend(record(one, false, 3 * tree, 3 * tree + 1));
+        trees.extend(record(other, false, 60 + 2 * tree, 3 * tree + 2));
     }
-    circuit.extend(record(NOT, false, 497, 0));
-    circuit.extend(record(AND, true, 497, 498));
-    Files { circuit, faults: faults::record(499, 0, false).to_vec(), patterns: vec![] }
+    above(trees, &(0..20).map(|tree| 61 + 2 * tree).collect::<Vec<_>>())
+}
+
+/// 478 gates, each of which reads one of 20 lines and one just below itself or of these 20 again, and above them an output that is always 0, stuck
+/// there.
+fn above(mut circuit: Vec<u8>, lines: &[usize]) -> Files {
+    let random = &mut Random::new(5);
+    let from = circuit.len() / 8;
+    for line in from..from + 478 {
+        let kind = 3 + random.below(6) as u8;
+        let (first, below) = (lines[random.below(20)], line - 1 - random.below(19));
+        circuit.extend(record(kind, false, first, if below < from { lines[below % 20] } else { below }));
+    }
+    let last = circuit.len() / 8 - 1;
+    circuit.extend(record(NOT, false, last, 0));
+    circuit.extend(record(AND, true, last, last + 1));
+    Files { circuit, faults: faults::record(last + 2, 0, false).to_vec(), patterns: vec![] }
+}
+
+/// Two head lines over 64 inputs, and a fault that no vector detects.
+fn wide_trees() -> Files {
+    let circuit = trees::two_trees(XOR, 5);
+    let last = circuit.len() / 8 - 1;
+    Files { circuit, faults: faults::record(last, 0, false).to_vec(), patterns: vec![] }
 }
 
 fn chain_of_xors() -> Files {
@@ -63,7 +90,7 @@ fn chain_of_xors() -> Files {
 }
 
 pub fn rows() -> impl Iterator<Item = Row> {
-    let rows: [fn() -> Row; 20] = [
+    let rows: [fn() -> Row; 25] = [
         || parts::check("check: 2,048 lines", &files()),
         || parts::dictionary::<Branches>("dictionary: 2,048 lines, 256 faults, 256 patterns", &files()),
         || parts::dictionary::<Table>("the same beside Rust that looks gates up too", &files()),
@@ -75,6 +102,11 @@ pub fn rows() -> impl Iterator<Item = Row> {
         || parts::audit_beside_compactor("the same beside the proved compactor, not Rust", 256, &last_pairs()),
         || parts::search::<Branches>("search: 500 lines, 20 inputs, 100,000 nodes at most", &redundant(), 100_000),
         || parts::search::<Table>("the same beside Rust that looks gates up too", &redundant(), 100_000),
+        || parts::search_heads::<Branches>("search_heads: the same over 20 trees of 60 inputs", &redundant_over_trees(), 100_000),
+        || parts::search_heads::<Table>("the same beside Rust that looks gates up too", &redundant_over_trees(), 100_000),
+        || parts::search_heads::<Branches>("search_heads: the search's 500 lines, no trees", &redundant(), 100_000),
+        || parts::search_heads_beside_search("the same beside the proved search, not Rust", &redundant(), 100_000),
+        || parts::search_heads::<Branches>("search_heads: two trees of 32 inputs, 7 nodes", &wide_trees(), u64::MAX),
         || parts::search_all::<Branches>("search_all: 2,048 lines, 256 faults, 100 nodes each", &files(), 100),
         || parts::search_all::<Table>("the same beside Rust that looks gates up too", &files(), 100),
         || parts::search_all_singly("the same beside 256 proved searches, not Rust", &files(), 100),
@@ -108,4 +140,28 @@ pub fn orders() -> impl Iterator<Item = Row> {
         || parts::orders("32 lines, 256 faults, 256 patterns", &drawn(32, 16, 256, 256)),
     ];
     rows.into_iter().map(|row| row())
+}
+
+#[cfg(test)]
+mod tests {
+    use super::*;
+    use second::search_heads::{searched, Placed};
+    use second::{Circuit, Fault, Outcome};
+
+    /// The numbers of inputs and of head lines, how the search over these ends with so many nodes at most, and how many it looks at.
+    fn heads(files: Files, budget: u64) -> (usize, usize, Outcome, u64) {
+        let circuit = Circuit::read(&files.circuit).expect("sound");
+        let fault = Fault::read_all(&circuit, &files.faults, 1).expect("sound")[0];
+        let placed = Placed::new(&circuit);
+        assert!(placed.serves(fault));
+        let found = searched(&circuit, fault, budget);
+        (files.inputs(), placed.heads().count(), found.outcome, found.nodes)
+    }
+
+    #[test]
+    fn trees_are_what_rows_say() {
+        assert_eq!(heads(redundant(), 100), (20, 20, Outcome::GivenUp, 100));
+        assert_eq!(heads(redundant_over_trees(), 100), (60, 20, Outcome::GivenUp, 100));
+        assert_eq!(heads(wide_trees(), u64::MAX), (64, 2, Outcome::Redundant, 7));
+    }
 }

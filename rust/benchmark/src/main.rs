@@ -4,7 +4,8 @@
 //! faster. Buffers are not cleared between rounds: every round writes the same bytes over the last. The Rust branches over the kinds of gates;
 //! at the largest sizes dictionary and searches are also timed beside Rust that looks gates up in a table (`baseline/gates.rs`). Some rows have
 //! proved code in place of Rust: single calls of the search, whose ratio says what a list in one call brings, and the compactor beside the audit
-//! of its list, whose ratio is at least 0.5 where the audit takes at most twice the compactor's time.
+//! of its list, whose ratio is at least 0.5 where the audit takes at most twice the compactor's time; and the search over patterns beside that over
+//! head lines where there are no trees, whose ratio says what it costs to look for them.
 //!
 //! The dictionary that carries 64 patterns at once has tables of its own. It runs beside the same in Rust, whose gates choose or branch
 //! (`baseline/lanes/gates.rs`): branches are faster where the processor learns the circuit's kinds, choices where it does not. And it runs
@@ -24,6 +25,7 @@ fn main() {
     println!("{}; buffers not cleared between rounds", timing::machine());
     print("the largest sizes", MICROSECONDS, ["proved", "Rust"], large::rows());
     print("small calls", NANOSECONDS, ["proved", "Rust"], small::rows());
+    print("search_heads: all faults of an example, 100 nodes each", MICROSECONDS, ["proved", "Rust"], small::heads());
     print("64 patterns at once", MICROSECONDS, BESIDE_LANES, large::lanes());
     print("64 patterns at once, small calls", NANOSECONDS, BESIDE_LANES, small::lanes());
     print("the order of their entries, in Rust", MICROSECONDS, ORDERS, large::orders());

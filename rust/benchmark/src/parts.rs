@@ -160,21 +160,72 @@ pub fn audit_beside_compactor(name: &str, faults: usize, table: &[u8]) -> Row {
     row
 }
 
-/// The search for the first of the faults, likewise.
-pub fn search<G: Gates>(name: &str, files: &Files, budget: u64) -> Row {
+/// A test buffer, a work memory and an answer.
+type Searched = (Vec<u8>, Vec<u8>, [u8; 32]);
+
+/// A search for the first of the faults, proved and in Rust, given the circuit and the fault.
+fn one_search(
+    name: &str,
+    files: &Files,
+    proved_by: impl Fn(&[u8], &[u8], &mut Searched) -> u32,
+    plain_by: impl Fn(&[u8], &[u8], &mut Searched) -> u32,
+) -> Row {
     let (circuit, fault) = (&files.circuit, &files.faults[..8]);
     let mut proved = (vec![0; files.inputs()], vec![0; 2 * files.lines()], [0; 32]);
     let mut plain = proved.clone();
-    let row = race(
-        name,
-        || {
-            let (test, work, answer) = &mut proved;
-            enter(Call::Search { circuit: black_box(circuit), fault, budget, test, work, answer })
-        },
-        || baseline::search::enter::<G>(black_box(circuit), fault, budget, &mut plain.0, &mut plain.1, &mut plain.2),
-    );
+    let row = race(name, || proved_by(black_box(circuit), fault, &mut proved), || plain_by(black_box(circuit), fault, &mut plain));
     assert_eq!(proved, plain);
     row
+}
+
+fn proved_patterns(circuit: &[u8], fault: &[u8], budget: u64, (test, work, answer): &mut Searched) -> u32 {
+    enter(Call::Search { circuit, fault, budget, test, work, answer })
+}
+
+fn proved_heads(circuit: &[u8], fault: &[u8], budget: u64, (test, work, answer): &mut Searched) -> u32 {
+    enter(Call::SearchHeads { circuit, fault, budget, test, work, answer })
+}
+
+fn plain_heads<G: Gates>(circuit: &[u8], fault: &[u8], budget: u64, (test, work, answer): &mut Searched) -> u32 {
+    baseline::search_heads::enter::<G>(circuit, fault, budget, test, work, answer)
+}
+
+/// The search, likewise.
+pub fn search<G: Gates>(name: &str, files: &Files, budget: u64) -> Row {
+    one_search(
+        name,
+        files,
+        |circuit, fault, lent| proved_patterns(circuit, fault, budget, lent),
+        |circuit, fault, (test, work, answer)| baseline::search::enter::<G>(circuit, fault, budget, test, work, answer),
+    )
+}
+
+/// The search that decides at head lines, likewise.
+pub fn search_heads<G: Gates>(name: &str, files: &Files, budget: u64) -> Row {
+    one_search(
+        name,
+        files,
+        |circuit, fault, lent| proved_heads(circuit, fault, budget, lent),
+        |circuit, fault, lent| plain_heads::<G>(circuit, fault, budget, lent),
+    )
+}
+
+/// The same beside the proved search over patterns, on a circuit without trees, where both do the same.
+pub fn search_heads_beside_search(name: &str, files: &Files, budget: u64) -> Row {
+    one_search(
+        name,
+        files,
+        |circuit, fault, lent| proved_heads(circuit, fault, budget, lent),
+        |circuit, fault, lent| proved_patterns(circuit, fault, budget, lent),
+    )
+}
+
+/// The search that decides at head lines for each of the faults, one after the other, likewise. A round ends with what the last of them leaves.
+pub fn search_heads_singly<G: Gates>(name: &str, files: &Files, budget: u64) -> Row {
+    let each = |circuit: &[u8], lent: &mut Searched, search: fn(&[u8], &[u8], u64, &mut Searched) -> u32| {
+        files.faults.chunks_exact(8).map(|fault| search(circuit, fault, budget, lent)).sum()
+    };
+    one_search(name, files, |circuit, _, lent| each(circuit, lent, proved_heads), |circuit, _, lent| each(circuit, lent, plain_heads::<G>))
 }
 
 /// What the search for all of the faults is lent.

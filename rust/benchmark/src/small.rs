@@ -2,7 +2,7 @@
 use crate::baseline::gates::Branches;
 use crate::parts;
 use crate::timing::Row;
-use cases::Files;
+use cases::{faults, Files};
 use std::fs;
 
 /// Example A in the bench notation.
@@ -22,7 +22,7 @@ type Part = fn(&str, &Files, &[u8]) -> Row;
 
 pub fn rows() -> impl Iterator<Item = Row> {
     let examples = [("example A", files("a"), A.to_vec()), ("c17", files("c17"), example("bench/c17.bench"))];
-    let parts: [Part; 9] = [
+    let parts: [Part; 10] = [
         |name, files, _| parts::check(&format!("check: {name}"), files),
         |name, files, _| parts::dictionary::<Branches>(&format!("dictionary: {name}"), files),
         |name, files, _| parts::compact(&format!("compactor: {name}"), files.fault_count(), &parts::table(files)),
@@ -31,12 +31,28 @@ pub fn rows() -> impl Iterator<Item = Row> {
             parts::audit(&format!("audit: {name}"), faults, &table, &parts::compacted(faults, &table))
         },
         |name, files, _| parts::search::<Branches>(&format!("search: {name}"), files, u64::MAX),
+        |name, files, _| parts::search_heads::<Branches>(&format!("search_heads: {name}"), files, u64::MAX),
         |name, files, _| parts::search_all::<Branches>(&format!("search_all: {name}"), files, u64::MAX),
         |name, files, _| parts::clauses(&format!("clauses: {name}"), files),
         |name, _, text| parts::bench(&format!("bench: {name}"), text),
         |name, _, text| parts::bench_names(&format!("bench_names: {name}"), text),
     ];
     parts.into_iter().flat_map(move |part| examples.each_ref().map(|(name, files, text)| part(name, files, text)))
+}
+
+/// The circuit of a text, and all its faults.
+fn written(name: &str) -> Files {
+    let mut circuit = vec![0; ullimaqsu::LARGEST_CIRCUIT];
+    let records = ullimaqsu::bench(&example(&format!("bench/{name}.bench")), &mut circuit).expect("an example");
+    circuit.truncate(8 * records as usize);
+    let faults = faults::every(&circuit).concat();
+    Files { circuit, faults, patterns: vec![] }
+}
+
+/// The examples in the bench notation, with all their faults one after the other. Of these parity16 alone has trees.
+pub fn heads() -> impl Iterator<Item = Row> {
+    let names = ["c17", "adder16", "decoder4", "multiplier4", "parity16"];
+    names.into_iter().map(|name| parts::search_heads_singly::<Branches>(name, &written(name), 100))
 }
 
 /// Dictionaries that carry 64 patterns at once, and here have fewer.

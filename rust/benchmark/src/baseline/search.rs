@@ -56,12 +56,18 @@ pub fn search_from<G: Gates>(circuit: &[u8], fault: Fault, node: &[u8], budget: 
     }
 }
 
-fn search<G: Gates>(circuit: &[u8], fault: &[u8], budget: u64, test: &mut [u8], work: &mut [u8]) -> Result<[u64; 3], (u32, usize)> {
+/// Refusals 1, 2, 4 to 7 and 10, or the numbers of lines and inputs.
+pub fn check_search(circuit: &[u8], fault: &[u8], test: usize, work: usize) -> Result<[usize; 2], (u32, usize)> {
     let [n, inputs, _] = check(circuit)?;
     check_faults(circuit, fault, 1)?;
-    if test.len() != inputs || work.len() != 2 * n {
+    if test != inputs || work != 2 * n {
         return Err((10, 0));
     }
+    Ok([n, inputs])
+}
+
+fn search<G: Gates>(circuit: &[u8], fault: &[u8], budget: u64, test: &mut [u8], work: &mut [u8]) -> Result<[u64; 3], (u32, usize)> {
+    let [_, inputs] = check_search(circuit, fault, test.len(), work.len())?;
     let [outcome, nodes] = search_from::<G>(circuit, Fault::read(fault, 0), &[2; 64][..inputs], budget, test, work);
     Ok([outcome, nodes, 0])
 }
