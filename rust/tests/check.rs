@@ -6,8 +6,8 @@ mod defects;
 mod harness;
 
 use cases::circuits::{circuit, example_a, record, selecting, selector, small, BUFFER, INPUT, NOT, SELECTOR, XNOR};
-use cases::selects::{self, Sort, WIRED};
-use cases::{damage, drawn, Random};
+use cases::selects::{self, WIRED};
+use cases::{damage, drawn, Random, Sort};
 use defects::defects;
 use harness::{compare, first_defect_is_told, library, wrong_programs_are_seen, Case, Check, Defect};
 use second::circuit::bad_fields;
@@ -21,7 +21,7 @@ impl Case for Check {
         entries::check(&self.circuit, &self.answer)
     }
 
-    fn selects(&self, _: &mut Seen) -> Vec<Sort> {
+    fn sorts(&self, _: &mut Seen) -> Vec<Sort> {
         selects::all(&self.circuit, &[], &[])
     }
 }
@@ -174,13 +174,13 @@ fn fields_of_the_largest() {
 
 #[test]
 fn sound_circuits() {
-    assert_eq!(compare("check, sound circuits", with_areas(drawn(1, 300_000, small))).with_selects(&[&WIRED]).seen(), [0, 10]);
+    assert_eq!(compare("check, sound circuits", with_areas(drawn(1, 300_000, small))).with_sorts(&[&WIRED]).seen(), [0, 10]);
 }
 
 #[test]
 fn damaged_circuits() {
     assert_eq!(
-        compare("check, damaged circuits", with_areas(drawn(2, 700_000, damaged))).with_selects(&[&WIRED]).seen(),
+        compare("check, damaged circuits", with_areas(drawn(2, 700_000, damaged))).with_sorts(&[&WIRED]).seen(),
         [0, 1, 2, 4, 5, 10]
     );
 }
@@ -188,7 +188,7 @@ fn damaged_circuits() {
 #[test]
 fn every_byte_and_all_boundaries() {
     assert_eq!(compare("check, every byte", with_areas(every_byte())).seen(), [0, 2, 5, 10]);
-    assert_eq!(compare("check, boundaries", with_areas(boundaries())).with_selects(&[&WIRED]).seen(), [0, 1, 2, 4, 5, 10]);
+    assert_eq!(compare("check, boundaries", with_areas(boundaries())).with_sorts(&[&WIRED]).seen(), [0, 1, 2, 4, 5, 10]);
 }
 
 /// Sound circuits, and some with too many inputs or no output.

@@ -7,8 +7,8 @@ mod harness;
 
 use cases::circuits::{circuit, record, selecting, small, INPUT, NOT, XOR};
 use cases::faults::{self, some};
-use cases::selects::{self, Sort, EVERY};
-use cases::{damage, drawn, Random};
+use cases::selects::{self, EVERY};
+use cases::{damage, drawn, Random, Sort};
 use defects::defects;
 use exchanged::exchanged;
 use harness::{compare, first_defect_is_told, wrong_programs_are_seen, Case, Clauses, Defect};
@@ -22,7 +22,7 @@ impl Case for Clauses {
         entries::clauses(&self.circuit, &self.fault, &self.words, &self.answer)
     }
 
-    fn selects(&self, _: &mut Seen) -> Vec<Sort> {
+    fn sorts(&self, _: &mut Seen) -> Vec<Sort> {
         selects::all(&self.circuit, &self.fault, &[])
     }
 }
@@ -82,17 +82,17 @@ fn boundaries() -> Vec<Clauses> {
 
 #[test]
 fn sound_clauses() {
-    assert_eq!(compare("clauses, sound", drawn(1, 50_000, sound)).with_selects(&EVERY[..2]).seen(), [0]);
+    assert_eq!(compare("clauses, sound", drawn(1, 50_000, sound)).with_sorts(&EVERY[..2]).seen(), [0]);
 }
 
 #[test]
 fn damaged_clauses() {
-    assert_eq!(compare("clauses, damaged", drawn(2, 50_000, damaged)).with_selects(&EVERY[..2]).seen(), [0, 1, 2, 4, 5, 6, 7, 10, 11]);
+    assert_eq!(compare("clauses, damaged", drawn(2, 50_000, damaged)).with_sorts(&EVERY[..2]).seen(), [0, 1, 2, 4, 5, 6, 7, 10, 11]);
 }
 
 #[test]
 fn boundaries_and_largest() {
-    assert_eq!(compare("clauses, boundaries", boundaries().into_iter()).with_selects(&EVERY[..2]).seen(), [0, 11]);
+    assert_eq!(compare("clauses, boundaries", boundaries().into_iter()).with_sorts(&EVERY[..2]).seen(), [0, 11]);
 }
 
 /// What can be wrong, in the order in which it is looked for.

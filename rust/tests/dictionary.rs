@@ -10,8 +10,8 @@ mod rules;
 use cases::circuits::{record, selecting, sources, AND, INPUT};
 use cases::faults::{self, inputs};
 use cases::files::{boundaries, example_a, largest, small};
-use cases::selects::{self, Sort, EVERY};
-use cases::{damage, drawn, Files, Random};
+use cases::selects::{self, EVERY};
+use cases::{damage, drawn, Files, Random, Sort};
 use changed::{accepted, written_though_refused};
 use defects::defects;
 use harness::{compare, first_defect_is_told, wrong_programs_are_seen, Case, Defect, Dictionary};
@@ -25,7 +25,7 @@ impl Case for Dictionary {
         entries::dictionary(&self.circuit, &self.faults, &self.patterns, &self.table, &self.work, &self.answer)
     }
 
-    fn selects(&self, seen: &mut Seen) -> Vec<Sort> {
+    fn sorts(&self, seen: &mut Seen) -> Vec<Sort> {
         selects::all(&self.circuit, &self.faults, seen.lent[1].u8())
     }
 }
@@ -58,21 +58,21 @@ fn damaged(random: &mut Random) -> Dictionary {
 
 #[test]
 fn sound_dictionaries() {
-    assert_eq!(compare("dictionary, sound", drawn(1, 100_000, sound)).with_selects(&EVERY).seen(), [0]);
+    assert_eq!(compare("dictionary, sound", drawn(1, 100_000, sound)).with_sorts(&EVERY).seen(), [0]);
 }
 
 #[test]
 fn damaged_dictionaries() {
-    assert_eq!(compare("dictionary, damaged", drawn(2, 150_000, damaged)).with_selects(&EVERY).seen(), [0, 1, 2, 4, 5, 6, 7, 8, 9, 10]);
+    assert_eq!(compare("dictionary, damaged", drawn(2, 150_000, damaged)).with_sorts(&EVERY).seen(), [0, 1, 2, 4, 5, 6, 7, 8, 9, 10]);
 }
 
 #[test]
 fn boundaries_and_largest() {
     let mut random = Random::new(3);
     let boundaries = boundaries(&mut random).into_iter().map(|files| lend(&mut random, files));
-    assert_eq!(compare("dictionary, boundaries", boundaries).with_selects(&EVERY).seen(), [0, 1, 4, 6, 8]);
+    assert_eq!(compare("dictionary, boundaries", boundaries).with_sorts(&EVERY).seen(), [0, 1, 4, 6, 8]);
     let files = largest(&mut random);
-    assert_eq!(compare("dictionary, largest", [lend(&mut random, files)].into_iter()).with_selects(&EVERY[..2]).seen(), [0]);
+    assert_eq!(compare("dictionary, largest", [lend(&mut random, files)].into_iter()).with_sorts(&EVERY[..2]).seen(), [0]);
 }
 
 /// What can be wrong, in the order in which it is looked for.

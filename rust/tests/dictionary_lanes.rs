@@ -15,8 +15,8 @@ mod wrong;
 use cases::circuits::{record, selector, sources, BUFFER, INPUT, SELECTOR};
 use cases::faults::{self, inputs};
 use cases::files::{boundaries, example_a, largest, small};
-use cases::selects::{self, Sort, EVERY};
-use cases::{damage, drawn, lane, Files, Random, Tally};
+use cases::selects::{self, EVERY};
+use cases::{damage, drawn, lane, Files, Random, Sort, Tally};
 use defects::defects;
 use harness::{compare, first_defect_is_told, library, wrong_programs_are_seen, Case, Defect, Dictionary, DictionaryLanes};
 use mixes::{mix_or_refusal, OF};
@@ -41,7 +41,7 @@ impl Case for DictionaryLanes {
         mix_or_refusal(seen)
     }
 
-    fn selects(&self, seen: &mut Seen) -> Vec<Sort> {
+    fn sorts(&self, seen: &mut Seen) -> Vec<Sort> {
         let last = lane(seen.lent[1].u64(), self.last_lane());
         selects::all(&self.circuit, &self.faults, &last)
     }
@@ -162,10 +162,10 @@ fn covers(tally: Tally, refusals: &[u32]) {
 
 #[test]
 fn sound_dictionaries() {
-    covers(compare("dictionary_lanes, up to 8 patterns", drawn(1, 20_000, few_patterns)).with_selects(&EVERY), &[]);
+    covers(compare("dictionary_lanes, up to 8 patterns", drawn(1, 20_000, few_patterns)).with_sorts(&EVERY), &[]);
     for (seed, count) in (2..).zip(COUNTS) {
         let cases = drawn(seed, 1_000, |random| with_patterns(random, count));
-        covers(compare(&format!("dictionary_lanes, patterns: {count}"), cases).with_selects(&EVERY), &[]);
+        covers(compare(&format!("dictionary_lanes, patterns: {count}"), cases).with_sorts(&EVERY), &[]);
     }
 }
 
@@ -183,16 +183,16 @@ fn x_everywhere() {
 
 #[test]
 fn damaged_dictionaries() {
-    covers(compare("dictionary_lanes, damaged", drawn(22, 60_000, damaged)).with_selects(&EVERY), &[1, 2, 4, 5, 6, 7, 8, 9, 10]);
+    covers(compare("dictionary_lanes, damaged", drawn(22, 60_000, damaged)).with_sorts(&EVERY), &[1, 2, 4, 5, 6, 7, 8, 9, 10]);
 }
 
 #[test]
 fn boundaries_and_largest() {
     let mut random = Random::new(23);
     let boundaries = boundaries(&mut random).into_iter().map(|files| lend(&mut random, files));
-    covers(compare("dictionary_lanes, boundaries", boundaries).with_selects(&EVERY), &[1, 4, 6, 8]);
+    covers(compare("dictionary_lanes, boundaries", boundaries).with_sorts(&EVERY), &[1, 4, 6, 8]);
     let files = largest(&mut random);
-    assert_eq!(compare("dictionary_lanes, largest", [lend(&mut random, files)].into_iter()).with_selects(&EVERY[..2]).seen(), USUAL[2..]);
+    assert_eq!(compare("dictionary_lanes, largest", [lend(&mut random, files)].into_iter()).with_sorts(&EVERY[..2]).seen(), USUAL[2..]);
 }
 
 #[test]

@@ -48,7 +48,7 @@ fn compare(name: &str, cases: Vec<Files>) -> Tally {
     for (number, files) in numbers.into_iter().zip(&cases) {
         tally.count(number);
         if let (0, Some(circuit), Some(faults)) = (number, &files.circuit, &files.faults) {
-            tally.count_selects(selects::all(circuit, faults, &[]));
+            tally.count_sorts(selects::all(circuit, faults, &[]));
         }
     }
     println!("program, {name}: {tally}, {:.1} s", began.elapsed().as_secs_f64());
@@ -57,17 +57,17 @@ fn compare(name: &str, cases: Vec<Files>) -> Tally {
 
 #[test]
 fn sound_directories() {
-    assert_eq!(compare("sound", drawn(1, 120, sound).collect()).with_selects(&EVERY[..2]).seen(), [0]);
+    assert_eq!(compare("sound", drawn(1, 120, sound).collect()).with_sorts(&EVERY[..2]).seen(), [0]);
 }
 
 #[test]
 fn damaged_directories() {
-    assert_eq!(compare("damaged", drawn(2, 240, damaged).collect()).with_selects(&EVERY[..1]).seen(), [0, 1, 2, 4, 5, 6, 7, 8, 9]);
+    assert_eq!(compare("damaged", drawn(2, 240, damaged).collect()).with_sorts(&EVERY[..1]).seen(), [0, 1, 2, 4, 5, 6, 7, 8, 9]);
 }
 
 #[test]
 fn sizes() {
-    assert_eq!(compare("sizes", boundaries(&mut Random::new(3))).with_selects(&EVERY[..2]).seen(), [0, 1, 4, 6, 8]);
+    assert_eq!(compare("sizes", boundaries(&mut Random::new(3))).with_sorts(&EVERY[..2]).seen(), [0, 1, 4, 6, 8]);
 }
 
 /// The examples print what stands beside them, and so does the second program.

@@ -78,10 +78,10 @@ fn all_assignments() {
             assert_eq!(found, expected, "{bytes:?} {record:?}");
             *if found.is_empty() { &mut unsatisfied } else { &mut satisfied } += 1;
             tally.count(0);
-            tally.count_selects(selects::all(&bytes, &record, &[]));
+            tally.count_sorts(selects::all(&bytes, &record, &[]));
         }
     }
-    println!("clauses over all assignments: {satisfied} lists satisfied, {unsatisfied} not; {}", tally.with_selects(&EVERY[..2]));
+    println!("clauses over all assignments: {satisfied} lists satisfied, {unsatisfied} not; {}", tally.with_sorts(&EVERY[..2]));
     assert!(satisfied > 100 && unsatisfied > 100);
 }
 
@@ -146,11 +146,11 @@ fn solvers_agree_with_search_and_all_vectors() {
         }
         verdicts[usize::from(selectors(&bytes).next().is_some())][usize::from(has_test)] += 1;
         tally.count(0);
-        tally.count_selects(selects::all(&bytes, &record, &[]));
+        tally.count_sorts(selects::all(&bytes, &record, &[]));
     }
     for (which, [redundant, tests]) in ["without selectors", "with selectors"].into_iter().zip(verdicts) {
         println!("clauses to three solvers, circuits {which}: {tests} with a test, {redundant} redundant");
         assert!(redundant > 30 && tests > 30, "too few circuits {which}: {tests} with a test, {redundant} redundant");
     }
-    println!("clauses to three solvers: {}, {:.1} s", tally.with_selects(&EVERY[..2]), began.elapsed().as_secs_f64());
+    println!("clauses to three solvers: {}, {:.1} s", tally.with_sorts(&EVERY[..2]), began.elapsed().as_secs_f64());
 }

@@ -12,8 +12,8 @@ mod wrong;
 use budgets::budget;
 use cases::circuits::{self, always_0, circuit, parity, selecting};
 use cases::faults::{self, some};
-use cases::selects::{self, Sort, EVERY};
-use cases::{damage, drawn, Random, Tally};
+use cases::selects::{self, EVERY};
+use cases::{damage, drawn, Random, Sort, Tally};
 use defects::defects;
 use harness::{compare, first_defect_is_told, library, wrong_programs_are_seen, Case, Defect, Search};
 use rules::RULES;
@@ -38,7 +38,7 @@ impl Case for Search {
             seen.returned
         }
     }
-    fn selects(&self, seen: &mut Seen) -> Vec<Sort> {
+    fn sorts(&self, seen: &mut Seen) -> Vec<Sort> {
         selects::all(&self.circuit, &self.fault, if self.budget > 0 { seen.lent[1].u8() } else { &[] })
     }
 }
@@ -102,25 +102,25 @@ fn damaged(random: &mut Random) -> Search {
 
 #[test]
 fn sound_searches() {
-    assert_eq!(compare("search, sound", drawn(1, 60_000, sound)).with_selects(&EVERY).seen(), [TEST, REDUNDANT, GIVEN_UP]);
+    assert_eq!(compare("search, sound", drawn(1, 60_000, sound)).with_sorts(&EVERY).seen(), [TEST, REDUNDANT, GIVEN_UP]);
 }
 
 #[test]
 fn damaged_searches() {
     let seen = [1, 2, 4, 5, 6, 7, 10, TEST, REDUNDANT, GIVEN_UP];
-    assert_eq!(compare("search, damaged", drawn(2, 150_000, damaged)).with_selects(&EVERY).seen(), seen);
+    assert_eq!(compare("search, damaged", drawn(2, 150_000, damaged)).with_sorts(&EVERY).seen(), seen);
 }
 
 #[test]
 fn searches_with_many_inputs() {
-    assert_eq!(compare("search, 60 to 64 inputs", drawn(3, 3_000, many_inputs)).with_selects(&EVERY).seen(), [TEST, REDUNDANT, GIVEN_UP]);
+    assert_eq!(compare("search, 60 to 64 inputs", drawn(3, 3_000, many_inputs)).with_sorts(&EVERY).seen(), [TEST, REDUNDANT, GIVEN_UP]);
     let budgets = [0, 1, 64, 65, 66, 67, u64::MAX].into_iter().map(|budget| Search { budget, ..parity_stuck_at_0() });
     assert_eq!(compare("search, parity of 64 inputs", budgets).seen(), [TEST, GIVEN_UP]);
     let largest = |random: &mut Random| {
         let circuit = circuit(random, 2048, 64);
         Search { budget: 100, ..lend(random, circuit) }
     };
-    assert_eq!(compare("search, 2,048 lines", drawn(4, 50, largest)).with_selects(&EVERY[..1]).seen(), [TEST, GIVEN_UP]);
+    assert_eq!(compare("search, 2,048 lines", drawn(4, 50, largest)).with_sorts(&EVERY[..1]).seen(), [TEST, GIVEN_UP]);
 }
 
 /// Every complete pattern of so many inputs.
@@ -135,7 +135,7 @@ fn verdicts_and_all_vectors() {
     let cases: Vec<_> = drawn(5, 3_000, few_inputs).collect();
     let (mut found, mut tally) = ([0; 2], Tally::default());
     for (case, mut seen) in cases.iter().zip(library(&cases)) {
-        tally.count_selects(case.selects(&mut seen));
+        tally.count_sorts(case.sorts(&mut seen));
         let (circuit, fault) = case.parts();
         let inputs = case.test.len();
         let detecting: Vec<_> = vectors(inputs).filter(|vector| circuit.entry(vector, fault) == Entry::Fail).collect();
@@ -150,7 +150,7 @@ fn verdicts_and_all_vectors() {
         found[usize::from(seen.answer[0])] += 1;
     }
     assert!(found.iter().all(|&times| times > 300), "{found:?}");
-    tally.with_selects(&EVERY);
+    tally.with_sorts(&EVERY);
 }
 
 /// What can be wrong, in the order in which it is looked for.

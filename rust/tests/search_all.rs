@@ -16,8 +16,8 @@ mod wrong;
 use budgets::budget;
 use cases::circuits::{always_0, circuit, example_a, few_inputs, parity};
 use cases::faults::{self, inputs, some};
-use cases::selects::{self, Sort, EVERY};
-use cases::{damage, drawn, Random};
+use cases::selects::{self, EVERY};
+use cases::{damage, drawn, Random, Sort};
 use defects::defects;
 use harness::{compare, first_defect_is_told, first_difference, library, wrong_programs_are_seen, Case, Defect, SearchAll};
 use mixes::{mix_or_refusal, OF};
@@ -43,7 +43,7 @@ impl Case for SearchAll {
     fn counted(seen: &Seen) -> u32 {
         mix_or_refusal(seen)
     }
-    fn selects(&self, seen: &mut Seen) -> Vec<Sort> {
+    fn sorts(&self, seen: &mut Seen) -> Vec<Sort> {
         let looked = self.budgets.iter().any(|&budget| budget > 0);
         selects::all(&self.circuit, &self.faults, if looked { seen.lent[3].u8() } else { &[] })
     }
@@ -168,34 +168,31 @@ fn damaged(random: &mut Random) -> SearchAll {
 
 #[test]
 fn sound_lists() {
-    assert_eq!(compare("search_all, up to 8 faults", drawn(1, 10_000, few_faults)).with_selects(&EVERY).seen(), MIXES);
-    assert_eq!(
-        compare("search_all, the last without budget", drawn(2, 5_000, last_without_budget)).with_selects(&EVERY).seen(),
-        MIXES[3..]
-    );
-    assert_eq!(compare("search_all, 256 faults", drawn(3, 60, most_faults)).with_selects(&EVERY[..2]).seen(), MIXES[4..]);
-    assert_eq!(compare("search_all, every budget of a fault", drawn(4, 200, every_budget)).with_selects(&EVERY[..2]).seen(), MIXES[4..6]);
+    assert_eq!(compare("search_all, up to 8 faults", drawn(1, 10_000, few_faults)).with_sorts(&EVERY).seen(), MIXES);
+    assert_eq!(compare("search_all, the last without budget", drawn(2, 5_000, last_without_budget)).with_sorts(&EVERY).seen(), MIXES[3..]);
+    assert_eq!(compare("search_all, 256 faults", drawn(3, 60, most_faults)).with_sorts(&EVERY[..2]).seen(), MIXES[4..]);
+    assert_eq!(compare("search_all, every budget of a fault", drawn(4, 200, every_budget)).with_sorts(&EVERY[..2]).seen(), MIXES[4..6]);
 }
 
 #[test]
 fn damaged_lists() {
     let refusals = [1, 2, 4, 5, 6, 7, 10];
-    assert_eq!(compare("search_all, damaged", drawn(5, 30_000, damaged)).with_selects(&EVERY).seen(), [&refusals[..], &MIXES].concat());
+    assert_eq!(compare("search_all, damaged", drawn(5, 30_000, damaged)).with_sorts(&EVERY).seen(), [&refusals[..], &MIXES].concat());
 }
 
 #[test]
 fn lists_with_many_inputs() {
     let mixes = [REDUNDANT, GIVEN_UP, TEST + GIVEN_UP, REDUNDANT + GIVEN_UP];
-    assert_eq!(compare("search_all, 60 to 64 inputs", drawn(6, 300, many_inputs)).with_selects(&EVERY).seen(), mixes);
+    assert_eq!(compare("search_all, 60 to 64 inputs", drawn(6, 300, many_inputs)).with_sorts(&EVERY).seen(), mixes);
     assert_eq!(compare("search_all, parity of 64 inputs", drawn(7, 3, of_parity)).seen(), [TEST + GIVEN_UP]);
 }
 
 #[test]
 fn boundaries_and_largest() {
     let boundaries = boundaries(&mut Random::new(8)).into_iter();
-    assert_eq!(compare("search_all, boundaries", boundaries).with_selects(&EVERY[..2]).seen(), [1, 4, 6, GIVEN_UP, TEST + GIVEN_UP]);
+    assert_eq!(compare("search_all, boundaries", boundaries).with_sorts(&EVERY[..2]).seen(), [1, 4, 6, GIVEN_UP, TEST + GIVEN_UP]);
     assert_eq!(
-        compare("search_all, 2,048 lines, 256 faults", drawn(9, 4, largest)).with_selects(&EVERY[..2]).seen(),
+        compare("search_all, 2,048 lines, 256 faults", drawn(9, 4, largest)).with_sorts(&EVERY[..2]).seen(),
         [GIVEN_UP, TEST + GIVEN_UP]
     );
 }

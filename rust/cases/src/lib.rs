@@ -23,4 +23,4 @@ pub use files::Files;
 pub use lanes::lane;
 pub use lent::Lent;
 pub use random::{drawn, Random};
-pub use tally::Tally;
+pub use tally::{Sort, Tally};

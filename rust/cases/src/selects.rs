@@ -1,8 +1,6 @@
 //! What selectors are seen to do, so that a test can say that it has seen them do everything.
 use crate::circuits::selectors;
-
-/// Something that selectors do.
-pub type Sort = &'static str;
+use crate::Sort;
 
 /// How selectors are wired.
 pub const WIRED: [Sort; 5] = ["selector", "three lines", "select is a source", "one line for both sources", "one line for all three"];

@@ -21,10 +21,10 @@ fn lanes_are_single_patterns() {
         for (number, pattern) in lanes.chunks_exact(files.inputs()).enumerate() {
             let single = second::dictionary(circuit, faults, pattern, files.fault_count(), 2 * files.lines()).expect("sound");
             assert_eq!(lane(&words, number), single.work, "lane {number} of {files:?}");
-            tally.count_selects(valued(circuit, &single.work));
+            tally.count_sorts(valued(circuit, &single.work));
         }
         spare += 64 - last_group.len() / files.inputs();
     }
     assert!((10_000..25_000).contains(&spare), "{spare} of 32,000 lanes are spare");
-    tally.with_selects(&[&VALUED]);
+    tally.with_sorts(&[&VALUED]);
 }

@@ -47,7 +47,7 @@ fn lists_are_single_searches() {
     let mut tally = Tally::default();
     for list in drawn(1, 5_000, list) {
         assert_eq!(in_one_call(&list), one_by_one(&list), "{:?} {:?} {:?}", list.circuit, list.faults, list.budgets);
-        tally.count_selects(selects::all(&list.circuit, &list.faults, &[]));
+        tally.count_sorts(selects::all(&list.circuit, &list.faults, &[]));
     }
-    tally.with_selects(&EVERY[..2]);
+    tally.with_sorts(&EVERY[..2]);
 }

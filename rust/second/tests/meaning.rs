@@ -28,10 +28,10 @@ fn entries_speak_of_all_fillings() {
     let mut detected_under_pass = 0;
     let mut tally = Tally::default();
     for (circuit, faults) in drawn(1, 800, tiny) {
-        tally.count_selects(wired(&circuit.write()));
+        tally.count_sorts(wired(&circuit.write()));
         for pattern in every_pattern(circuit.inputs().count()) {
             let good = circuit.values(&pattern, None);
-            tally.count_selects(valued(&circuit.write(), &good.iter().map(byte).collect::<Vec<_>>()));
+            tally.count_sorts(valued(&circuit.write(), &good.iter().map(byte).collect::<Vec<_>>()));
             let compared: Vec<_> = circuit.outputs().filter(|&line| good[line].is_some()).collect();
             let fillings = fillings(&pattern);
             for &fault in &faults {
@@ -52,7 +52,7 @@ fn entries_speak_of_all_fillings() {
         }
     }
     assert!(seen.iter().chain([&detected_under_pass]).all(|&times| times > 1000), "{seen:?}, {detected_under_pass}");
-    tally.with_selects(&[&WIRED, &VALUED]);
+    tally.with_sorts(&[&WIRED, &VALUED]);
 }
 
 /// The nodes from here on, in order, up to the first that fails: the definition as a recursion.
@@ -74,7 +74,7 @@ fn searches_agree_with_all_vectors_and_all_budgets() {
     let mut seen = [0; 3];
     let mut tally = Tally::default();
     for (circuit, faults) in drawn(2, 300, tiny) {
-        tally.count_selects(wired(&circuit.write()));
+        tally.count_sorts(wired(&circuit.write()));
         let inputs = circuit.inputs().count();
         for fault in faults {
             let mut looked = vec![];
@@ -95,7 +95,7 @@ fn searches_agree_with_all_vectors_and_all_budgets() {
         }
     }
     assert!(seen.iter().all(|&times| times > 1000), "{seen:?}");
-    tally.with_selects(&[&WIRED]);
+    tally.with_sorts(&[&WIRED]);
 }
 
 /// The clauses of tiny circuits, over all assignments: a vector extends to one that satisfies them exactly if it detects the fault, and then in
@@ -105,7 +105,7 @@ fn clauses_are_satisfied_by_detecting_vectors() {
     let mut seen = [0; 2];
     let mut tally = Tally::default();
     for (circuit, faults) in drawn(3, 400, |random| tiny_of(random, 4)) {
-        tally.count_selects(wired(&circuit.write()));
+        tally.count_sorts(wired(&circuit.write()));
         let variables = 2 * circuit.lines.len() + 1 + circuit.outputs().count();
         for fault in faults {
             let clauses = clauses_of(&circuit, fault);
@@ -127,5 +127,5 @@ fn clauses_are_satisfied_by_detecting_vectors() {
         }
     }
     assert!(seen.iter().all(|&times| times > 1000), "{seen:?}");
-    tally.with_selects(&[&WIRED]);
+    tally.with_sorts(&[&WIRED]);
 }

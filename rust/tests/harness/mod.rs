@@ -2,8 +2,7 @@
 //! answer area and every element of lent memory.
 mod parameters;
 
-use cases::selects::Sort;
-use cases::Tally;
+use cases::{Sort, Tally};
 pub use parameters::*;
 use second::entries::Seen;
 use std::time::Instant;
@@ -19,8 +18,8 @@ pub trait Case: Parameters {
         seen.returned
     }
 
-    /// What its selectors do, where it is accepted and this is what it leaves.
-    fn selects(&self, _seen: &mut Seen) -> Vec<Sort> {
+    /// What it shows, as what its selectors do, where it is accepted and this is what it leaves.
+    fn sorts(&self, _seen: &mut Seen) -> Vec<Sort> {
         vec![]
     }
 
@@ -69,7 +68,7 @@ pub fn compare<C: Case>(name: &str, mut cases: impl Iterator<Item = C>) -> Tally
         for (case, seen) in some.iter().zip(&mut said) {
             tally.count(C::counted(seen));
             if seen.returned == 0 {
-                tally.count_selects(case.selects(seen));
+                tally.count_sorts(case.sorts(seen));
             }
         }
     }
