@@ -13,7 +13,7 @@ mod mixes;
 #[path = "wrong/search_all.rs"]
 mod wrong;
 
-use budgets::budget;
+use budgets::around;
 use cases::circuits::{always_0, circuit, example_a, few_inputs, parity};
 use cases::faults::{self, inputs, some};
 use cases::selects::{self, EVERY};
@@ -72,7 +72,7 @@ fn list(random: &mut Random, count: usize) -> SearchAll {
     let few = some(random, &circuit, different);
     let faults: Vec<u8> = (0..count).flat_map(|place| few[8 * (place % different)..][..8].to_vec()).collect();
     let (read, all) = parts(&circuit, &faults);
-    let budgets = all.iter().map(|&fault| budget(random, &read, fault)).collect();
+    let budgets = all.iter().map(|&fault| around(random, search_circuit(&read, fault, u64::MAX).nodes)).collect();
     lend(random, circuit, faults, budgets)
 }
 

@@ -1,6 +1,6 @@
 //! Searches that are wrong in one way each.
 use super::rules::Rule;
-use super::{Case, Search, GIVEN_UP, REDUNDANT, TEST};
+use super::{Case, OneFault, Search, GIVEN_UP, REDUNDANT, TEST};
 use second::circuit::Gate;
 use second::entries::Seen;
 use second::values::byte;
