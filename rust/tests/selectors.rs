@@ -1,4 +1,5 @@
-//! The library on selectors that are marked by hand: both dictionaries, the search, the list of it, and the clauses.
+//! The library on selectors that are marked by hand: both dictionaries, the searches over patterns and over head lines, the search for a list, and
+//! the clauses.
 use cases::faults::inputs;
 use cases::marked::{selectors, Marked};
 use ullimaqsu::{Clauses, Outcome, Search};
@@ -14,13 +15,14 @@ fn tables(marked: &Marked) -> [Vec<u8>; 2] {
     [table, in_lanes]
 }
 
-/// What the search finds, alone and in a list, and what it leaves in a test buffer.
-fn searched(Marked { circuit, fault, .. }: &Marked, budget: u64) -> [(Search, Vec<u8>); 2] {
-    let (mut test, mut work) = (vec![9; inputs(circuit)], vec![9; circuit.len() / 4]);
+/// What the search finds, alone, over head lines and in a list, and what it leaves in a test buffer. The circuits have no tree before a head line, so
+/// that head lines are inputs.
+fn searched(Marked { circuit, fault, .. }: &Marked, budget: u64) -> [(Search, Vec<u8>); 3] {
+    let ([mut test, mut at_heads, mut tests], mut work) = ([(); 3].map(|_| vec![9; inputs(circuit)]), vec![9; circuit.len() / 4]);
     let alone = ullimaqsu::search(circuit, fault, budget, &mut test, &mut work).expect("sound");
-    let mut tests = vec![9; inputs(circuit)];
+    let heads = ullimaqsu::search_heads(circuit, fault, budget, &mut at_heads, &mut work).expect("sound");
     let list = ullimaqsu::search_all(circuit, fault, &[budget], &mut tests, &mut work).expect("sound");
-    [(alone, test), (list[0], tests)]
+    [(alone, test), (heads, at_heads), (list[0], tests)]
 }
 
 #[test]
@@ -37,9 +39,9 @@ fn verdicts() {
         let nothing = vec![9; inputs(&marked.circuit)];
         let (outcome, test) = if marked.outcome == 0 { (Outcome::Test, marked.test()) } else { (Outcome::Redundant, nothing.clone()) };
         let found = (Search { outcome, nodes: marked.nodes }, test);
-        assert_eq!(searched(&marked, marked.nodes), [found.clone(), found], "{}", marked.name);
+        assert_eq!(searched(&marked, marked.nodes), [(); 3].map(|_| found.clone()), "{}", marked.name);
         let given_up = (Search { outcome: Outcome::GivenUp, nodes: marked.nodes - 1 }, nothing);
-        assert_eq!(searched(&marked, marked.nodes - 1), [given_up.clone(), given_up], "{}", marked.name);
+        assert_eq!(searched(&marked, marked.nodes - 1), [(); 3].map(|_| given_up.clone()), "{}", marked.name);
     }
 }
 

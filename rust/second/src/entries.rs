@@ -67,7 +67,7 @@ pub fn search_heads(circuit: &[u8], fault: &[u8], budget: u64, test: &[u8], work
 }
 
 /// What the entry of a search for one fault does.
-fn found(test: &[u8], work: &[u8], answer: &[u8], searched: Result<Searched, Refusal>) -> Seen {
+pub fn found(test: &[u8], work: &[u8], answer: &[u8], searched: Result<Searched, Refusal>) -> Seen {
     let written = |Searched { outcome, nodes, test: found, work: last }| {
         (vec![outcome as u64, nodes], vec![found.unwrap_or(test.to_vec()).into(), last.unwrap_or(work.to_vec()).into()])
     };
