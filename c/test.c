@@ -336,6 +336,61 @@ static void test_search(void) {
     }
 }
 
+/* Lines 0 to 3 inputs; 4 = AND(0, 1), 5 = OR(4, 2), a head line, since the XOR and the XNOR read it: 6 = XOR(5, 3), 7 = XNOR(5, 3), both outputs;
+   8 = AND(6, 7), always 0, an output. So the head lines are 3 and 5. Line 4 is an output too, and not looked at. */
+static const uint8_t tree[] = {
+    INPUT, INPUT, INPUT, INPUT, LINE(ULLIMAQSU_AND, 1, 0, 1), LINE(ULLIMAQSU_OR, 0, 4, 2),
+    LINE(ULLIMAQSU_XOR, 1, 5, 3), LINE(ULLIMAQSU_XNOR, 1, 5, 3), LINE(ULLIMAQSU_AND, 1, 6, 7)};
+#define X 2
+#define NO_TEST {JUNK, JUNK, JUNK, JUNK}
+#define AS_LENT {JUNK, JUNK, JUNK, JUNK, JUNK, JUNK, JUNK, JUNK, JUNK, JUNK, JUNK, JUNK, JUNK, JUNK, JUNK, JUNK, JUNK, JUNK}
+static const struct {
+    const char *name;
+    size_t circuit;
+    uint8_t fault[9];
+    size_t fault_len;
+    uint64_t budget;
+    size_t test, work;
+    uint32_t returned;
+    uint64_t numbers[4];
+    uint8_t found[4], worked[18];
+} head_searches[] = {
+    {"a bound line stuck at 0: line 3 is 0, line 5 is 1 by lines 0 and 1", 72, {6, 0, 0, 0}, 8, 9, 4, 18, ULLIMAQSU_FINE, {ULLIMAQSU_TEST, 4},
+     {1, 1, X, 0}, {X, X, X, 0, X, 1, 1, 0, 0, X, X, X, 0, X, 1, 0, 0, 0}},
+    {"a pin of a bound line stuck at 1", 72, {6, 0, 1, 1}, 8, 9, 4, 18, ULLIMAQSU_FINE, {ULLIMAQSU_TEST, 3},
+     {0, X, 0, 0}, {X, X, X, 0, X, 0, 0, 1, 0, X, X, X, 0, X, 0, 1, 1, 1}},
+    {"a head line stuck at 1", 72, {5, 0, 0, 1}, 8, 3, 4, 18, ULLIMAQSU_FINE, {ULLIMAQSU_TEST, 3},
+     {0, X, 0, 0}, {X, X, X, 0, X, 0, 0, 1, 0, X, X, X, 0, X, 1, 1, 0, 0}},
+    {"the same with budget 2", 72, {5, 0, 0, 1}, 8, 2, 4, 18, ULLIMAQSU_FINE, {ULLIMAQSU_GIVEN_UP, 2},
+     NO_TEST, {X, X, X, 0, X, X, X, X, X, X, X, X, 0, X, 1, 1, 0, 0}},
+    {"the same with budget 0", 72, {5, 0, 0, 1}, 8, 0, 4, 18, ULLIMAQSU_FINE, {ULLIMAQSU_GIVEN_UP, 0}, NO_TEST, AS_LENT},
+    {"always 0, stuck at 0", 72, {8, 0, 0, 0}, 8, (uint64_t)-1, 4, 18, ULLIMAQSU_FINE, {ULLIMAQSU_REDUNDANT, 7},
+     NO_TEST, {X, X, X, 1, X, 1, 0, 1, 0, X, X, X, 1, X, 1, 0, 1, 0}},
+    {"a pin of a head line: the search over patterns", 72, {5, 0, 1, 1}, 8, 9, 4, 18, ULLIMAQSU_FINE, {ULLIMAQSU_TEST, 5},
+     {0, 0, 0, 0}, {0, 0, 0, 0, 0, 0, 0, 1, 0, 0, 0, 0, 0, 0, 1, 1, 0, 0}},
+    {"no output, and nothing else right", 32, {9}, 7, 9, 3, 17, ULLIMAQSU_NO_OUTPUT, {0}, NO_TEST, AS_LENT},
+    {"part of a fault", 72, {5, 0, 0, 1}, 7, 9, 3, 17, ULLIMAQSU_FAULTS_SIZE, {0}, NO_TEST, AS_LENT},
+    {"no such line", 72, {9, 0, 0, 1}, 8, 9, 3, 17, ULLIMAQSU_FAULT_LAYOUT, {0}, NO_TEST, AS_LENT},
+    {"a test buffer for each head line", 72, {5, 0, 0, 1}, 8, 9, 2, 18, ULLIMAQSU_BUFFER_SIZE, {0}, NO_TEST, AS_LENT},
+    {"a work memory too small", 72, {5, 0, 0, 1}, 8, 9, 4, 17, ULLIMAQSU_BUFFER_SIZE, {0}, NO_TEST, AS_LENT},
+};
+
+static void test_search_heads(void) {
+    for (size_t i = 0; i < sizeof head_searches / sizeof *head_searches; i++)
+        for (size_t len = 31; len <= 33; len++) {
+            uint8_t test[5], work[19], area[34];
+            fill(test, sizeof test), fill(work, sizeof work), fill(area, sizeof area);
+            uint32_t returned =
+                ullimaqsu_search_heads(tree, head_searches[i].circuit, head_searches[i].fault, head_searches[i].fault_len, head_searches[i].budget,
+                                       test, head_searches[i].test, work, head_searches[i].work, area, len);
+            expect(returned == (len == 32 ? head_searches[i].returned : ULLIMAQSU_BUFFER_SIZE), head_searches[i].name);
+            expect(len == 32 ? answers(area, head_searches[i].numbers) : stays(area, 32), head_searches[i].name);
+            expect(len == 32 ? same(test, head_searches[i].found, 4) : stays(test, 4), "the test with its trees set");
+            expect(len == 32 ? same(work, head_searches[i].worked, 18) : stays(work, 18), "the work memory of the last node");
+            expect(stays(test + 4, 1) && stays(work + 18, 1) && stays(area + 32, 2), "nothing else is written");
+        }
+}
+
 /* Example A's faults in one list, with budgets that are just enough, too small, without end and 0, and with other lengths; where a byte of the
    faults is bad, it is this one. */
 static const struct {
@@ -574,10 +629,10 @@ static void test_bench_names(void) {
 static void test_handed_on(void) {
     static const uint8_t fault[8], pattern[2];
     static const uint64_t budget[1] = {9}, place[4] = {18};
-    static const char *const entries[] = {"dictionary", "dictionary in lanes", "search", "search for a list", "clauses"};
+    static const char *const entries[] = {"dictionary", "dictionary in lanes", "search", "search over head lines", "search for a list", "clauses"};
     const uint8_t *circuit = reads_itself;
     const size_t len = sizeof reads_itself;
-    for (int i = 0; i < 5; i++) {
+    for (int i = 0; i < 6; i++) {
         uint8_t bytes[4], work[6], area[32];
         uint64_t words[12], count[1];
         int32_t clauses[80];
@@ -586,7 +641,8 @@ static void test_handed_on(void) {
         uint32_t returned = i == 0   ? ullimaqsu_dictionary(circuit, len, fault, 8, pattern, 2, bytes, 1, work, 6, area, 32)
                             : i == 1 ? ullimaqsu_dictionary_lanes(circuit, len, fault, 8, pattern, 2, bytes, 1, words, 12, area, 32)
                             : i == 2 ? ullimaqsu_search(circuit, len, fault, 8, 9, bytes, 2, work, 6, area, 32)
-                            : i == 3 ? ullimaqsu_search_all(circuit, len, fault, 8, budget, 1, bytes, 1, count, 1, bytes + 1, 2, work, 6, area, 32)
+                            : i == 3 ? ullimaqsu_search_heads(circuit, len, fault, 8, 9, bytes, 2, work, 6, area, 32)
+                            : i == 4 ? ullimaqsu_search_all(circuit, len, fault, 8, budget, 1, bytes, 1, count, 1, bytes + 1, 2, work, 6, area, 32)
                                      : ullimaqsu_clauses(circuit, len, fault, 8, clauses, 80, area, 32);
         expect(returned == ULLIMAQSU_CIRCUIT_LAYOUT && answers(area, place), entries[i]);
         expect(stays(bytes, sizeof bytes) && stays(work, sizeof work), "bytes that are lent stay");
@@ -605,6 +661,7 @@ int main(void) {
     test_audit();
     test_lost_pair();
     test_search();
+    test_search_heads();
     test_search_all();
     test_outcomes();
     test_clauses();
