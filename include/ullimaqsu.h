@@ -212,20 +212,17 @@ uint32_t ullimaqsu_search(const uint8_t *circuit, size_t circuit_len,
                           uint8_t *work, size_t work_len,
                           uint8_t *answer, size_t answer_len);
 
-/* The test search that decides at head lines, for one fault. Refusals 1, 2, 4 to 7 and 10, as for ullimaqsu_search. N is the number of lines, n of
-   inputs.
-   A line branches if two or more pins read it, those of one gate counted singly. A line is bound if one of its pins reads a line that branches
-   or is bound, else it is free; a head line is a free line that branches or that a bound line reads. Before a head line lies a tree of free
-   lines.
-   For a fault at a bound line or at one of its pins, and for a head line itself stuck, a node has one value for each head line, in line order.
-   All other free lines are X at it, and their outputs are not looked at; else nodes, budget and outcome are those of ullimaqsu_search. For any
-   other fault, as at a pin of a head line, this is ullimaqsu_search.
-   The test buffer, exactly n bytes, is written only for a test: with the trees set for it, from each head line down. Where a value of its first
-   source alone makes a line's value that source has it, and the others stay X. Otherwise AND, NAND, OR and NOR set both sources, XOR and XNOR
-   the first to 0 and the second to what is then needed, a selector its select to 0 and its first source. Inputs that nothing is put on are X.
-   The work memory, exactly 2 N bytes, holds the last node itself, good values and after them faulty ones: free lines that are no head lines
-   are X in it, for a test too; with budget 0 it stays.
-   Answer: the outcome, and the number of nodes looked at. These may be more than ullimaqsu_search needs; where both reach a verdict it is the
+/* The test search that decides at head lines, for one fault. Refusals 1, 2, 4 to 7 and 10. N is the number of lines, n of inputs.
+   A line branches if two or more pins read it, each pin of a gate counted. It is bound if one of its pins reads a line that branches or is
+   bound, else free. A head line is a free line that branches or that a bound line reads; before it lies a tree of free lines.
+   For a fault at a bound line or at one of its pins, and for a head line itself stuck, a node has one value for each head line, in line order;
+   all other free lines are X, and their outputs are not looked at. Otherwise nodes, budget and outcome are those of ullimaqsu_search. For any
+   other fault, at a pin of a head line too, this is ullimaqsu_search.
+   The test buffer, exactly n bytes, is written only for a test, with the trees set from the head lines down: where a value of its first source
+   alone makes a gate's value, that source has it and the others are X; else AND, NAND, OR and NOR set both sources, XOR and XNOR the first to 0
+   and the second as it must be, a selector its select to 0 and its first source. The work memory, exactly 2 N bytes, then holds the good and
+   after them the faulty values of the last node looked at, for a test too with X on all free lines but the head lines; with budget 0 it stays.
+   Answer: the outcome, and the number of nodes looked at, which may be more than ullimaqsu_search needs. Where both reach a verdict it is the
    same. */
 uint32_t ullimaqsu_search_heads(const uint8_t *circuit, size_t circuit_len,
                                 const uint8_t *fault, size_t fault_len,

@@ -7,17 +7,10 @@ use second::clauses::clauses_of;
 use second::search::{search_circuit, Search};
 use second::values::byte;
 use second::{Circuit, Entry, Fault, Look, Outcome, Value};
-use vectors::{detects, fillings, tiny_of, truth};
+use vectors::{detects, every_pattern, fillings, tiny_of, truth};
 
 fn tiny(random: &mut Random) -> (Circuit, Vec<Fault>) {
     tiny_of(random, 10)
-}
-
-/// Every pattern of so many values.
-fn every_pattern(inputs: usize) -> Vec<Vec<Value>> {
-    (0..inputs).fold(vec![vec![]], |done, _| {
-        done.iter().flat_map(|start| [Some(false), Some(true), None].map(|value| [&start[..], &[value]].concat())).collect()
-    })
 }
 
 /// Where an entry is fail, one and the same compared output differs under every filling; where it is pass, no compared output does under any.

@@ -8,7 +8,7 @@ use second::search::search_circuit;
 use second::search_heads::{pins, searched, Place, Placed};
 use second::values::byte;
 use second::{Fault, Outcome, Searched, Site, Value};
-use vectors::{detects, fillings, tiny_of, with_faults};
+use vectors::{detects, every_pattern, fillings, tiny_of, with_faults};
 
 #[test]
 fn places_by_hand() {
@@ -88,6 +88,23 @@ fn pins_of_every_gate() {
             assert_eq!(gate.over(|pin, _| set[pin - 1]).value(), Some(value));
         }
     }
+}
+
+/// Whatever a node is, the pattern that is made of it gives each head line its value, X too.
+#[test]
+fn trees_of_every_node() {
+    let mut set = 0;
+    for (circuit, _) in drawn(3, 500, tiny) {
+        let placed = Placed::new(&circuit);
+        let heads: Vec<usize> = placed.heads().collect();
+        for node in every_pattern(heads.len()) {
+            let values = circuit.values(&placed.pattern(pins, &node), None);
+            assert_eq!(heads.iter().map(|&head| values[head]).collect::<Vec<_>>(), node, "{circuit:?}");
+            set += node.iter().flatten().count();
+        }
+        assert!(placed.pattern(pins, &vec![None; heads.len()]).iter().all(Option::is_none));
+    }
+    assert!(set > 3_000, "{set}");
 }
 
 /// The good and faulty values that are called D and its bar, or are equal.

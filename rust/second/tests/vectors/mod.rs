@@ -54,3 +54,10 @@ pub fn with_faults(bytes: &[u8]) -> (Circuit, Vec<Fault>) {
     let faults = Fault::read_all(&circuit, &faults::every(bytes).concat(), 256).expect("sound");
     (circuit, faults)
 }
+
+/// Every pattern of so many values.
+pub fn every_pattern(inputs: usize) -> Vec<Vec<Value>> {
+    (0..inputs).fold(vec![vec![]], |done, _| {
+        done.iter().flat_map(|start| [Some(false), Some(true), None].map(|value| [&start[..], &[value]].concat())).collect()
+    })
+}
