@@ -102,7 +102,7 @@ pub fn rows() -> impl Iterator<Item = Row> {
         || parts::audit_beside_compactor("the same beside the proved compactor, not Rust", 256, &last_pairs()),
         || parts::search::<Branches>("search: 500 lines, 20 inputs, 100,000 nodes at most", &redundant(), 100_000),
         || parts::search::<Table>("the same beside Rust that looks gates up too", &redundant(), 100_000),
-        || parts::search_heads::<Branches>("search_heads: the same over 20 trees of 60 inputs", &redundant_over_trees(), 100_000),
+        || parts::search_heads::<Branches>("search_heads: the same over 20 trees, 60 inputs", &redundant_over_trees(), 100_000),
         || parts::search_heads::<Table>("the same beside Rust that looks gates up too", &redundant_over_trees(), 100_000),
         || parts::search_heads::<Branches>("search_heads: the search's 500 lines, no trees", &redundant(), 100_000),
         || parts::search_heads_beside_search("the same beside the proved search, not Rust", &redundant(), 100_000),
