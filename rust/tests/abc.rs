@@ -76,7 +76,7 @@ fn readings_are_equivalent() {
         return;
     }
     let directory = Directory::new("abc");
-    let examples = ["c17", "adder16", "multiplier4", "parity16", "decoder4"];
+    let examples = ["c17", "adder16", "multiplier4", "parity16", "decoder4", "trees"];
     let examples = examples.map(|name| fs::read(root().join("examples/bench").join(name).with_extension("bench")).expect("an example"));
     let mut compared = 0;
     for text in examples.iter().cloned().chain(drawn(1, 30, plain)).chain([chain(300, true)]) {

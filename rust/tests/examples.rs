@@ -1,4 +1,4 @@
-//! The circuits under `examples/bench`: the library reads them, and simulated they add, multiply, count and decode.
+//! The circuits under `examples/bench`: the library reads them, and simulated they add, multiply, count, decode and choose.
 #[path = "harness/simulated.rs"]
 mod simulated;
 
@@ -110,6 +110,20 @@ fn the_decoder_decodes() {
     }
 }
 
+#[test]
+fn the_trees_choose() {
+    let trees = Example::read("trees");
+    let drawn = drawn(3, 300, |random: &mut Random| (random.word() >> 48, random.word() >> 48, random.word() >> 32));
+    // words that are drawn are hardly ever all 1 or all 0
+    let ends = drawn.enumerate().map(|(k, (a, b, c))| (if k % 2 == 0 { a } else { 65_535 }, if k % 3 == 0 { 0 } else { b }, c));
+    for (a, b, c) in ends {
+        let run = trees.run(&[("a", a << 16), ("b", b << 16), ("c", c << 32)]);
+        let (all, any, odd) = (a == 65_535, b != 0, c.count_ones() % 2 == 1);
+        let values = [all, any, odd, if all { any } else { odd }].map(u64::from);
+        assert_eq!(["all", "any", "odd", "y"].map(|name| run.value(name)), values);
+    }
+}
+
 /// The files are what the script writes, and the table of their sizes is right.
 #[test]
 fn generated_files_and_their_table() {
@@ -117,12 +131,12 @@ fn generated_files_and_their_table() {
     fs::create_dir_all(&room).expect("a directory");
     let status = Command::new("sh").arg(directory().join("generate")).arg(&room).status().expect("sh runs");
     assert!(status.success());
-    for name in ["adder16", "multiplier4", "parity16", "decoder4"] {
+    for name in ["adder16", "multiplier4", "parity16", "decoder4", "trees"] {
         assert_eq!(fs::read(room.join(name).with_extension("bench")).expect("written"), text_of(name), "{name}");
     }
     fs::remove_dir_all(&room).expect("removed");
     let table = fs::read_to_string(directory().join("README.md")).expect("a table");
-    for name in ["c17", "adder16", "multiplier4", "parity16", "decoder4"] {
+    for name in ["c17", "adder16", "multiplier4", "parity16", "decoder4", "trees"] {
         let row = table.lines().find(|row| row.starts_with(&format!("| `{name}.bench` |"))).expect("a row");
         let lines = row.trim_end_matches([' ', '|']).rsplit(' ').next().expect("a number");
         assert_eq!(lines, (Example::read(name).circuit.len() / 8).to_string(), "{name}");

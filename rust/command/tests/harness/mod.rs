@@ -70,6 +70,6 @@ pub fn selectors(name: &str) -> PathBuf {
 
 /// All circuits of both.
 pub fn examples() -> Vec<PathBuf> {
-    let texts = ["c17", "decoder4", "multiplier4", "parity16", "adder16"].iter().map(|name| example(name));
+    let texts = ["c17", "decoder4", "multiplier4", "parity16", "adder16", "trees"].iter().map(|name| example(name));
     texts.chain([selectors("circuit")]).collect()
 }
