@@ -1,8 +1,8 @@
 //! `ullimaqsu`: the proved test tools as commands, by the names of a circuit's text.
 //!
 //! A command reads its files, calls the library and prints. What the library answers is proved; this program is tested. Made here, besides words,
-//! tables and pictures of the library's answers, are the choice of `faults --collapse`, the texts of `narrow`, the numbers of detected faults, and
-//! the pattern that `audit` names for a lost fault or pair.
+//! tables and pictures of the library's answers, are the choice of `faults --collapse`, the texts of `narrow`, the head lines that `check` and
+//! `search` speak of, the numbers of detected faults, and the pattern that `audit` names for a lost fault or pair.
 mod bar;
 mod circuit;
 mod collapse;
@@ -14,6 +14,7 @@ mod explain;
 mod fault;
 mod files;
 mod form;
+mod heads;
 mod help;
 mod kind;
 mod levels;

@@ -1,6 +1,8 @@
 //! Tests for faults.
+mod brought;
 mod pieces;
 mod printer;
+mod way;
 
 use super::Command;
 use crate::circuit::Circuit;
@@ -13,15 +15,18 @@ use crate::words::{cited, Choice, Words};
 use pieces::{search_all, Found};
 use printer::Printer;
 use std::path::Path;
+use way::Way;
 
 pub const COMMAND: Command = Command {
     name: "search",
-    usage: "CIRCUIT (FAULT.. | --all | --faults FILE) [--budget N] [-o FILE] [--csv | --json]",
+    usage: "CIRCUIT (FAULT.. | --all | --faults FILE) [--heads [--compare]] [--budget N] [-o FILE] [--csv | --json]",
     wants: "a circuit and then faults, or --all, or --faults FILE",
     counts: 1..=usize::MAX,
     choices: &[
         Choice { name: "--all", value: None, says: "searches for every fault of the circuit, at its pins too" },
         Choice { name: "--faults", value: Some("FILE"), says: "searches for the faults of FILE" },
+        Choice { name: "--heads", value: None, says: "decides at head lines instead of inputs, for the faults that allow it" },
+        Choice { name: "--compare", value: None, says: "with --heads: searches for these faults over inputs too, and says what head lines brought" },
         Choice { name: "--budget", value: Some("N"), says: "looks at N nodes at most for each fault (100000 if nothing is said)" },
         Choice { name: "-o", value: Some("FILE"), says: "writes the tests to FILE, as patterns with their faults as comments" },
         CSV,
@@ -30,7 +35,13 @@ pub const COMMAND: Command = Command {
     says: "searches for a test of each fault, or finds that there is none",
     more: "\
 Prints for each fault the outcome, how many nodes were looked at, and the test, a value for each input: 0, 1, or X where either will do. The outcome
-is `test`; `redundant` where no pattern at all detects the fault; or `given up` where the search would look at more nodes than its budget.",
+is `test`; `redundant` where no pattern at all detects the fault; or `given up` where the search would look at more nodes than its budget.
+
+With --heads a search decides at the head lines, which check --heads lists, and sets the trees behind them once it has a test: a wide tree is one
+decision. That is so for faults at bound lines and their pins and for head lines that are stuck; for the others it is the search over inputs. Where both
+have a verdict, a test or that there is none, it is the same, but their nodes and their tests may be others. A line at the end says how many faults
+were searched for in which way. With --compare another one says how many nodes the search over inputs looks at for the faults that were searched for over
+head lines, how many it gives up, and how many verdicts head lines bring or lose. It may take much longer: on wide trees that search uses up its budget.",
     example: "ullimaqsu search examples/bench/c17.bench --all",
     run,
 };
@@ -44,14 +55,17 @@ fn run(words: &Words, out: &mut Out) -> Result<(), Problem> {
     if ways.into_iter().filter(|way| *way).count() != 1 {
         return Err(COMMAND.misused(&format!("wants {}", COMMAND.wants)));
     }
+    if words.has("--compare") && !words.has("--heads") {
+        return Err(COMMAND.misused("wants --heads where --compare is given"));
+    }
     let circuit = Circuit::load(words.at(0))?;
-    let faults = asked(words, &circuit)?;
+    let (faults, way) = (asked(words, &circuit)?, Way::asked(words, &circuit));
     // a search may be long: whether its tests can be written is seen before
     let place = words.place("-o", &sources(words))?;
-    let mut printer = Printer::new(form, &circuit, &faults, budget);
+    let mut printer = Printer::new(form, &circuit, &faults, budget, &way);
     out.print(&printer.head())?;
     out.flush()?;
-    let found = search_all(&circuit, &faults, budget, |piece| {
+    let found = search_all(&circuit, &faults, budget, &way, |piece| {
         piece.iter().try_for_each(|found| out.print(&printer.line(found)))?;
         out.flush()
     })?;
