@@ -3,9 +3,10 @@ mod harness;
 
 use cases::{circuits, drawn, texts, Directory, Random};
 use harness::json::Json;
-use harness::named::{letters, Named};
+use harness::named::Named;
+use harness::searched::{csv, is_table, json, totals};
 use harness::{example, into_broken, into_full, printed, refused, selectors, stopped, ullimaqsu};
-use second::search::{search_circuit, Outcome, Search};
+use second::search::{search_circuit, Search};
 use second::Fault;
 use std::fs;
 use std::path::Path;
@@ -13,83 +14,6 @@ use std::path::Path;
 /// What the second program finds for each fault.
 fn found(named: &Named, faults: &[Fault], budget: u64) -> Vec<Search> {
     faults.iter().map(|&fault| search_circuit(&named.circuit, fault, budget)).collect()
-}
-
-fn word(outcome: Outcome) -> &'static str {
-    match outcome {
-        Outcome::Test => "test",
-        Outcome::Redundant => "redundant",
-        Outcome::GivenUp => "given up",
-    }
-}
-
-/// The test, or nothing.
-fn test(search: &Search) -> Option<String> {
-    search.last.as_ref().filter(|_| search.outcome == Outcome::Test).map(letters)
-}
-
-fn totals(found: &[Search]) -> [usize; 3] {
-    [Outcome::Test, Outcome::Redundant, Outcome::GivenUp].map(|of| found.iter().filter(|search| search.outcome == of).count())
-}
-
-/// The csv of what was found.
-fn csv(named: &Named, faults: &[Fault], found: &[Search]) -> String {
-    let head = ["fault", "outcome", "nodes"].into_iter().chain(named.inputs()).collect::<Vec<_>>().join(",");
-    let row = |(&fault, search): (&Fault, &Search)| {
-        let values = test(search).map_or(vec![String::new(); named.inputs().len()], |test| test.chars().map(String::from).collect());
-        format!("{},{},{},{}\n", named.word(fault), word(search.outcome), search.nodes, values.join(","))
-    };
-    format!("{head}\n{}", faults.iter().zip(found).map(row).collect::<String>())
-}
-
-/// The json of what was found, as values.
-fn json(named: &Named, faults: &[Fault], found: &[Search]) -> Json {
-    let text = |text: &str| Json::Text(text.to_string());
-    let pair = |key: &str, value: Json| (key.to_string(), value);
-    let one = |(&fault, search): (&Fault, &Search)| {
-        Json::Object(vec![
-            pair("fault", Json::Text(named.word(fault))),
-            pair("outcome", text(word(search.outcome))),
-            pair("nodes", Json::Number(search.nodes)),
-            pair("test", test(search).map_or(Json::Null, Json::Text)),
-        ])
-    };
-    let [tests, redundant, given_up] = totals(found).map(|count| Json::Number(count as u64));
-    Json::Object(vec![
-        pair("inputs", Json::List(named.inputs().into_iter().map(text).collect())),
-        pair("faults", Json::List(faults.iter().zip(found).map(one).collect())),
-        pair("tests", tests),
-        pair("redundant", redundant),
-        pair("given up", given_up),
-    ])
-}
-
-/// The words of a table's line, whatever stands between them.
-fn cells(line: &str) -> Vec<&str> {
-    line.split_whitespace().collect()
-}
-
-/// The table of what was found: a line for each fault, with every cell under the beginning of its column's name, or its end for numbers.
-fn is_table(table: &str, named: &Named, faults: &[Fault], found: &[Search]) {
-    let lines: Vec<&str> = table.lines().collect();
-    assert_eq!(cells(lines[0]), ["fault", "outcome", "nodes"].into_iter().chain(named.inputs()).collect::<Vec<_>>());
-    let column = lines[0].find("nodes").expect("nodes") + "nodes ".len();
-    for ((line, &fault), search) in lines[1..].iter().zip(faults).zip(found) {
-        let (fault, nodes) = (named.word(fault), search.nodes.to_string());
-        let test = test(search).unwrap_or_default();
-        let values: Vec<String> = test.chars().map(String::from).collect();
-        let outcome = word(search.outcome).split(' ');
-        let expected: Vec<&str> =
-            [fault.as_str()].into_iter().chain(outcome).chain([nodes.as_str()]).chain(values.iter().map(String::as_str)).collect();
-        assert_eq!(cells(line), expected, "{table}");
-        assert!(line[..column.min(line.len())].trim_end().ends_with(&nodes), "{table}");
-        let at = |input: usize| column + named.inputs()[..input].iter().map(|name| name.len() + 1).sum::<usize>();
-        assert!(values.iter().enumerate().all(|(input, value)| line[at(input)..].starts_with(value)), "{table}");
-    }
-    let ([tests, redundant, given_up], count) = (totals(found), faults.len());
-    let many = |count: usize| if count == 1 { "" } else { "s" };
-    let last = format!("{count} fault{}: {tests} test{}, {redundant} redundant, {given_up} given up", many(count), many(tests));
-    assert_eq!((lines.len(), lines[lines.len() - 1]), (count + 2, last.as_str()));
 }
 
 /// All forms of all faults of a circuit.
@@ -101,7 +25,7 @@ fn compare(path: &Path, named: &Named, budget: u64) -> [usize; 3] {
         let words = ["search", path.to_str().expect("text"), "--all", "--budget", &budget];
         printed(&[&words[..], more].concat())
     };
-    is_table(&search(&[]), named, &faults, &found);
+    is_table(&search(&[]), named, &faults, &found, &[]);
     assert_eq!(search(&["--csv"]), csv(named, &faults, &found));
     assert_eq!(Json::read(&search(&["--json"])), json(named, &faults, &found));
     totals(&found)
@@ -142,7 +66,7 @@ fn many_inputs() {
     let named = Named::of_records(&circuits::parity());
     let faults: Vec<Fault> =
         ["126/0", "0/1"].map(|word| named.faults(true).into_iter().find(|&fault| named.word(fault) == word).expect("a fault")).into();
-    is_table(&said, &named, &faults, &found(&named, &faults, 65));
+    is_table(&said, &named, &faults, &found(&named, &faults, 65), &[]);
     assert!(said.ends_with("2 faults: 1 test, 0 redundant, 1 given up\n"), "{said}");
 }
 

@@ -1,7 +1,9 @@
 //! The command as a user runs it.
 #![allow(dead_code, unused_imports)] // not every test asks for everything
+pub mod heads;
 pub mod json;
 pub mod named;
+pub mod searched;
 
 pub use cases::directory::{root, Directory};
 pub use cases::said::{run, said, Said};
