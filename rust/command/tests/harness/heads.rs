@@ -1,5 +1,7 @@
 //! Head lines and the search over them, on another way than the command and the library go: what can be reached is followed from every branch, and
 //! the search is one over the inputs of a circuit that is cut at its head lines.
+use cases::texts::{dense, gate, input, output, short, Statement};
+use cases::Random;
 use second::circuit::{Gate, Line};
 use second::search::{search_circuit, Search};
 use second::{Circuit, Fault, Pattern, Site, Value};
@@ -94,4 +96,23 @@ fn pins(gate: Gate, value: bool) -> Vec<Value> {
         (Gate::Xnor(..), _) => vec![Some(false), Some(!value)],
         (Gate::Selector(..), _) => vec![Some(value), None, Some(false)],
     }
+}
+
+/// A text of at most so many inputs, whose gates first read what nothing has read before, so that trees grow, and then any of what was left.
+pub fn bushy(random: &mut Random, most: usize) -> Vec<u8> {
+    let inputs = 1 + random.below(most);
+    let trees = inputs + random.below(inputs);
+    let lines = trees + 1 + random.below(12);
+    let (mut all, mut roots): (Vec<Statement>, Vec<usize>) = (0..inputs).map(|line| (input(&short(line)), line)).unzip();
+    for line in inputs..lines {
+        let mut source = || match line < trees && roots.len() > 1 {
+            true => short(roots.swap_remove(random.below(roots.len()))),
+            false => short(random.pick(&roots)),
+        };
+        let both = [source(), source()];
+        all.push(gate(&short(line), 1 + random.below(8) as u8, both.each_ref().map(String::as_str)));
+        roots.push(line);
+    }
+    all.extend((0..lines).filter(|&line| line + 1 == lines || random.once_in(5)).map(|line| output(&short(line))));
+    dense(&all)
 }
