@@ -103,7 +103,7 @@ fn the_same_as_in_a_pipe() {
         return println!("ABSENT: `script` of util-linux gives no terminal, and what a search leaves on one was NOT compared");
     }
     let c17 = example("c17").display().to_string();
-    for form in [&[][..], &["--csv"], &["--json"]] {
+    for form in [&[][..], &["--csv"], &["--json"], &["--heads", "--compare"], &["--heads", "--json"]] {
         let words = [&["search", &c17, "--all"], form].concat();
         let written = written(&words);
         assert!(written.matches("46 faults").count() > 3, "the bar is drawn more than once: {written:?}");
