@@ -25,8 +25,8 @@ pub const COMMAND: Command = Command {
     choices: &[
         Choice { name: "--all", value: None, says: "searches for every fault of the circuit, at its pins too" },
         Choice { name: "--faults", value: Some("FILE"), says: "searches for the faults of FILE" },
-        Choice { name: "--heads", value: None, says: "decides at head lines instead of inputs, for the faults that allow it" },
-        Choice { name: "--compare", value: None, says: "with --heads: searches for these faults over inputs too, and says what head lines brought" },
+        Choice { name: "--heads", value: None, says: "decides at head lines instead of inputs, for the faults that this serves" },
+        Choice { name: "--compare", value: None, says: "with --heads: searches over inputs too, and says what head lines brought" },
         Choice { name: "--budget", value: Some("N"), says: "looks at N nodes at most for each fault (100000 if nothing is said)" },
         Choice { name: "-o", value: Some("FILE"), says: "writes the tests to FILE, as patterns with their faults as comments" },
         CSV,
@@ -37,11 +37,13 @@ pub const COMMAND: Command = Command {
 Prints for each fault the outcome, how many nodes were looked at, and the test, a value for each input: 0, 1, or X where either will do. The outcome
 is `test`; `redundant` where no pattern at all detects the fault; or `given up` where the search would look at more nodes than its budget.
 
-With --heads a search decides at the head lines, which check --heads lists, and sets the trees behind them once it has a test: a wide tree is one
-decision. That is so for faults at bound lines and their pins and for head lines that are stuck; for the others it is the search over inputs. Where both
-have a verdict, a test or that there is none, it is the same, but their nodes and their tests may be others. A line at the end says how many faults
-were searched for in which way. With --compare another one says how many nodes the search over inputs looks at for the faults that were searched for over
-head lines, how many it gives up, and how many verdicts head lines bring or lose. It may take much longer: on wide trees that search uses up its budget.",
+With --heads the search decides at head lines, which check --heads lists, and once it has a test sets the trees behind them: a wide tree is one
+decision. It does so for faults at bound lines and their pins, and for a head line that is stuck; for any other fault it is the search over inputs. Where
+both reach a verdict, a test or redundant, they agree, though nodes and tests may differ. The last line says how many faults were searched for which way.
+
+With --compare the faults that are searched for over head lines are searched for over inputs too. One line more says how many nodes that takes and
+how many faults it gives up, and how many verdicts head lines bring and lose. This can take far longer: on wide trees the search over inputs uses up its
+budget.",
     example: "ullimaqsu search examples/bench/c17.bench --all",
     run,
 };
