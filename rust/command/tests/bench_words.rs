@@ -303,6 +303,6 @@ fn examples() {
     let files = fs::read_dir(root().join("examples/bench")).expect("examples").map(|entry| entry.expect("an entry").path());
     let texts: Vec<_> =
         files.filter(|path| path.extension().is_some_and(|end| end == "bench")).map(|path| fs::read(path).expect("a text")).collect();
-    assert_eq!(texts.len(), 5);
+    assert_eq!(texts.len(), 6);
     assert_eq!(check_all("examples", texts), [0]);
 }

@@ -14,8 +14,11 @@ fn listed(path: &Path) -> String {
     printed(&[Path::new("check"), path, Path::new("--heads")])
 }
 
-/// What is printed where these are the head lines, each with the inputs and lines of its tree.
-fn expected(named: &Named, heads: &[(&str, usize, usize)]) -> String {
+/// A head line by its name, with the numbers of inputs and lines of its tree.
+type Head<'a> = (&'a str, usize, usize);
+
+/// What is printed where these are the head lines.
+fn expected(named: &Named, heads: &[Head]) -> String {
     let counts = named.circuit.counts();
     let width = heads.iter().map(|(name, ..)| name.len()).max().unwrap_or(0).max(4);
     let rows: String = heads.iter().map(|(name, inputs, lines)| format!("{name:width$} {inputs:>6} {lines:>5}\n")).collect();
@@ -57,27 +60,19 @@ fn by_hand() {
     let a = "lines 5, inputs 3, outputs 1\nhead inputs lines\n0 head lines for 3 inputs\n";
     assert_eq!(listed(&root().join("examples/a/circuit.rec")), a);
 
-    let input = |output| record(INPUT, output, 0, 0);
-    let small: [(&str, Vec<[u8; 8]>, &[(&str, usize, usize)]); 6] = [
-        ("both pins of a gate read a line", vec![input(false), record(AND, true, 0, 0)], &[("0", 1, 1)]),
-        ("being an output is no reading", vec![input(true), record(NOT, true, 0, 0)], &[]),
-        ("a select and a source are two pins", vec![input(false), input(false), selector(true, 0, 1, 0)], &[("0", 1, 1), ("1", 1, 1)]),
-        (
-            "a tree that branches at its root, an output",
-            vec![input(false), input(false), record(AND, true, 0, 1), record(NOT, true, 2, 0), record(AND, true, 2, 3)],
-            &[("2", 2, 3)],
-        ),
-        (
-            "a tree that a bound gate reads once",
-            vec![input(false), input(false), input(false), record(AND, false, 0, 1), record(AND, false, 2, 2), record(AND, true, 3, 4)],
-            &[("2", 1, 1), ("3", 2, 3)],
-        ),
-        ("an input alone", vec![input(true)], &[]),
-    ];
-    for (what, records, heads) in small {
+    let is = |what: &str, records: &[[u8; 8]], heads: &[Head]| {
         let path = directory.write("small.rec", records.concat());
         assert_eq!(listed(&path), expected(&Named::of_file(&path), heads), "{what}");
-    }
+    };
+    let (i, shown) = (record(INPUT, false, 0, 0), record(INPUT, true, 0, 0));
+    is("an input alone", &[shown], &[]);
+    is("both pins of a gate read a line", &[i, record(AND, true, 0, 0)], &[("0", 1, 1)]);
+    is("being an output is no reading", &[shown, record(NOT, true, 0, 0)], &[]);
+    is("a select and a source are two pins", &[i, i, selector(true, 0, 1, 0)], &[("0", 1, 1), ("1", 1, 1)]);
+    let branching = [i, i, record(AND, true, 0, 1), record(NOT, true, 2, 0), record(AND, true, 2, 3)];
+    is("the root of a tree, an output, branches", &branching, &[("2", 2, 3)]);
+    let read_once = [i, i, i, record(AND, false, 0, 1), record(AND, false, 2, 2), record(AND, true, 3, 4)];
+    is("one pin of a bound gate reads the root of a tree", &read_once, &[("2", 1, 1), ("3", 2, 3)]);
 }
 
 fn texts_and_records(directory: &Directory) -> impl Iterator<Item = (PathBuf, Named)> + '_ {

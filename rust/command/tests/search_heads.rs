@@ -122,6 +122,12 @@ fn compare(path: &Path, named: &Named, budget: u64) -> Brought {
     case.brought()
 }
 
+/// The last three lines, with which a table ends where the searches are compared.
+fn last_lines(table: &str) -> Vec<&str> {
+    let lines: Vec<&str> = table.lines().collect();
+    lines[lines.len() - 3..].to_vec()
+}
+
 /// Where every head line is an input, nothing changes; among these circuits is the adder of 16 bits.
 #[test]
 fn examples() {
@@ -170,13 +176,10 @@ fn lost_verdicts() {
     let circuit = [input, input, record(NOT, false, 0, 0), record(NOT, true, 2, 0), record(AND, true, 2, 1)].concat();
     let path = directory.write("order.rec", &circuit);
     let said = printed(&["search", path.to_str().expect("text"), "3/1", "--heads", "--compare", "--budget", "3"]);
-    let last: Vec<&str> = said.lines().skip(2).collect();
-    let expected = [
-        "1 fault: 0 tests, 0 redundant, 1 given up",
-        "2 head lines for 2 inputs: 1 fault searched over head lines in 3 nodes, 0 over inputs",
-        "the same 1 fault over inputs: 2 nodes, 0 given up; head lines bring 0 verdicts and lose 1",
-    ];
-    assert_eq!(last, expected);
+    let totals = "1 fault: 0 tests, 0 redundant, 1 given up";
+    let heads = "2 head lines for 2 inputs: 1 fault searched over head lines in 3 nodes, 0 over inputs";
+    let inputs = "the same 1 fault over inputs: 2 nodes, 0 given up; head lines bring 0 verdicts and lose 1";
+    assert_eq!(last_lines(&said), [totals, heads, inputs]);
     assert_eq!(compare(&path, &Named::of_file(&path), 3).lost, 5);
 }
 
@@ -202,13 +205,10 @@ fn wide_trees() {
     let test = ["1"; 16].into_iter().chain(["1"]).chain(["X"; 15]).chain(["0"; 32]).collect::<Vec<_>>().join(",");
     assert_eq!(found.lines().nth(1), Some(format!("first/0,test,12,{test}").as_str()));
     let said = search(&["--heads", "--compare", "--budget", "12"]);
-    let last: Vec<&str> = said.lines().skip(4).collect();
-    let expected = [
-        "3 faults: 2 tests, 1 redundant, 0 given up",
-        "3 head lines for 64 inputs: 3 faults searched over head lines in 35 nodes, 0 over inputs",
-        "the same 3 faults over inputs: 36 nodes, 3 given up; head lines bring 3 verdicts and lose 0",
-    ];
-    assert_eq!(last, expected);
+    let totals = "3 faults: 2 tests, 1 redundant, 0 given up";
+    let heads = "3 head lines for 64 inputs: 3 faults searched over head lines in 35 nodes, 0 over inputs";
+    let inputs = "the same 3 faults over inputs: 36 nodes, 3 given up; head lines bring 3 verdicts and lose 0";
+    assert_eq!(last_lines(&said), [totals, heads, inputs]);
 }
 
 /// A circuit without head lines: every fault is searched for over inputs, and nothing is compared.
@@ -217,13 +217,10 @@ fn no_head_lines() {
     let directory = Directory::new("no heads");
     let path = directory.write("a.rec", circuits::example_a());
     let said = printed(&["search", path.to_str().expect("text"), "4/1", "--heads", "--compare"]);
-    let last: Vec<&str> = said.lines().skip(2).collect();
-    let expected = [
-        "1 fault: 1 test, 0 redundant, 0 given up",
-        "0 head lines for 3 inputs: 0 faults searched over head lines in 0 nodes, 1 over inputs",
-        "the same 0 faults over inputs: 0 nodes, 0 given up; head lines bring 0 verdicts and lose 0",
-    ];
-    assert_eq!(last, expected);
+    let totals = "1 fault: 1 test, 0 redundant, 0 given up";
+    let heads = "0 head lines for 3 inputs: 0 faults searched over head lines in 0 nodes, 1 over inputs";
+    let inputs = "the same 0 faults over inputs: 0 nodes, 0 given up; head lines bring 0 verdicts and lose 0";
+    assert_eq!(last_lines(&said), [totals, heads, inputs]);
     compare(&path, &Named::of_file(&path), 1000);
 }
 

@@ -16,11 +16,12 @@ const FILES: [(&str, &[u8]); 4] = [
 ];
 
 /// Right command lines on those files, each with its options.
-const LINES: [(&str, &[&str]); 11] = [
-    ("check circuit", &[]),
+const LINES: [(&str, &[&str]); 12] = [
+    ("check circuit", &["--heads"]),
     ("faults circuit", &["--pins", "--collapse", "-o"]),
     ("search circuit y/0", &["--budget", "-o", "--csv", "--json"]),
     ("search circuit --all", &["--faults", "-o", "--csv", "--json"]),
+    ("search circuit --heads y/0", &["--all", "--compare", "--budget", "-o", "--csv", "--json"]),
     ("dictionary circuit faults patterns", &["--csv", "--json"]),
     ("compact circuit faults patterns", &["-o", "--marks", "--csv", "--json"]),
     ("audit circuit faults patterns marks", &["--csv", "--json"]),
@@ -30,7 +31,8 @@ const LINES: [(&str, &[&str]); 11] = [
     ("bench circuit", &[]),
 ];
 
-const FLAGS: [&str; 10] = ["--all", "--pins", "--collapse", "--csv", "--json", "--comments", "--", "-", "-x", "--help"];
+const FLAGS: [&str; 12] =
+    ["--all", "--heads", "--compare", "--pins", "--collapse", "--csv", "--json", "--comments", "--", "-", "-x", "--help"];
 const TAKE_A_VALUE: [&str; 5] = ["--budget", "--faults", "-o", "--marks", "--svg"];
 const WORDS: [&str; 16] =
     ["y/0", "a/1", "y.1/0", "y.3/0", "/", ".", ".1", "", "01", "1X", "0 1", "2", "99", "\u{e9}/\u{1b}0", "0/0", "new"];
