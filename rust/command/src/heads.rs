@@ -53,20 +53,23 @@ fn head_lines(circuit: &Circuit, reads: &[usize], bound: &[bool]) -> Vec<usize> 
     (0..circuit.size()).filter(|&line| !bound[line] && (is_read[line] || reads[line] > 1)).collect()
 }
 
-/// What stands behind a head line, itself included: no line of it is read twice.
+/// The tree behind a head line, itself included.
 pub struct Tree {
     pub inputs: usize,
     pub lines: usize,
 }
 
 impl Tree {
-    pub fn under(circuit: &Circuit, head: usize) -> Tree {
-        let mut lines = vec![head];
-        let mut seen = 0;
-        while let Some(&line) = lines.get(seen) {
-            lines.extend(circuit.sources(line));
-            seen += 1;
+    pub fn behind(circuit: &Circuit, head: usize) -> Tree {
+        let mut is_in = vec![false; head + 1];
+        is_in[head] = true;
+        // a source is lower than its gate
+        for line in (0..=head).rev() {
+            if is_in[line] {
+                circuit.sources(line).into_iter().for_each(|source| is_in[source] = true);
+            }
         }
-        Tree { inputs: lines.iter().filter(|&&line| circuit.kind(line) == Kind::Input).count(), lines: lines.len() }
+        let lines = || (0..=head).filter(|&line| is_in[line]);
+        Tree { inputs: lines().filter(|&line| circuit.kind(line) == Kind::Input).count(), lines: lines().count() }
     }
 }

@@ -33,7 +33,7 @@ fn listed(circuit: &Circuit) -> String {
     let heads = Heads::of(circuit);
     let width = widest(heads.lines.iter().map(|&head| circuit.name(head))).max("head".len());
     let row = |&head: &usize| {
-        let Tree { inputs, lines } = Tree::under(circuit, head);
+        let Tree { inputs, lines } = Tree::behind(circuit, head);
         format!("{:width$} {inputs:>6} {lines:>5}\n", circuit.name(head))
     };
     let rows: String = heads.lines.iter().map(row).collect();
