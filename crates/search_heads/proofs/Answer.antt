@@ -29,8 +29,9 @@ use Rattle.trees.specs.Setting.{setTrees}
 use Rattle.cut.specs.Cut.{serves}
 use Rattle.head_verdicts.specs.Look.{headLook, headTest}
 use Rattle.search_heads.specs.Promise.{headVerdictFor, headTestFor, headWorkFor, HeadSearches}
-use Rattle.search_heads.specs.Owed.{RunHeadsReady, CutDone, servedBy, EitherReady, EitherDone, HeadsReady, RoomReady, HeadSearchedBy}
-use Rattle.search_heads.proofs.Cut.{well, sourced}
+use Rattle.cut_search.specs.Owed.{RunHeadsReady, CutDone}
+use Rattle.cut_search.proofs.Cut.{well, sourced}
+use Rattle.search_heads.specs.Owed.{servedBy, EitherReady, EitherDone, HeadsReady, RoomReady, HeadSearchedBy}
 
 -- ---- the one search or the other
 

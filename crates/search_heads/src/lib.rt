@@ -1,10 +1,8 @@
-// The search that decides head lines only: the search of the circuit cut at them, and a test with its trees set.
+// The search that decides head lines only, where these serve the fault.
 use answers::Ruling;
-use bytes::copy;
 use circuit::Checked;
 use circuit::check;
-use circuit::equal;
-use cut_lines::cut_lines;
+use cut_search::run_heads;
 use head_marks::mark_lines;
 use lists::Fault;
 use lists::read_fault;
@@ -12,126 +10,12 @@ use nodes::Verdict;
 use search::Searched;
 use search::check_rest;
 use search::run_all_x;
-use setting::set_trees;
-use sides::side;
 ghost use mathlib.Core.Path.{_≡_};
 ghost use Prim.Native.Nat.{_≤_};
-ghost use lib.Dec.{eqb};
-ghost use lib.ListN.{length, getD};
-ghost use Rattle.ground.specs.Below.{countBelow};
+ghost use lib.ListN.{length};
 ghost use Rattle.circuit.specs.Formed.{Known};
-ghost use Rattle.nodes.specs.Node.{start};
-ghost use Rattle.nodes.specs.Budget.{testBy};
-ghost use Rattle.heads.specs.Heads.{headsOf};
-ghost use Rattle.trees.specs.Setting.{setTrees};
-ghost use Rattle.setting.specs.Owed.{TreesReady};
 ghost use Rattle.search_heads.specs.Promise.{HeadSearches};
-ghost use Rattle.search_heads.specs.Owed.{SearchCutReady, RunCutReady, RunHeadsReady, CutDone, servedBy, EitherReady, EitherDone, RoomReady, HeadsReady, HeadSearchDone};
-
-// The test buffer gets the inputs of the trees set for the node, if it is a test.
-fn put_trees(
-    found: Verdict,
-    circuit: &[u8],
-    marks: &[u8],
-    node: &[u8],
-    want: &mut [u8],
-    test: &mut [u8],
-)
-    requires { ⌜ TreesReady (now circuit) (now marks) (length (now node)) (length (now want)) (length (now test)) ⌝ }
-    ensures { λ _. ⌜ now (test .exit) ≡ testBy found (now (test .entry)) (setTrees (now (circuit .entry)) (length (now (want .entry))) (now (node .entry))) ⌝ }
-{
-    match found {
-        Verdict::Test(_) => {
-            set_trees(circuit, marks, node, want, test);
-        }
-        Verdict::Redundant(_) => {}
-        Verdict::GivenUp(_) => {}
-    }
-}
-
-// The search of the cut circuit, which is `lines`, from a node on; a test goes into the test buffer with its trees set.
-fn search_cut(
-    circuit: &[u8],
-    marks: &[u8],
-    lines: &[u8],
-    fault: Fault,
-    node: &mut [u8],
-    want: &mut [u8],
-    budget: u64,
-    test: &mut [u8],
-    work: &mut [u8],
-) -> Verdict
-    requires { ⌜ SearchCutReady (now circuit) (now marks) (now lines) fault (now node) (length (now want)) (length (now test)) (length (now work)) ⌝ }
-    ensures { λ r. ⌜ CutDone fault (now (circuit .entry)) (length (now (want .entry))) (now (node .entry)) budget (now (test .entry)) (now (work .entry)) r (now (test .exit)) (now (work .exit)) ⌝ }
-{
-    let n = want.len();
-    let found = side(lines, fault, n, node, work, budget);
-    put_trees(found, circuit, marks, node, want, test);
-    found
-}
-
-// Cuts the circuit into `lines`, and searches.
-fn run_cut(
-    circuit: &[u8],
-    marks: &[u8],
-    lines: &mut [u8],
-    fault: Fault,
-    node: &mut [u8],
-    want: &mut [u8],
-    budget: u64,
-    test: &mut [u8],
-    work: &mut [u8],
-) -> Verdict
-    requires { ⌜ RunCutReady (now circuit) (now marks) (length (now lines)) fault (now node) (length (now want)) (length (now test)) (length (now work)) ⌝ }
-    ensures { λ r. ⌜ CutDone fault (now (circuit .entry)) (length (now (want .entry))) (now (node .entry)) budget (now (test .entry)) (now (work .entry)) r (now (test .exit)) (now (work .exit)) ⌝ }
-{
-    copy(circuit, lines);
-    cut_lines(circuit, marks, lines);
-    search_cut(circuit, marks, lines, fault, node, want, budget, test, work)
-}
-
-// How many head lines there are.
-fn count_heads(marks: &[u8]) -> usize
-    ensures { λ r. ⌜ r ≡ countBelow (length (now (marks .entry))) (λ k. eqb (getD (now (marks .entry)) k 0) 1) ⌝ }
-{
-    let mut k = 0;
-    let mut r = 0;
-    while k < marks.len() {
-        r += equal(marks[k], 1);
-        k += 1;
-    }
-    r
-}
-
-// The search over head lines from all X on. There are no more head lines than inputs, so 64 bytes are room enough for a node.
-fn run_heads(
-    circuit: &[u8],
-    marks: &[u8],
-    lines: &mut [u8],
-    fault: Fault,
-    want: &mut [u8],
-    budget: u64,
-    test: &mut [u8],
-    work: &mut [u8],
-) -> Verdict
-    requires { ⌜ RunHeadsReady (now circuit) (now marks) (length (now lines)) fault (length (now want)) (length (now test)) (length (now work)) ⌝ }
-    ensures { λ r. ⌜ CutDone fault (now (circuit .entry)) (length (now (want .entry))) (start (headsOf (now (circuit .entry)) (length (now (want .entry))))) budget
-        (now (test .entry)) (now (work .entry)) r (now (test .exit)) (now (work .exit)) ⌝ }
-{
-    let heads = count_heads(marks);
-    let mut node = [2u8; 64];
-    run_cut(
-        circuit,
-        marks,
-        lines,
-        fault,
-        &mut node[..heads],
-        want,
-        budget,
-        test,
-        work,
-    )
-}
+ghost use Rattle.search_heads.specs.Owed.{servedBy, EitherReady, EitherDone, RoomReady, HeadsReady, HeadSearchDone};
 
 // A fault at a line with this mark and at this site is searched over head lines.
 fn served_by(mark: u8, site: u8) -> bool
@@ -185,10 +69,20 @@ fn mark_and_run(
     ensures { λ r. ⌜ EitherDone (now (circuit .entry)) fault budget (now (test .entry)) (now (work .entry)) r (now (test .exit)) (now (work .exit)) ⌝ }
 {
     mark_lines(circuit, reads, marks);
-    run_either(circuit, marks, lines, reads, fault, inputs, budget, test, work)
+    run_either(
+        circuit,
+        marks,
+        lines,
+        reads,
+        fault,
+        inputs,
+        budget,
+        test,
+        work,
+    )
 }
 
-// The search of any circuit.
+// The search of a circuit of any size.
 fn run_large(
     circuit: &[u8],
     fault: Fault,
@@ -217,6 +111,54 @@ fn run_large(
     )
 }
 
+// The same for a small circuit, which is spared the clearing of all that memory.
+fn run_small(
+    circuit: &[u8],
+    fault: Fault,
+    n: usize,
+    inputs: usize,
+    budget: u64,
+    test: &mut [u8],
+    work: &mut [u8],
+) -> Verdict
+    requires { ⌜ (n ≤ 128) × HeadsReady (now circuit) fault n inputs (length (now test)) (length (now work)) ⌝ }
+    ensures { λ r. ⌜ EitherDone (now (circuit .entry)) fault budget (now (test .entry)) (now (work .entry)) r (now (test .exit)) (now (work .exit)) ⌝ }
+{
+    let mut reads = [0u8; 128];
+    let mut marks = [0u8; 128];
+    let mut lines = [0u8; 1024];
+    mark_and_run(
+        circuit,
+        &mut reads[..n],
+        &mut marks[..n],
+        &mut lines[..8 * n],
+        fault,
+        inputs,
+        budget,
+        test,
+        work,
+    )
+}
+
+// The search of an accepted circuit for a fault.
+fn run_sized(
+    circuit: &[u8],
+    fault: Fault,
+    n: usize,
+    inputs: usize,
+    budget: u64,
+    test: &mut [u8],
+    work: &mut [u8],
+) -> Verdict
+    requires { ⌜ (n ≤ 2048) × HeadsReady (now circuit) fault n inputs (length (now test)) (length (now work)) ⌝ }
+    ensures { λ r. ⌜ EitherDone (now (circuit .entry)) fault budget (now (test .entry)) (now (work .entry)) r (now (test .exit)) (now (work .exit)) ⌝ }
+{
+    if n <= 128 {
+        return run_small(circuit, fault, n, inputs, budget, test, work);
+    }
+    run_large(circuit, fault, n, inputs, budget, test, work)
+}
+
 // The search of an accepted circuit.
 fn accepted(
     circuit: &[u8],
@@ -235,7 +177,7 @@ fn accepted(
         Ruling::Refused(number, place) => Searched::Refused(number, place),
         Ruling::Fine => {
             let at = read_fault(fault, 0);
-            let found = run_large(circuit, at, n, inputs, budget, test, work);
+            let found = run_sized(circuit, at, n, inputs, budget, test, work);
             Searched::Verdict(found)
         }
     }

@@ -15,7 +15,6 @@ use Rattle.trees.specs.Need.{needTable, needOf, ForcedBy, Alone, Needs}
 
 -- ---- as tests, each computed whole
 
-
 unfoldable pub forcedBy : ℕ → ℕ → ℕ → Bool
 forcedBy k v u = eqb (gateOf k (atPins u X X)) v
 

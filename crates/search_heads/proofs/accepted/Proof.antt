@@ -27,8 +27,8 @@ fine c = sym (checked c .check-rest .ensures) ∙ c .enum-told .given .1
 read-fault-requires : tie.Need-read-fault-requires
 read-fault-requires c κs = fault-inside _ _ _ _ _ _ (fine c)
 
-run-large-requires : tie.Need-run-large-requires
-run-large-requires c κs =
+run-sized-requires : tie.Need-run-sized-requires
+run-sized-requires c κs =
     let read = c .before .before in
     let told = read .before in
     let known = entry (checked told) .pre in
@@ -41,7 +41,7 @@ returns-2 : tie.Need-returns-2
 returns-2 c =
     let ran = c .before .before .before .before in
     let read = ran .before .before .before in
-    rest-fine (fine (read .before)) (read .read-fault .ensures) (ran .run-large .ensures)
+    rest-fine (fine (read .before)) (read .read-fault .ensures) (ran .run-sized .ensures)
 
 pub accepted-spec : {M : Type 1} → statement M
 accepted-spec =
@@ -51,7 +51,7 @@ accepted-spec =
     (λ c. search needs)
     (λ c. search needs)
     read-fault-requires
-    run-large-requires
+    run-sized-requires
     returns
     (λ c. search needs)
     (λ c. search needs)

@@ -23,7 +23,7 @@ use Rattle.cut.specs.Cut.{cut}
 use Rattle.cut.proofs.Lines.{is-cut, cut-inputs}
 use Rattle.cut.proofs.Detects.{Place, kept, rest, place}
 use Rattle.head_verdicts.proofs.Look.{head-looks}
-use Rattle.search_heads.specs.Owed.{MarkedReady}
+use Rattle.cut_search.specs.Owed.{MarkedReady}
 
 -- ---- of an accepted circuit
 

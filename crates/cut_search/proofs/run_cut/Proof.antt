@@ -1,8 +1,8 @@
 use mathlib.Core.Path.{refl}
 use borrow.Author.Needs.{needs}
-use Rattle.search_heads.proofs.Running.{copy-room, lines-ready, search-ready}
-use Rattle.search_heads.proofs.run_cut.Statement.{statement}
-use Rattle.search_heads.proofs.run_cut.Tie as tie
+use Rattle.cut_search.proofs.Running.{copy-room, lines-ready, search-ready}
+use Rattle.cut_search.proofs.run_cut.Statement.{statement}
+use Rattle.cut_search.proofs.run_cut.Tie as tie
 
 copy-requires : tie.Need-copy-requires
 copy-requires c κs = copy-room (c .before .before .before .before .before .before .before .before .pre)

@@ -1,7 +1,7 @@
 use borrow.Author.Needs.{needs}
-use Rattle.search_heads.proofs.Running.{side-ready, trees-ready, cut-done}
-use Rattle.search_heads.proofs.search_cut.Statement.{statement}
-use Rattle.search_heads.proofs.search_cut.Tie as tie
+use Rattle.cut_search.proofs.Running.{side-ready, trees-ready, cut-done}
+use Rattle.cut_search.proofs.search_cut.Statement.{statement}
+use Rattle.cut_search.proofs.search_cut.Tie as tie
 
 -- the places: the entry, and behind the search
 abbrev entry : tie.After-side → tie.Start

@@ -5,9 +5,9 @@ use Rattle.ground.proofs.Filled.{front-length}
 use Rattle.nodes.specs.Node.{start}
 use Rattle.nodes.proofs.Node.{start-part}
 use Rattle.heads.specs.Heads.{headsOf}
-use Rattle.search_heads.proofs.Running.{heads-are, few, cut-run-ready, done-of}
-use Rattle.search_heads.proofs.run_heads.Statement.{statement}
-use Rattle.search_heads.proofs.run_heads.Tie as tie
+use Rattle.cut_search.proofs.Running.{heads-are, few, cut-run-ready, done-of}
+use Rattle.cut_search.proofs.run_heads.Statement.{statement}
+use Rattle.cut_search.proofs.run_heads.Tie as tie
 
 -- ---- behind the count: as many of 64 X's are the start
 

@@ -4,8 +4,8 @@ use lib.Dec.{eqb}
 use lib.ListN.{length, getD}
 use borrow.Author.Needs.{needs}
 use Rattle.ground.proofs.Counting.{Sum, no-sum, sum-small, sum-more, sum-all}
-use Rattle.search_heads.proofs.count_heads.Statement.{statement}
-use Rattle.search_heads.proofs.count_heads.Tie as tie
+use Rattle.cut_search.proofs.count_heads.Statement.{statement}
+use Rattle.cut_search.proofs.count_heads.Tie as tie
 
 abbrev Inv-loop : tie.InvT-loop
 Inv-loop marks k₀ r₀ k r = Sum (λ j. eqb (getD marks j 0) 1) (length marks) k r

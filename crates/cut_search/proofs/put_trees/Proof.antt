@@ -4,8 +4,8 @@ use Rattle.nodes.specs.declared.Verdict.{Verdict}
 use Rattle.nodes.specs.Budget.{testBy}
 use Rattle.trees.specs.Setting.{setTrees}
 use borrow.Author.Needs.{needs}
-use Rattle.search_heads.proofs.put_trees.Statement.{statement}
-use Rattle.search_heads.proofs.put_trees.Tie as tie
+use Rattle.cut_search.proofs.put_trees.Statement.{statement}
+use Rattle.cut_search.proofs.put_trees.Tie as tie
 
 enum-told : tie.Need-enum-told
 enum-told c = search needs
