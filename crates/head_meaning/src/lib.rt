@@ -1,0 +1,1 @@
+// What the answer of the search over head lines means.
