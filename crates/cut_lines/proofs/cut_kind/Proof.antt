@@ -1,3 +1,5 @@
+-- `cut_lines::cut_kind` meets its contract: one answer for each branch.
+-- Assumes nothing.
 use borrow.Author.Tests.{eq-eqb, ne-eqb}
 use Rattle.cut_lines.specs.Owed.{kindBy}
 use Rattle.cut_lines.proofs.cut_kind.Statement.{statement}

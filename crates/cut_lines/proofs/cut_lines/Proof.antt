@@ -1,3 +1,5 @@
+-- `cut_lines::cut_lines` meets its contract: two bytes of each line, one line after the other.
+-- Assumes nothing.
 use native.Mathlib.Omega.{arith}
 use borrow.Author.Needs.{needs}
 use Prim.Native.Nat.{_-_}

@@ -1,3 +1,5 @@
+-- `cut_lines::cut_out` meets its contract: one answer for each branch.
+-- Assumes nothing.
 use borrow.Author.Tests.{eq-eqb, ne-eqb}
 use Rattle.cut_lines.specs.Owed.{outBy}
 use Rattle.cut_lines.proofs.cut_out.Statement.{statement}

@@ -1,3 +1,5 @@
+-- `cut_search::count_heads` meets its contract: line by line.
+-- Assumes nothing.
 use native.Mathlib.Omega.{arith}
 use Prim.Native.Nat.{_-_}
 use lib.Dec.{eqb}

@@ -1,3 +1,5 @@
+-- `cut_search::put_trees` meets its contract: the trees are set for a test, else the buffer stays.
+-- Assumes nothing.
 use mathlib.Core.Path.{sym, ap, _∙_}
 use lib.ListN.{length}
 use Rattle.nodes.specs.declared.Verdict.{Verdict}

@@ -1,3 +1,5 @@
+-- `cut_search::run_cut` meets its contract: a copy of the circuit, which is then cut.
+-- Assumes nothing.
 use mathlib.Core.Path.{refl}
 use borrow.Author.Needs.{needs}
 use Rattle.cut_search.proofs.Running.{copy-room, lines-ready, search-ready}

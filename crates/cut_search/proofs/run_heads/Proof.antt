@@ -1,3 +1,5 @@
+-- `cut_search::run_heads` meets its contract: as many of 64 X's as there are head lines are the start.
+-- Assumes nothing.
 use mathlib.Core.Path.{_≡_, sym, ap, _∙_}
 use lib.ListN.{length, take, replicate}
 use borrow.Author.Needs.{needs}

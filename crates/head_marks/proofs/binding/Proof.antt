@@ -1,3 +1,5 @@
+-- `head_marks::binding` meets its contract: one answer for each branch.
+-- Assumes nothing.
 use borrow.Author.Needs.{needs}
 use borrow.Author.Tests.{eq-eqb, ne-eqb}
 use Rattle.head_marks.specs.Owed.{binds}

@@ -1,3 +1,5 @@
+-- `head_marks::is_bound` meets its contract: the first pin that reads such a line decides.
+-- Assumes nothing.
 use native.Mathlib.Omega.{arith}
 use Prim.Native.Nat.{_-_, _+_}
 use borrow.Author.Needs.{needs}

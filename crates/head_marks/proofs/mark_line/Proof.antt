@@ -1,3 +1,5 @@
+-- `head_marks::mark_line` meets its contract: a bound line is marked and then its sources; of a free one nothing changes.
+-- Assumes nothing.
 use mathlib.Core.Path.{refl, _∙_}
 use borrow.Author.Needs.{needs}
 use lib.ListN.{length-set}

@@ -1,3 +1,5 @@
+-- `head_marks::mark_lines` meets its contract: the readings are counted, then the lines have their turns in order.
+-- Assumes nothing.
 use native.Mathlib.Omega.{arith}
 use Prim.Native.Nat.{_-_}
 use lib.ListN.{length}

@@ -1,3 +1,5 @@
+-- `head_marks::mark_source` meets its contract: the mark of the source, and no other, says that a bound line reads it.
+-- Assumes nothing.
 use native.Mathlib.Omega.{arith}
 use borrow.Author.Needs.{needs}
 use Rattle.head_marks.proofs.Pins.{pin-marked}

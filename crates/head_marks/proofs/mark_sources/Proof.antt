@@ -1,3 +1,5 @@
+-- `head_marks::mark_sources` meets its contract: one pin after the other.
+-- Assumes nothing.
 use native.Mathlib.Omega.{arith}
 use Prim.Native.Nat.{_-_}
 use borrow.Author.Needs.{needs}

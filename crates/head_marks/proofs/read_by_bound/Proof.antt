@@ -1,3 +1,5 @@
+-- `head_marks::read_by_bound` meets its contract: a bound line stays one, every other is read by one now.
+-- Assumes nothing.
 use Rattle.head_marks.proofs.Pins.{stays-bound, becomes-read}
 use Rattle.head_marks.proofs.read_by_bound.Statement.{statement}
 use Rattle.head_marks.proofs.read_by_bound.Tie as tie

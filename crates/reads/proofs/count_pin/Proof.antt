@@ -1,3 +1,5 @@
+-- `reads::count_pin` meets its contract: the byte of the source, and no other, counts one reading more.
+-- Assumes nothing.
 use native.Mathlib.Omega.{arith}
 use borrow.Author.Needs.{needs}
 use Rattle.reads.proofs.Counted.{pin-counted}

@@ -1,3 +1,5 @@
+-- `reads::count_pins` meets its contract: one pin after the other.
+-- Assumes nothing.
 use native.Mathlib.Omega.{arith}
 use Prim.Native.Nat.{_-_}
 use borrow.Author.Needs.{needs}

@@ -1,3 +1,5 @@
+-- `reads::count_reads` meets its contract: one line after the other, from nothing counted on.
+-- Assumes nothing.
 use native.Mathlib.Omega.{arith}
 use Prim.Native.Nat.{_-_}
 use lib.ListN.{length}

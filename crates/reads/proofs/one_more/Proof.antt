@@ -1,3 +1,5 @@
+-- `reads::one_more` meets its contract: the first reading makes 1, every other 2.
+-- Assumes nothing.
 use Rattle.reads.proofs.Counted.{first-more, next-more}
 use Rattle.reads.proofs.one_more.Statement.{statement}
 use Rattle.reads.proofs.one_more.Tie as tie

@@ -1,3 +1,5 @@
+-- `search_heads::accepted` meets its contract: a refusal is handed on, else the fault is read and the search run.
+-- Assumes nothing.
 use mathlib.Core.Path.{_≡_, sym, _∙_}
 use native.Mathlib.Omega.{arith}
 use lib.ListN.{length}

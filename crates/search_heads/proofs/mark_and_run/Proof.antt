@@ -1,3 +1,5 @@
+-- `search_heads::mark_and_run` meets its contract: the marks are made, and what counted the readings is free again.
+-- Assumes nothing.
 use mathlib.Core.Path.{_∙_}
 use borrow.Author.Needs.{needs}
 use Rattle.search_heads.proofs.Answer.{mark-ready, either-ready}

@@ -1,3 +1,5 @@
+-- `search_heads::run_either` meets its contract: the mark of the fault's line decides which search runs.
+-- Assumes nothing.
 use native.Mathlib.Omega.{arith}
 use borrow.Author.Needs.{needs}
 use Rattle.search_heads.proofs.Answer.{heads-ready, over-heads, over-inputs}

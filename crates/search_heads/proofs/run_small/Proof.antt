@@ -1,3 +1,5 @@
+-- `search_heads::run_small` meets its contract: the front of so many zeros is room for n lines.
+-- Assumes nothing.
 use mathlib.Core.Path.{sym}
 use Prim.Native.Nat.{_*_}
 use native.Mathlib.Omega.{arith}

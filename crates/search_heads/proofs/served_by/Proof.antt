@@ -1,3 +1,5 @@
+-- `search_heads::served_by` meets its contract: one answer for each branch.
+-- Assumes nothing.
 use borrow.Author.Tests.{eq-eqb, ne-eqb}
 use Rattle.search_heads.specs.Owed.{servedBy}
 use Rattle.search_heads.proofs.served_by.Statement.{statement}

@@ -1,3 +1,5 @@
+-- `setting::after_zero` meets its contract: one answer for each branch.
+-- Assumes nothing.
 use borrow.Author.Tests.{eq-eqb, ne-eqb}
 use Rattle.setting.specs.Owed.{afterZero}
 use Rattle.setting.proofs.after_zero.Statement.{statement}

@@ -1,3 +1,5 @@
+-- `setting::head_or` meets its contract: one answer for each branch.
+-- Assumes nothing.
 use borrow.Author.Tests.{eq-eqb, ne-eqb}
 use Rattle.setting.specs.Owed.{headOr}
 use borrow.Author.Needs.{needs}

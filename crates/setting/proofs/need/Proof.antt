@@ -1,3 +1,5 @@
+-- `setting::need` meets its contract: X asks for nothing, and each kind chooses what the table has.
+-- Assumes nothing.
 use mathlib.Core.Path.{_≡_, _∙_}
 use Prim.Native.Nat.{ℕ, _≤_, _<_}
 use native.Mathlib.Omega.{arith}

@@ -1,3 +1,5 @@
+-- `setting::on_both` meets its contract: one answer for each branch.
+-- Assumes nothing.
 use borrow.Author.Tests.{le-leb, lt-leb}
 use Rattle.setting.specs.Owed.{both}
 use Rattle.setting.proofs.on_both.Statement.{statement}

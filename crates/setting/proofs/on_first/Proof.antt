@@ -1,3 +1,5 @@
+-- `setting::on_first` meets its contract: one answer for each branch.
+-- Assumes nothing.
 use borrow.Author.Tests.{eq-eqb, ne-eqb}
 use Rattle.setting.specs.Owed.{alone}
 use Rattle.setting.proofs.on_first.Statement.{statement}

@@ -1,3 +1,5 @@
+-- `setting::on_first_or_both` meets its contract: one answer for each branch.
+-- Assumes nothing.
 use borrow.Author.Needs.{needs}
 use borrow.Author.Tests.{eq-eqb, ne-eqb}
 use Rattle.setting.specs.Owed.{forcedOr}

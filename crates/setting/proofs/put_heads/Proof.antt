@@ -1,3 +1,5 @@
+-- `setting::put_heads` meets its contract: line by line, with the number of head lines so far.
+-- Assumes nothing.
 use native.Mathlib.Omega.{arith}
 use borrow.Author.Needs.{needs}
 use Prim.Native.Nat.{_-_}

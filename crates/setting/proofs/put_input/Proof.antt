@@ -1,3 +1,5 @@
+-- `setting::put_input` meets its contract: an input has its place, of a gate nothing is written.
+-- Assumes nothing.
 use borrow.Author.Tests.{eq-eqb, ne-eqb}
 use Rattle.setting.specs.Owed.{inputPut}
 use borrow.Author.Needs.{needs}

@@ -1,3 +1,5 @@
+-- `setting::put_pins` meets its contract: one pin after the other.
+-- Assumes nothing.
 use mathlib.Core.Path.{refl}
 use native.Mathlib.Omega.{arith}
 use Prim.Native.Nat.{_-_, _+_}

@@ -1,3 +1,5 @@
+-- `setting::set_below` meets its contract: one line after the other, the highest first.
+-- Assumes nothing.
 use native.Mathlib.Omega.{arith}
 use mathlib.Core.Path.{_∙_}
 use Rattle.setting.proofs.Lines.{Below, all-below, next-below, none-below}

@@ -1,3 +1,5 @@
+-- `setting::set_line` meets its contract: a bound line puts nothing, a free one what its pins need.
+-- Assumes nothing.
 use Rattle.setting.proofs.Lines.{line-bound, line-free}
 use borrow.Author.Needs.{needs}
 use Rattle.setting.proofs.set_line.Statement.{statement}

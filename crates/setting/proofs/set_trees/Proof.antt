@@ -1,3 +1,5 @@
+-- `setting::set_trees` meets its contract: the head lines, then all lines, then the inputs.
+-- Assumes nothing.
 use lib.ListN.{length}
 use mathlib.Core.Path.{_∙_}
 use Rattle.setting.proofs.Inputs.{trees-made}

@@ -1,3 +1,5 @@
+-- `setting::take_inputs` meets its contract: line by line, with the number of inputs so far.
+-- Assumes nothing.
 use native.Mathlib.Omega.{arith}
 use borrow.Author.Needs.{needs}
 use Prim.Native.Nat.{_-_}
