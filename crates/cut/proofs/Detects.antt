@@ -2,16 +2,16 @@
 -- Assumes nothing.
 use mathlib.Core.Path.{_≡_, refl, sym, ap, _∙_}
 use mathlib.Core.Logic.{_⊎_, inl, inr, _↔_}
-use mathlib.Core.Bool.{Bool, true, false, true≢false, false≢true}
+use mathlib.Core.Bool.{Bool, true, false}
 use mathlib.Core.List.{List}
 use Prim.Native.Nat.{ℕ, _<_}
 use native.Mathlib.Omega.{arith}
 use lib.Dec.{eqb}
-use borrow.Author.Tests.{eq-eqb, eqb-true}
-use Rattle.circuit.specs.Record.{outAt, isOutput}
+use borrow.Author.Tests.{eqb-true}
+use Rattle.circuit.specs.Record.{outAt}
 use Rattle.circuit.specs.Formed.{WellFormed}
 use Rattle.lists.specs.declared.Fault.{Fault}
-use Rattle.simulate.specs.Boolean.{Vector, good, faulty, truthAt, Detects}
+use Rattle.simulate.specs.Boolean.{Vector, good, faulty, Detects}
 use Rattle.heads.specs.Heads.{bound, head}
 use Rattle.cut.specs.Cut.{cut, headVector}
 use Rattle.cut.specs.Words.{Serves}

@@ -17,7 +17,7 @@ use Rattle.circuit.specs.Record.{kindAt, pinAt, isInput, inputsBefore}
 use Rattle.circuit.specs.Formed.{WellFormed}
 use Rattle.simulate.specs.Simulate.{Forcing, gateValue, lineValue, valuesTo}
 use Rattle.heads.specs.Heads.{bound, head, headsBefore}
-use Rattle.heads.proofs.Forest.{head-free, input-free}
+use Rattle.heads.proofs.Forest.{input-free}
 use Rattle.cut.specs.Cut.{cut}
 use Rattle.cut.specs.Given.{shown, given}
 use Rattle.cut.proofs.Lines.{is-cut, cut-input, cut-inputs}

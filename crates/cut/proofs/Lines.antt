@@ -1,19 +1,17 @@
 -- The lines of the cut circuit.
 -- Assumes nothing.
 use mathlib.Core.Path.{_≡_, refl, sym, ap, _∙_}
-use mathlib.Core.Bool.{Bool, true, false, _||_, or-true, true≢false}
+use mathlib.Core.Bool.{Bool, true, false, or-true, true≢false}
 use mathlib.Core.List.{List}
 use Prim.Native.Nat.{ℕ, zero, suc, _+_, _*_, _≤_, _<_}
 use native.Mathlib.Decide.{ℕ-discrete}
-use native.Mathlib.Nat.{not-suc-le-zero, le-refl}
+use native.Mathlib.Nat.{not-suc-le-zero}
 use native.Mathlib.Omega.{arith}
 use lib.Dec.{eqb}
 use lib.ListN.{length, getD, set, length-set}
 use lib.Seq.{getD-set-same, getD-set-other}
-use borrow.Author.Tests.{ne-eqb, eq-eqb, eqb-true}
-use Rattle.ground.specs.Choose.{choose}
+use borrow.Author.Tests.{ne-eqb, eq-eqb}
 use Rattle.ground.proofs.Counting.{count-same}
-use Rattle.gates.specs.Gate.{lastKind}
 use Rattle.little.specs.Little.{pairAt}
 use Rattle.circuit.specs.Record.{kindAt, outAt, pinAt, isInput, inputsBefore}
 use Rattle.circuit.specs.Formed.{WellFormed}

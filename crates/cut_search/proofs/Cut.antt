@@ -1,12 +1,12 @@
 -- The cut circuit of an accepted one can be searched as any other.
 -- Assumes nothing.
 use mathlib.Core.Path.{_≡_, refl, sym, ap, _∙_, subst}
-use mathlib.Core.Logic.{_⊎_, inl, inr}
+use mathlib.Core.Logic.{inl, inr}
 use mathlib.Core.List.{List}
 use Prim.Native.Nat.{ℕ, _≤_, _<_}
 use native.Mathlib.Nat.{le-refl}
 use native.Mathlib.Omega.{arith}
-use lib.ListN.{length, length-replicate}
+use lib.ListN.{length-replicate}
 use Rattle.gates.specs.Gate.{lastKind}
 use Rattle.circuit.specs.Record.{kindAt, pinAt, inputsBefore}
 use Rattle.circuit.specs.Formed.{Lower, WellFormed, Known}

@@ -28,7 +28,7 @@ use Rattle.setting.specs.Owed.{TreesReady}
 use Rattle.cut.specs.Cut.{cut}
 use Rattle.cut.proofs.Lines.{cut-inputs}
 use Rattle.cut_lines.specs.Owed.{CutReady}
-use Rattle.cut_search.specs.Owed.{MarkedReady, SearchCutReady, RunCutReady, RunHeadsReady, CutDone}
+use Rattle.cut_search.specs.Owed.{SearchCutReady, RunCutReady, RunHeadsReady, CutDone}
 use Rattle.cut_search.proofs.Cut.{well, sourced, few-heads, cut-ready, test-size}
 
 -- ---- the cut circuit is there

@@ -9,7 +9,7 @@ use native.Mathlib.Nat.{le-refl}
 use native.Mathlib.Numerals.{add-one}
 use native.Mathlib.Omega.{arith}
 use lib.Dec.{eqb, ltb}
-use lib.ListN.{length, getD, set, replicate, length-set, getD-replicate}
+use lib.ListN.{length, getD, set, length-set, getD-replicate}
 use lib.Seq.{getD-set-same, getD-set-other}
 use borrow.Author.Tests.{lt-ltb, le-ltb}
 use Rattle.ground.specs.Choose.{choose, one}
@@ -19,11 +19,10 @@ use Rattle.ground.proofs.Below.{any-same}
 use mathlib.Core.Logic.{⊎-elim}
 use Rattle.gates.specs.Gate.{pinsOf}
 use Rattle.circuit.specs.Record.{kindAt, pinAt}
-use Rattle.circuit.specs.Formed.{WellFormed}
-use Rattle.reads.specs.Reads.{readsOf, branches}
+use Rattle.reads.specs.Reads.{readsOf}
 use Rattle.reads.specs.Owed.{Counted}
 use Rattle.reads.proofs.Counted.{counted-branches}
-use Rattle.heads.specs.Heads.{somePin, bound, readByBound, head}
+use Rattle.heads.specs.Heads.{somePin, bound, readByBound}
 use Rattle.heads.specs.Marks.{markOf, Marked}
 use Rattle.heads.proofs.Pins.{pin-lower}
 use Rattle.heads.proofs.Forest.{bound-law}

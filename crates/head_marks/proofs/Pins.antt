@@ -11,7 +11,6 @@ use lib.Dec.{eqb}
 use lib.ListN.{length, getD, set, length-set}
 use lib.Seq.{getD-set-same, getD-set-other}
 use borrow.Author.Tests.{eq-eqb, ne-eqb}
-use Rattle.ground.specs.Choose.{choose, one}
 use Rattle.ground.specs.Below.{anyBelow}
 use Rattle.ground.proofs.Below.{None, found, none-more, not-found}
 use Rattle.gates.specs.Gate.{pinsOf}

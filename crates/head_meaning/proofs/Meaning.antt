@@ -1,6 +1,6 @@
 -- What the answer of the search over head lines says, read off its promise, served or not; and that it agrees with the search over inputs.
 -- Assumes nothing.
-use mathlib.Core.Path.{_≡_, refl, sym, ap, _∙_, subst}
+use mathlib.Core.Path.{_≡_, refl, sym, _∙_, subst}
 use mathlib.Core.Logic.{_↔_}
 use mathlib.Core.Bool.{Bool, true, false}
 use mathlib.Core.List.{List}
@@ -15,7 +15,6 @@ use Rattle.circuit.specs.Record.{linesOf, inputsOf}
 use Rattle.circuit.specs.Promise.{circuitRules}
 use Rattle.circuit.specs.Formed.{WellFormed}
 use Rattle.circuit.proofs.Accepted.{good}
-use Rattle.lists.specs.declared.Fault.{Fault}
 use Rattle.lists.specs.Faults.{faultAt, faultRules}
 use Rattle.lists.proofs.Faults.{good-faults}
 use Rattle.simulate.specs.Boolean.{Vector}
@@ -23,7 +22,7 @@ use Rattle.simulate.specs.Vectors.{Fills}
 use Rattle.nodes.specs.declared.Verdict.{Verdict}
 use Rattle.nodes.specs.declared.Verdict.the-variants.{Test, Redundant, GivenUp}
 use Rattle.nodes.specs.Node.{start}
-use Rattle.nodes.specs.Budget.{Decided, testBy}
+use Rattle.nodes.specs.Budget.{Decided}
 use Rattle.nodes.specs.Walk.{Answers}
 use Rattle.nodes.proofs.Node.{start-is}
 use Rattle.nodes.proofs.Walk.{answers}

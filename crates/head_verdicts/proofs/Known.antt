@@ -6,10 +6,8 @@ use mathlib.Core.Bool.{Bool, true, false, true≢false}
 use mathlib.Core.List.{List}
 use Prim.Native.Nat.{ℕ, _≤_, _<_}
 use native.Mathlib.Omega.{arith}
-use lib.Dec.{eqb}
 use lib.ListN.{length, getD}
 use borrow.Author.Tests.{eq-eqb, ne-eqb}
-use Rattle.ground.specs.Choose.{choose}
 use Rattle.ground.proofs.Below.{each-below}
 use Rattle.ground.proofs.Counting.{count-below}
 use Rattle.ground.proofs.Grow.{grow-at, grow-meet}
@@ -21,7 +19,7 @@ use Rattle.circuit.specs.Formed.{WellFormed}
 use Rattle.simulate.specs.Simulate.{Forcing, gateValue, lineValue, valuesTo}
 use Rattle.simulate.specs.Vectors.{NoX}
 use Rattle.simulate.specs.Owed.{Keeps}
-use Rattle.heads.specs.Heads.{bound, head, headsBefore, headsOf}
+use Rattle.heads.specs.Heads.{bound, head, headsOf}
 use Rattle.heads.proofs.Pins.{pin-lower}
 use Rattle.heads.proofs.Forest.{bound-sources, input-free}
 use Rattle.cut.specs.Cut.{cut}

@@ -1,7 +1,7 @@
 -- What a node of head lines says: the definition says what the words say, and it is so for every filling, in the Boolean meaning of the cut circuit.
 -- Assumes nothing.
 use mathlib.Core.Path.{_≡_, sym, ap, _∙_, subst}
-use mathlib.Core.Logic.{_⊎_, inl, inr, ⊎-elim}
+use mathlib.Core.Logic.{inl, inr, ⊎-elim}
 use mathlib.Core.Bool.{false, false≢true}
 use mathlib.Core.List.{List, _++_}
 use Prim.Native.Nat.{ℕ, _≤_, _<_}
@@ -22,7 +22,7 @@ use Rattle.simulate.proofs.Below.{stuck-off}
 use Rattle.entry.specs.Words.{Differ}
 use Rattle.entry.proofs.Words.{agree-passes}
 use Rattle.entry.proofs.Decided.{known-decided}
-use Rattle.nodes.specs.Node.{Node, IsNode, countX}
+use Rattle.nodes.specs.Node.{Node, countX}
 use Rattle.nodes.specs.Walk.{Looks}
 use Rattle.nodes.proofs.Node.{all-set}
 use Rattle.sides.specs.Look.{Settled, lookOf, lookWork}

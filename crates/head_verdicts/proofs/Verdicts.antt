@@ -3,7 +3,7 @@
 use mathlib.Core.Path.{_≡_, sym, ap, _∙_, subst}
 use mathlib.Core.Logic.{_↔_}
 use mathlib.Core.List.{List}
-use Prim.Native.Nat.{ℕ, _+_, _-_, _^_, _≤_, _<_}
+use Prim.Native.Nat.{ℕ, _+_, _-_, _^_, _≤_}
 use native.Mathlib.Omega.{arith}
 use lib.ListN.{length, getD}
 use Rattle.ground.specs.Choose.{one}
@@ -17,11 +17,10 @@ use Rattle.simulate.specs.Boolean.{Vector, good, truthAt, Detects}
 use Rattle.simulate.specs.Vectors.{Fills}
 use Rattle.simulate.specs.Work.{goodOf}
 use Rattle.simulate.proofs.Fillings.{good-truth}
-use Rattle.nodes.specs.declared.Verdict.{Verdict}
 use Rattle.nodes.specs.declared.Verdict.the-variants.{Test, Redundant}
 use Rattle.nodes.specs.Node.{Node, IsNode, start}
 use Rattle.nodes.specs.Order.{trail, nodes, testOf}
-use Rattle.nodes.specs.Budget.{verdictOf, Decided}
+use Rattle.nodes.specs.Budget.{Decided}
 use Rattle.nodes.proofs.Node.{start-is}
 use Rattle.nodes.proofs.Verdicts.{says}
 use Rattle.nodes.proofs.Walk.{walks}

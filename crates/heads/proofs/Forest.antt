@@ -17,7 +17,7 @@ use Rattle.reads.specs.Reads.{readsOf, branches}
 use Rattle.reads.specs.Words.{Reads}
 use Rattle.reads.proofs.Pins.{one-reader}
 use Rattle.heads.specs.Heads.{somePin, boundIn, bound, readByBound, head}
-use Rattle.heads.proofs.Pins.{PinAt, some-pin, pin-some, reads-it, it-reads, has-pin, pin-lower, reads}
+use Rattle.heads.proofs.Pins.{some-pin, pin-some, reads-it, it-reads, has-pin, pin-lower, reads}
 
 module _ {c : List ℕ} {m n : ℕ} (well : WellFormed c m n) where
   -- a line is bound exactly if some pin of it reads a line that branches or is bound

@@ -1,16 +1,14 @@
 -- How often a line is read, and the pins that read it: the numbers say what the words say.
 -- Assumes nothing.
-use mathlib.Core.Path.{_≡_, _∙_}
+use mathlib.Core.Path.{_≡_}
 use mathlib.Core.Logic.{_⊎_, inl, inr, ⊎-elim}
-use mathlib.Core.Bool.{Bool, true, false}
 use mathlib.Core.List.{List}
-use Prim.Native.Nat.{ℕ, suc, _+_, _-_, _≤_, _<_}
+use Prim.Native.Nat.{ℕ, suc, _-_, _≤_, _<_}
 use native.Mathlib.Decide.{ℕ-discrete}
 use native.Mathlib.Omega.{arith}
 use lib.Dec.{eqb}
 use borrow.Author.Tests.{eq-eqb, ne-eqb, leb-true, le-leb}
 use Rattle.ground.specs.Choose.{one}
-use Rattle.ground.specs.Below.{countBelow}
 use Rattle.ground.proofs.Tests.{either, one-most}
 use Rattle.answers.specs.Rules.{Same}
 use Rattle.gates.specs.Gate.{pinsOf}

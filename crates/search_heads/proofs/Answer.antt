@@ -3,8 +3,7 @@
 use mathlib.Core.Path.{_≡_, refl, sym, ap, _∙_}
 use mathlib.Core.Bool.{Bool, true, false}
 use mathlib.Core.List.{List}
-use Prim.Native.Nat.{ℕ, _*_, _≤_, _<_}
-use native.Mathlib.Omega.{arith}
+use Prim.Native.Nat.{ℕ, _*_, _≤_}
 use lib.ListN.{length, getD, take, replicate}
 use Rattle.answers.specs.declared.Ruling.{Ruling}
 use Rattle.answers.specs.Rules.{Rule, refusal}
@@ -14,8 +13,6 @@ use Rattle.lists.specs.declared.Fault.{Fault}
 use Rattle.lists.specs.Faults.{faultAt}
 use Rattle.nodes.specs.declared.Verdict.{Verdict}
 use Rattle.nodes.specs.Node.{start}
-use Rattle.nodes.specs.Order.{testOf}
-use Rattle.nodes.specs.Budget.{testBy}
 use Rattle.sides.specs.Look.{lookOf, lookWork}
 use Rattle.search.specs.declared.Searched.{Searched}
 use Rattle.search.specs.declared.Searched.the-variants as searched
@@ -25,9 +22,8 @@ use Rattle.heads.specs.Heads.{headsOf}
 use Rattle.heads.specs.Marks.{Marked}
 use Rattle.heads.proofs.Marks.{bounds, heads}
 use Rattle.head_marks.specs.Owed.{MarkReady}
-use Rattle.trees.specs.Setting.{setTrees}
 use Rattle.cut.specs.Cut.{serves}
-use Rattle.head_verdicts.specs.Look.{headLook, headTest}
+use Rattle.head_verdicts.specs.Look.{headTest}
 use Rattle.search_heads.specs.Promise.{headVerdictFor, headTestFor, headWorkFor, HeadSearches}
 use Rattle.cut_search.specs.Owed.{RunHeadsReady, CutDone}
 use Rattle.cut_search.proofs.Cut.{well, sourced}

@@ -15,7 +15,6 @@ use Rattle.ground.proofs.Grow.{table-length, table-at}
 use Rattle.gates.specs.Gate.{pinsOf}
 use Rattle.circuit.specs.Record.{kindAt, pinAt}
 use Rattle.circuit.specs.Formed.{WellFormed}
-use Rattle.reads.specs.Words.{Reads}
 use Rattle.reads.proofs.Pins.{read-once}
 use Rattle.heads.specs.Heads.{bound, head}
 use Rattle.heads.proofs.Pins.{pin-lower}

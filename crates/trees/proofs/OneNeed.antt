@@ -12,10 +12,10 @@ use Rattle.ground.specs.Choose.{choose}
 use Rattle.ground.specs.Below.{allBelow}
 use Rattle.ground.proofs.Below.{at-below}
 use Rattle.ground.proofs.Tests.{either}
-use Rattle.gates.specs.Gate.{X, lastKind, selector, pinsOf, gateTable, selectorTable, threeOf, gateOf, atPins}
+use Rattle.gates.specs.Gate.{X, lastKind, pinsOf, gateTable, selectorTable, threeOf, gateOf, atPins}
 use Rattle.gates.proofs.Laws.{few-pins, two-pins, gate-same}
 use Rattle.circuit.proofs.Lines.{three}
-use Rattle.trees.specs.Need.{ForcedBy, Alone, Needs}
+use Rattle.trees.specs.Need.{ForcedBy, Needs}
 use Rattle.trees.proofs.Needs.{forcedBy, where-so}
 
 -- what is put where the first source alone forces nothing, by a known value u: on both, on the second after a 0, or on the first with select 0

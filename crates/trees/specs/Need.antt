@@ -6,7 +6,7 @@ use mathlib.Core.List.{List, [], _∷_}
 use Prim.Native.Nat.{ℕ, _+_, _-_, _*_, _≤_, _<_}
 use lib.ListN.{getD}
 use Rattle.ground.specs.Choose.{choose}
-use Rattle.gates.specs.Gate.{X, known, selector, pinsOf, gateOf, atPins}
+use Rattle.gates.specs.Gate.{X, known, selector, gateOf, atPins}
 
 -- ---- as a table
 

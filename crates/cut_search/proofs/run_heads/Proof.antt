@@ -1,7 +1,7 @@
 -- `cut_search::run_heads` meets its contract: as many of 64 X's as there are head lines are the start.
 -- Assumes nothing.
 use mathlib.Core.Path.{_≡_, sym, ap, _∙_}
-use lib.ListN.{length, take, replicate}
+use lib.ListN.{length, take}
 use borrow.Author.Needs.{needs}
 use Rattle.ground.proofs.Filled.{front-length}
 use Rattle.nodes.specs.Node.{start}
@@ -16,7 +16,8 @@ use Rattle.cut_search.proofs.run_heads.Tie as tie
 abbrev entry : tie.After-count-heads → tie.Start
 entry c = c .before .before .before .before .before .before .before
 
-starts : (c : tie.After-count-heads) → take (c .count-heads .result) (start 64) ≡ start (headsOf (entry c .args .circuit .now) (length (entry c .args .want .now)))
+starts : (c : tie.After-count-heads)
+    → take (c .count-heads .result) (start 64) ≡ start (headsOf (entry c .args .circuit .now) (length (entry c .args .want .now)))
 starts c =
     let h = c .count-heads .result in
     let says = c .count-heads .ensures in
@@ -34,7 +35,9 @@ run-cut-requires : tie.Need-run-cut-requires
 run-cut-requires c κs = let counted = c .before .before .before .before .before in cut-run-ready (entry counted .pre) (starts counted)
 
 returns : tie.Need-returns
-returns c = done-of (starts (c .before .before .before .before .before .before .before .before .before .before .before .before .before .before .before)) (c .before .before .before .before .before .before .before .before .before .run-cut .ensures)
+returns c =
+    let ran = c .before .before .before .before .before .before .before .before .before in
+    done-of (starts (ran .before .before .before .before .before .before)) (ran .run-cut .ensures)
 
 pub run-heads-spec : {M : Type 1} → statement M
 run-heads-spec =

@@ -1,6 +1,5 @@
 -- `search_heads::run_sized` meets its contract: either has room for the circuit.
 -- Assumes nothing.
-use native.Mathlib.Omega.{arith}
 use borrow.Author.Needs.{needs}
 use Rattle.search_heads.proofs.run_sized.Statement.{statement}
 use Rattle.search_heads.proofs.run_sized.Tie as tie

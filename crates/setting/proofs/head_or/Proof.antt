@@ -1,13 +1,10 @@
 -- `setting::head_or` meets its contract: one answer for each branch.
 -- Assumes nothing.
+use borrow.Author.Needs.{needs}
 use borrow.Author.Tests.{eq-eqb, ne-eqb}
 use Rattle.setting.specs.Owed.{headOr}
-use borrow.Author.Needs.{needs}
 use Rattle.setting.proofs.head_or.Statement.{statement}
 use Rattle.setting.proofs.head_or.Tie as tie
-
-shared-slice-read-if1 : tie.Need-shared-slice-read-if1
-shared-slice-read-if1 c = search needs
 
 shared-slice-read-result : tie.Need-shared-slice-read-result
 shared-slice-read-result c = c .before .before .before .pre .head (c .before .if1 .taken)
@@ -21,5 +18,4 @@ unfolding headOr
 returns-2 c = simp (ne-eqb _ _ (c .if1 .left))
 
 pub head-or-spec : {M : Type 1} → statement M
-head-or-spec =
-    tie.close (tie.spec shared-slice-read-if1 shared-slice-read-result returns returns-2)
+head-or-spec = tie.close (tie.spec (λ c. search needs) shared-slice-read-result returns returns-2)

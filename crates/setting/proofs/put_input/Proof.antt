@@ -1,25 +1,13 @@
 -- `setting::put_input` meets its contract: an input has its place, of a gate nothing is written.
 -- Assumes nothing.
+use borrow.Author.Needs.{needs}
 use borrow.Author.Tests.{eq-eqb, ne-eqb}
 use Rattle.setting.specs.Owed.{inputPut}
-use borrow.Author.Needs.{needs}
 use Rattle.setting.proofs.put_input.Statement.{statement}
 use Rattle.setting.proofs.put_input.Tie as tie
 
-mul-if1 : tie.Need-mul-if1
-mul-if1 c = search needs
-
-shared-slice-read-if1 : tie.Need-shared-slice-read-if1
-shared-slice-read-if1 c = search needs
-
-shared-slice-read-test : tie.Need-shared-slice-read-test
-shared-slice-read-test c = search needs
-
 slice-write-test : tie.Need-slice-write-test
 slice-write-test c = c .before .before .before .pre .input (c .before .if1 .taken)
-
-same-length : tie.Need-same-length
-same-length c = search needs
 
 returns : tie.Need-returns
 unfolding inputPut
@@ -33,10 +21,10 @@ pub put-input-spec : {M : Type 1} → statement M
 put-input-spec =
     tie.close
     (tie.spec
-    mul-if1
-    shared-slice-read-if1
-    shared-slice-read-test
+    (λ c. search needs)
+    (λ c. search needs)
+    (λ c. search needs)
     slice-write-test
-    same-length
+    (λ c. search needs)
     returns
     returns-2)

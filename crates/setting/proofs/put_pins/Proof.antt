@@ -14,32 +14,18 @@ Inv-loop circuit k v want₀ kind has s₀ want s = Pins circuit k v want₀ kin
 abbrev μ-loop : tie.MeasureT-loop
 μ-loop circuit k v want₀ kind has s₀ want s = has - s
 
-mul-kind : tie.Need-mul-kind Inv-loop μ-loop
-mul-kind c = search needs
-
-shared-slice-read-kind : tie.Need-shared-slice-read-kind Inv-loop μ-loop
-shared-slice-read-kind c = search needs
-
-pins-requires : tie.Need-pins-requires Inv-loop μ-loop
-pins-requires c κs = search needs
-
 loop-holds : tie.Need-loop-holds Inv-loop μ-loop
 loop-holds c = no-pin refl (c .pins .ensures)
-
-add-s : tie.Need-add-s Inv-loop μ-loop
-add-s c = omega arith
-
-need-requires : tie.Need-need-requires Inv-loop μ-loop
-need-requires c κs = search needs
 
 source-requires : tie.Need-source-requires Inv-loop μ-loop
 source-requires c κs = (record { inside = omega arith }, omega arith)
 
 slice-write-want : tie.Need-slice-write-want Inv-loop μ-loop
-slice-write-want c = let e = c .before .before .before .before .before .before .before .before in omega (arith, c .source .ensures, c .before .before .before .loop .inv .long, e .pre .0 .inside (e .args .k) (c .before .before .before .loop .s + 1) (e .pre .1) (omega arith) (omega arith))
-
-loop-less : tie.Need-loop-less Inv-loop μ-loop
-loop-less c = omega arith
+slice-write-want c =
+    let turn = c .before .before .before .loop in
+    let s = c .before .before .before .before .before .before .before .before in
+    let below = s .pre .0 .inside (s .args .k) (turn .s + 1) (s .pre .1) (omega arith) (omega arith) in
+    omega (arith, c .source .ensures, turn .inv .long, below)
 
 loop-again : tie.Need-loop-again Inv-loop μ-loop
 loop-again c = next-pin (c .before .before .before .loop .inv) (omega arith) (c .before .need .ensures) (c .source .ensures)
@@ -56,15 +42,15 @@ put-pins-spec =
     (tie.spec
     Inv-loop
     μ-loop
-    mul-kind
-    shared-slice-read-kind
-    pins-requires
+    (λ c. search needs)
+    (λ c. search needs)
+    (λ c κs. search needs)
     loop-holds
-    add-s
-    need-requires
+    (λ c. omega arith)
+    (λ c κs. search needs)
     source-requires
     slice-write-want
-    loop-less
+    (λ c. omega arith)
     loop-again
     same-length
     returns)

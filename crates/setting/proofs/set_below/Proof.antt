@@ -1,7 +1,6 @@
 -- `setting::set_below` meets its contract: one line after the other, the highest first.
 -- Assumes nothing.
 use native.Mathlib.Omega.{arith}
-use mathlib.Core.Path.{_∙_}
 use Rattle.setting.proofs.Lines.{Below, all-below, next-below, none-below}
 use Rattle.setting.proofs.set_below.Statement.{statement}
 use Rattle.setting.proofs.set_below.Tie as tie
@@ -15,17 +14,16 @@ abbrev μ-loop : tie.MeasureT-loop
 loop-holds : tie.Need-loop-holds Inv-loop μ-loop
 loop-holds c = all-below _ _
 
-sub-k : tie.Need-sub-k Inv-loop μ-loop
-sub-k c = omega arith
-
 set-line-requires : tie.Need-set-line-requires Inv-loop μ-loop
-set-line-requires c κs = let e = c .before .before .before .before .before .before in rw (c .before .before .loop .inv .long) (e .pre .0, e .pre .1, omega (arith, c .before .before .loop .inv .at-most))
-
-loop-less : tie.Need-loop-less Inv-loop μ-loop
-loop-less c = omega arith
+set-line-requires c κs =
+    let so = c .before .before .loop .inv in
+    let p = c .before .before .before .before .before .before .pre in
+    rw (so .long) (p .0, p .1, omega (arith, so .at-most))
 
 loop-again : tie.Need-loop-again Inv-loop μ-loop
-loop-again c = next-below (c .before .before .before .before .before .loop .inv) (omega arith) (c .before .before .set-line .kept .1 .1 .1 .0) (c .before .before .set-line .ensures)
+loop-again c =
+    let call = c .before .before .set-line in
+    next-below (c .before .before .before .before .before .loop .inv) (omega arith) (call .kept .1 .1 .1 .0) (call .ensures)
 
 same-length : tie.Need-same-length Inv-loop μ-loop
 same-length c = c .before .loop .inv .long
@@ -40,9 +38,9 @@ set-below-spec =
     Inv-loop
     μ-loop
     loop-holds
-    sub-k
+    (λ c. omega arith)
     set-line-requires
-    loop-less
+    (λ c. omega arith)
     loop-again
     same-length
     returns)

@@ -1,8 +1,8 @@
 -- `setting::take_inputs` meets its contract: line by line, with the number of inputs so far.
 -- Assumes nothing.
 use native.Mathlib.Omega.{arith}
-use borrow.Author.Needs.{needs}
 use Prim.Native.Nat.{_-_}
+use borrow.Author.Needs.{needs}
 use lib.ListN.{length}
 use Rattle.setting.proofs.Inputs.{Inputs, no-input, used-small, input-ready, next-input, all-inputs}
 use Rattle.setting.proofs.take_inputs.Statement.{statement}
@@ -14,38 +14,32 @@ Inv-loop circuit want test₀ k₀ used₀ test k used = Inputs circuit want tes
 abbrev μ-loop : tie.MeasureT-loop
 μ-loop circuit want test₀ k₀ used₀ test k used = length want - k
 
+abbrev entry : tie.At-loop Inv-loop μ-loop → tie.Start Inv-loop μ-loop
+entry c = c .before .before .before .before
+
 loop-holds : tie.Need-loop-holds Inv-loop μ-loop
 loop-holds c = no-input _ _ _
 
 put-input-requires : tie.Need-put-input-requires Inv-loop μ-loop
-put-input-requires c κs = let e = c .before .before .before .before .before .before in input-ready (e .pre) (c .before .before .loop .inv) (omega arith)
-
-mul-equal : tie.Need-mul-equal Inv-loop μ-loop
-mul-equal c = omega arith
-
-shared-slice-read-equal : tie.Need-shared-slice-read-equal Inv-loop μ-loop
-shared-slice-read-equal c = omega arith
-
-equal-requires : tie.Need-equal-requires Inv-loop μ-loop
-equal-requires c κs = search needs
+put-input-requires c κs = let turn = c .before .before in input-ready (entry turn .pre) (turn .loop .inv) (omega arith)
 
 add-used : tie.Need-add-used Inv-loop μ-loop
-add-used c = let e = c .before .before .before .before .before .before .before .before .before .before .before in omega (arith, used-small (e .pre) (c .before .before .before .before .before .before .before .loop .inv))
-
-add-k : tie.Need-add-k Inv-loop μ-loop
-add-k c = omega arith
-
-loop-less : tie.Need-loop-less Inv-loop μ-loop
-loop-less c = omega arith
+add-used c =
+    let turn = c .before .before .before .before .before .before .before in
+    omega (arith, used-small (entry turn .pre) (turn .loop .inv))
 
 loop-again : tie.Need-loop-again Inv-loop μ-loop
-loop-again c = let e = c .before .before .before .before .before .before .before .before .before .before .before in next-input (e .pre) (c .before .before .before .before .before .before .before .loop .inv) (omega arith) (c .before .before .before .before .put-input .kept .1 .1 .1 .1 .0) (c .before .before .before .before .put-input .ensures) (c .equal .ensures .0)
+loop-again c =
+    let put = c .before .before .before .before in
+    let turn = put .before .before .before in
+    let call = put .put-input in
+    next-input (entry turn .pre) (turn .loop .inv) (omega arith) (call .kept .1 .1 .1 .1 .0) (call .ensures) (c .equal .ensures .0)
 
 same-length : tie.Need-same-length Inv-loop μ-loop
 same-length c = c .before .loop .inv .long
 
 returns : tie.Need-returns Inv-loop μ-loop
-returns c = let e = c .before .before .before .before .before in all-inputs (e .pre) (c .before .loop .inv) (omega arith)
+returns c = all-inputs (entry (c .before) .pre) (c .before .loop .inv) (omega arith)
 
 pub take-inputs-spec : {M : Type 1} → statement M
 take-inputs-spec =
@@ -55,12 +49,12 @@ take-inputs-spec =
     μ-loop
     loop-holds
     put-input-requires
-    mul-equal
-    shared-slice-read-equal
-    equal-requires
+    (λ c. omega arith)
+    (λ c. omega arith)
+    (λ c κs. search needs)
     add-used
-    add-k
-    loop-less
+    (λ c. omega arith)
+    (λ c. omega arith)
     loop-again
     same-length
     returns)
