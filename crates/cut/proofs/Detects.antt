@@ -1,7 +1,7 @@
 -- A vector detects a fault that is served exactly if its values at the head lines detect it in the cut circuit.
 -- Assumes nothing.
 use mathlib.Core.Path.{_≡_, refl, sym, ap, _∙_}
-use mathlib.Core.Logic.{_⊎_, inl, inr, _↔_}
+use mathlib.Core.Logic.{inl, inr, _↔_}
 use mathlib.Core.Bool.{Bool, true, false}
 use mathlib.Core.List.{List}
 use Prim.Native.Nat.{ℕ, _<_}
@@ -13,6 +13,7 @@ use Rattle.circuit.specs.Formed.{WellFormed}
 use Rattle.lists.specs.declared.Fault.{Fault}
 use Rattle.simulate.specs.Boolean.{Vector, good, faulty, Detects}
 use Rattle.heads.specs.Heads.{bound, head}
+use Rattle.heads.proofs.Forest.{Kept}
 use Rattle.cut.specs.Cut.{cut, headVector}
 use Rattle.cut.specs.Words.{Serves}
 use Rattle.cut.proofs.Lines.{is-cut}
@@ -20,7 +21,7 @@ use Rattle.cut.proofs.Truths.{good-tame, fault-tame, free-good, cut-sam
 
 -- a line is bound, a head line, or another free one
 pub data Place (c : List ℕ) (n k : ℕ) : Type 0 where
-  kept : (bound c n k ≡ true) ⊎ (head c n k ≡ true) → Place c n k
+  kept : Kept c n k → Place c n k
   rest : bound c n k ≡ false → head c n k ≡ false → Place c n k
 
 pub place : (c : List ℕ) (n k : ℕ) → Place c n k
@@ -32,7 +33,7 @@ place c n k = go (bound c n k) refl (head c n k) refl
     go false e false f = rest e f
 
 module _ {c : List ℕ} {m n : ℕ} (well : WellFormed c m n) where
-  pub kept-out : (k : ℕ) → k < n → (bound c n k ≡ true) ⊎ (head c n k ≡ true) → outAt (cut c n) k ≡ outAt c k
+  pub kept-out : (k : ℕ) → k < n → Kept c n k → outAt (cut c n) k ≡ outAt c k
   kept-out k l (inl e) = is-cut well .bound-out k l e
   kept-out k l (inr e) = is-cut well .head-out k l e
 

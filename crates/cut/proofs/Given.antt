@@ -1,13 +1,13 @@
 -- The simulation of the cut circuit is that of the circuit with its head lines given.
 -- Assumes nothing.
-use mathlib.Core.Path.{_≡_, refl, sym, ap, _∙_}
-use mathlib.Core.Bool.{Bool, true, false, true≢false}
+use mathlib.Core.Path.{_≡_, refl, ap, _∙_}
+use mathlib.Core.Bool.{Bool, true, false}
 use mathlib.Core.List.{List}
 use Prim.Native.Nat.{ℕ, _<_}
 use native.Mathlib.Omega.{arith}
 use lib.Dec.{eqb}
 use lib.ListN.{getD}
-use borrow.Author.Tests.{ne-eqb, eq-eqb}
+use borrow.Author.Tests.{ne-eqb}
 use Rattle.ground.specs.Choose.{choose}
 use Rattle.ground.proofs.Grow.{grow-same}
 use Rattle.gates.specs.Gate.{gateOf}
@@ -17,10 +17,10 @@ use Rattle.circuit.specs.Record.{kindAt, pinAt, isInput, inputsBefore}
 use Rattle.circuit.specs.Formed.{WellFormed}
 use Rattle.simulate.specs.Simulate.{Forcing, gateValue, lineValue, valuesTo}
 use Rattle.heads.specs.Heads.{bound, head, headsBefore}
-use Rattle.heads.proofs.Forest.{input-free}
+use Rattle.heads.proofs.Forest.{bound-gate}
 use Rattle.cut.specs.Cut.{cut}
 use Rattle.cut.specs.Given.{shown, given}
-use Rattle.cut.proofs.Lines.{is-cut, cut-input, cut-inputs}
+use Rattle.cut.proofs.Lines.{is-cut, cut-gate, cut-input, cut-inputs}
 
 module _ {c : List ℕ} {m n : ℕ} (well : WellFormed c m n) (f : Forcing) (s p : List ℕ) where
   line-given : (vs : List ℕ) (k : ℕ) → k < n → lineValue f (cut c n) s vs k ≡ lineValue (given c n s f) c p vs k
@@ -31,11 +31,9 @@ module _ {c : List ℕ} {m n : ℕ} (well : WellFormed c m n) (f : Forcing) (s p
           → f k 0 (choose (isInput (cut c n) k) (getD s (inputsBefore (cut c n) k) 0) (gateOf (kindAt (cut c n) k) (λ q. f k q (getD vs (pinAt (cut c n) k q) 0))))
           ≡ f k 0 (choose b (choose (isInput c k) (getD p (inputsBefore c k) 0) (gateOf (kindAt c k) (λ q. f k q (choose (eqb q 0) (choose b (getD vs (pinAt c k q) 0) (choose h (getD s (headsBefore c n k) 0) 2)) (getD vs (pinAt c k q) 0))))) (choose h (getD s (headsBefore c n k) 0) 2))
       go true e h g =
-          let gate : kindAt c k ≡ 0 → ⊥ = λ z. true≢false (sym e ∙ input-free well k l (eq-eqb _ 0 z)) in
-          let no : isInput c k ≡ false = ne-eqb (kindAt c k) 0 gate in
-          let cut-no : isInput (cut c n) k ≡ false = ap (λ (q : ℕ). eqb q 0) (is-cut well .bound-kind k l e) ∙ no in
+          let no : isInput c k ≡ false = ne-eqb (kindAt c k) 0 (bound-gate well k l e) in
           ap (f k 0)
-          (rw (no, cut-no, is-cut well .bound-kind k l e)
+          (rw (no, cut-gate well k l e, is-cut well .bound-kind k l e)
           (gate-same (kindAt c k) _ _
           (λ q a b. rw (ne-eqb q 0 (λ z. omega arith), is-cut well .pins k q l a (omega (arith, few-pins (kindAt c k)))))))
       go false e true g = ap (f k 0) (rw (cut-input well k l ∙ g, cut-inputs well k (omega arith)))

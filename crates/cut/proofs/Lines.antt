@@ -1,13 +1,12 @@
 -- The lines of the cut circuit.
 -- Assumes nothing.
-use mathlib.Core.Path.{_≡_, refl, sym, ap, _∙_}
-use mathlib.Core.Bool.{Bool, true, false, or-true, true≢false}
+use mathlib.Core.Path.{_≡_, refl, sym, _∙_}
+use mathlib.Core.Bool.{Bool, true, false, or-true}
 use mathlib.Core.List.{List}
 use Prim.Native.Nat.{ℕ, zero, suc, _+_, _*_, _≤_, _<_}
 use native.Mathlib.Decide.{ℕ-discrete}
 use native.Mathlib.Nat.{not-suc-le-zero}
 use native.Mathlib.Omega.{arith}
-use lib.Dec.{eqb}
 use lib.ListN.{length, getD, set, length-set}
 use lib.Seq.{getD-set-same, getD-set-other}
 use borrow.Author.Tests.{ne-eqb, eq-eqb}
@@ -16,7 +15,7 @@ use Rattle.little.specs.Little.{pairAt}
 use Rattle.circuit.specs.Record.{kindAt, outAt, pinAt, isInput, inputsBefore}
 use Rattle.circuit.specs.Formed.{WellFormed}
 use Rattle.heads.specs.Heads.{bound, head, headsBefore}
-use Rattle.heads.proofs.Forest.{input-free, head-free}
+use Rattle.heads.proofs.Forest.{head-free, bound-gate}
 use Rattle.cut.specs.Cut.{cutKind, cutOut, cutTo, cut}
 use Rattle.cut.specs.Words.{Cut}
 
@@ -87,16 +86,17 @@ module _ {c : List ℕ} {m n : ℕ} (well : WellFormed c m n) where
     rest-out = λ k l e f. out-is c n (well .size) k l ∙ rw (e, f);
   }
 
+  -- a bound line stays a gate
+  pub cut-gate : (k : ℕ) → k < n → bound c n k ≡ true → isInput (cut c n) k ≡ false
+  cut-gate k l e = ne-eqb (kindAt (cut c n) k) 0 (λ z. bound-gate well k l e (sym (is-cut .bound-kind k l e) ∙ z))
+
   -- its inputs are the head lines
   pub cut-input : (k : ℕ) → k < n → isInput (cut c n) k ≡ head c n k
   cut-input k l = go (bound c n k) refl (head c n k) refl
     where
       go : (b : Bool) → bound c n k ≡ b → (h : Bool) → head c n k ≡ h → isInput (cut c n) k ≡ h
       go b e true f = eq-eqb _ 0 (is-cut .head-kind k l f)
-      go true e false f = ap (λ (x : ℕ). eqb x 0) (is-cut .bound-kind k l e) ∙ ne-eqb _ 0 (λ z. bound-gate z)
-        where
-          bound-gate : kindAt c k ≡ 0 → ⊥
-          bound-gate z = true≢false (sym e ∙ input-free well k l (eq-eqb _ 0 z))
+      go true e false f = cut-gate k l e
       go false e false f = ne-eqb (kindAt (cut c n) k) 0 (λ z. omega (arith, is-cut .rest-kind k l e f))
 
   pub cut-inputs : (k : ℕ) → k ≤ n → inputsBefore (cut c n) k ≡ headsBefore c n k

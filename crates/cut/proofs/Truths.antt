@@ -1,19 +1,18 @@
 -- A vector does at the bound lines and head lines of a circuit what its values at the head lines do in the cut circuit; at other free lines a fault that is served shows nothing.
 -- Assumes nothing.
 use mathlib.Core.Path.{_≡_, refl, sym, ap, _∙_}
-use mathlib.Core.Logic.{_⊎_, inl, inr}
-use mathlib.Core.Bool.{Bool, true, false, _&&_, true≢false, false≢true}
+use mathlib.Core.Logic.{inl, inr}
+use mathlib.Core.Bool.{Bool, true, false, _&&_, false≢true}
 use mathlib.Core.List.{List}
 use Prim.Native.Nat.{ℕ, _≤_, _<_}
 use native.Mathlib.Omega.{arith}
 use lib.Dec.{eqb}
 use lib.ListN.{getD}
-use borrow.Author.Tests.{ne-eqb, eq-eqb, eqb-true, eqb-false}
+use borrow.Author.Tests.{ne-eqb, eqb-true, eqb-false}
 use Rattle.ground.specs.Choose.{choose}
 use Rattle.ground.proofs.Below.{each-below}
 use Rattle.ground.proofs.Grow.{grow-at, grow-meet}
 use Rattle.ground.proofs.Collect.{collect-get}
-use Rattle.gates.specs.Gate.{pinsOf}
 use Rattle.gates.specs.Boolean.{boolGate}
 use Rattle.gates.proofs.Laws.{bool-same, few-pins}
 use Rattle.circuit.specs.Record.{kindAt, pinAt, isInput, inputsBefore}
@@ -22,10 +21,10 @@ use Rattle.lists.specs.declared.Fault.{Fault}
 use Rattle.simulate.specs.Boolean.{Vector, Truths, good, faulty, gateTruth, lineTruth, truthsTo, truthAt}
 use Rattle.heads.specs.Heads.{bound, head}
 use Rattle.heads.proofs.Pins.{pin-lower}
-use Rattle.heads.proofs.Forest.{free-sources, source-no-head, bound-sources, head-free, input-free}
+use Rattle.heads.proofs.Forest.{Kept, free-sources, source-no-head, source-kept, head-free, bound-gate}
 use Rattle.cut.specs.Cut.{cut, headLine, headVector}
 use Rattle.cut.specs.Words.{Serves}
-use Rattle.cut.proofs.Lines.{is-cut, cut-input, cut-inputs}
+use Rattle.cut.proofs.Lines.{is-cut, cut-gate, cut-input, cut-inputs}
 
 -- ---- what a fault that is served leaves alone
 
@@ -115,48 +114,32 @@ module _ {c : List ℕ} {m n : ℕ} (well : WellFormed c m n) (x : Vector) (t : 
       ∙ ap (t k 0) (rw (cut-input well k l ∙ e) (at-head k l e ∙ sym (inner-good k l (head-free well k e))))
       ∙ sym (grow-at (lineTruth t c x) false n k l)
 
-  -- a line that the cut leaves a value: bound, or a head line
-  abbrev Kept : ℕ → Type 0
-  Kept k = (bound c n k ≡ true) ⊎ (head c n k ≡ true)
+  -- of a line that the cut leaves a value
+  abbrev Same : ℕ → Type 0
+  Same k = Kept c n k → truthAt t d y n k ≡ truthAt t c x n k
 
-  bound-same : (k : ℕ) → k < n → bound c n k ≡ true → ((j : ℕ) → j < k → Kept j → truthAt t d y n j ≡ truthAt t c x n j) → truthAt t d y n k ≡ truthAt t c x n k
+  bound-same : (k : ℕ) → k < n → bound c n k ≡ true → ((j : ℕ) → j < k → Same j) → truthAt t d y n k ≡ truthAt t c x n k
   unfolding lineTruth gateTruth
   bound-same k l e below =
       grow-at (lineTruth t d y) false n k l
-      ∙ ap (t k 0) (rw (no-input, no-head, is-cut well .bound-kind k l e) gates)
+      ∙ ap (t k 0) (rw (ne-eqb (kindAt c k) 0 (bound-gate well k l e), cut-gate well k l e, is-cut well .bound-kind k l e) gates)
       ∙ sym (grow-at (lineTruth t c x) false n k l)
     where
-      gate : kindAt c k ≡ 0 → ⊥
-      gate z = true≢false (sym e ∙ input-free well k l (eq-eqb _ 0 z))
-
-      no-input : isInput c k ≡ false
-      no-input = ne-eqb (kindAt c k) 0 gate
-
-      no-head : isInput d k ≡ false
-      no-head = ap (λ (q : ℕ). eqb q 0) (is-cut well .bound-kind k l e) ∙ no-input
-
-      source : (s : ℕ) → 1 ≤ s → s ≤ pinsOf (kindAt c k) → Kept (pinAt c k s)
-      source s a b = go (bound c n (pinAt c k s)) refl
-        where
-          go : (u : Bool) → bound c n (pinAt c k s) ≡ u → (u ≡ true) ⊎ (head c n (pinAt c k s) ≡ true)
-          go true q = inl refl
-          go false q = inr (bound-sources well k s l a b e q)
-
       gates : boolGate (kindAt c k) (λ s. t k s (getD (truthsTo t d y k) (pinAt d k s) false)) ≡ boolGate (kindAt c k) (λ s. t k s (getD (truthsTo t c x k) (pinAt c k s) false))
       gates =
-          let some : kindAt c k ≡ 0 → ⊥ = gate in
+          let some = bound-gate well k l e in
           bool-same (kindAt c k) _ _ (omega arith) (well .kinds k l)
           (λ s a b.
           let low : pinAt c k s < k = pin-lower well k s l a b in
           ap (t k s)
           (ap (λ (q : ℕ). getD (truthsTo t d y k) q false) (is-cut well .pins k s l a (omega (arith, few-pins (kindAt c k))))
           ∙ grow-meet (lineTruth t d y) false k n (pinAt c k s) low (omega arith)
-          ∙ below (pinAt c k s) low (source s a b)
+          ∙ below (pinAt c k s) low (source-kept well k s l a b e)
           ∙ grow-meet (lineTruth t c x) false n k (pinAt c k s) (omega arith) low))
 
-  pub cut-same : (k : ℕ) → k < n → Kept k → truthAt t d y n k ≡ truthAt t c x n k
-  cut-same = each-below (λ k. Kept k → truthAt t d y n k ≡ truthAt t c x n k) n go
+  pub cut-same : (k : ℕ) → k < n → Kept c n k → truthAt t d y n k ≡ truthAt t c x n k
+  cut-same = each-below Same n go
     where
-      go : (k : ℕ) → k < n → ((j : ℕ) → j < k → Kept j → truthAt t d y n j ≡ truthAt t c x n j) → Kept k → truthAt t d y n k ≡ truthAt t c x n k
+      go : (k : ℕ) → k < n → ((j : ℕ) → j < k → Same j) → Same k
       go k l below (inl e) = bound-same k l e below
       go k l below (inr e) = head-same k l e

@@ -1,29 +1,28 @@
 -- Where the head lines are known, so are the bound lines; other free lines never are.
 -- Assumes nothing.
-use mathlib.Core.Path.{_≡_, refl, sym, ap, _∙_}
-use mathlib.Core.Logic.{_⊎_, inl, inr}
-use mathlib.Core.Bool.{Bool, true, false, true≢false}
+use mathlib.Core.Path.{_≡_, ap, _∙_}
+use mathlib.Core.Logic.{inl, inr}
+use mathlib.Core.Bool.{true, false}
 use mathlib.Core.List.{List}
-use Prim.Native.Nat.{ℕ, _≤_, _<_}
+use Prim.Native.Nat.{ℕ, _<_}
 use native.Mathlib.Omega.{arith}
 use lib.ListN.{length, getD}
-use borrow.Author.Tests.{eq-eqb, ne-eqb}
 use Rattle.ground.proofs.Below.{each-below}
 use Rattle.ground.proofs.Counting.{count-below}
 use Rattle.ground.proofs.Grow.{grow-at, grow-meet}
-use Rattle.gates.specs.Gate.{X, pinsOf, gateOf}
+use Rattle.gates.specs.Gate.{X, gateOf}
 use Rattle.gates.proofs.Laws.{gate-known, few-pins}
 use Rattle.gates.proofs.Table.{other}
-use Rattle.circuit.specs.Record.{kindAt, pinAt, isInput, inputsBefore}
+use Rattle.circuit.specs.Record.{kindAt, pinAt, inputsBefore}
 use Rattle.circuit.specs.Formed.{WellFormed}
 use Rattle.simulate.specs.Simulate.{Forcing, gateValue, lineValue, valuesTo}
 use Rattle.simulate.specs.Vectors.{NoX}
 use Rattle.simulate.specs.Owed.{Keeps}
 use Rattle.heads.specs.Heads.{bound, head, headsOf}
 use Rattle.heads.proofs.Pins.{pin-lower}
-use Rattle.heads.proofs.Forest.{bound-sources, input-free}
+use Rattle.heads.proofs.Forest.{Kept, source-kept, bound-gate}
 use Rattle.cut.specs.Cut.{cut}
-use Rattle.cut.proofs.Lines.{is-cut, cut-input, cut-inputs}
+use Rattle.cut.proofs.Lines.{is-cut, cut-gate, cut-input, cut-inputs}
 
 -- a free line that is no head line is X before it is forced
 pub rest-x : {c : List ℕ} {m n : ℕ} → WellFormed c m n → (f : Forcing) (s : List ℕ) (k : ℕ) → k < n → bound c n k ≡ false → head c n k ≡ false → getD (valuesTo f (cut c n) s n) k 0 ≡ f k 0 X
@@ -36,11 +35,8 @@ module _ (f : Forcing) (keeps : Keeps 2 f) {c : List ℕ} {m n : ℕ} (well : We
   abbrev d : List ℕ
   d = cut c n
 
-  abbrev Kept : ℕ → Type 0
-  Kept k = (bound c n k ≡ true) ⊎ (head c n k ≡ true)
-
   abbrev Known : ℕ → Type 0
-  Known k = Kept k → getD (valuesTo f d s n) k 0 < 2
+  Known k = Kept c n k → getD (valuesTo f d s n) k 0 < 2
 
   head-known : (k : ℕ) → k < n → head c n k ≡ true → getD (valuesTo f d s n) k 0 < 2
   unfolding lineValue
@@ -50,32 +46,19 @@ module _ (f : Forcing) (keeps : Keeps 2 f) {c : List ℕ} {m n : ℕ} (well : We
 
   bound-known : (k : ℕ) → k < n → bound c n k ≡ true → ((j : ℕ) → j < k → Known j) → getD (valuesTo f d s n) k 0 < 2
   unfolding lineValue gateValue
-  bound-known k l e below = rw (grow-at (lineValue f d s) 0 n k l, no-input, is-cut well .bound-kind k l e) (keeps k 0 _ known)
+  bound-known k l e below = rw (grow-at (lineValue f d s) 0 n k l, cut-gate well k l e, is-cut well .bound-kind k l e) (keeps k 0 _ known)
     where
-      gate : kindAt c k ≡ 0 → ⊥
-      gate z = true≢false (sym e ∙ input-free well k l (eq-eqb _ 0 z))
-
-      no-input : isInput d k ≡ false
-      no-input = ne-eqb (kindAt d k) 0 (λ z. gate (sym (is-cut well .bound-kind k l e) ∙ z))
-
-      source : (q : ℕ) → 1 ≤ q → q ≤ pinsOf (kindAt c k) → Kept (pinAt c k q)
-      source q a b = go (bound c n (pinAt c k q)) refl
-        where
-          go : (u : Bool) → bound c n (pinAt c k q) ≡ u → (u ≡ true) ⊎ (head c n (pinAt c k q) ≡ true)
-          go true i = inl refl
-          go false i = inr (bound-sources well k q l a b e i)
-
       known : gateOf (kindAt c k) (λ q. f k q (getD (valuesTo f d s k) (pinAt d k q) 0)) < 2
       known =
-          let some : kindAt c k ≡ 0 → ⊥ = gate in
+          let some = bound-gate well k l e in
           gate-known (kindAt c k) _ (omega arith) (well .kinds k l)
           (λ q a b.
           let low : pinAt c k q < k = pin-lower well k q l a b in
           keeps k q _
           (rw (is-cut well .pins k q l a (omega (arith, few-pins (kindAt c k))), grow-meet (lineValue f d s) 0 k n (pinAt c k q) low (omega arith))
-          (below (pinAt c k q) low (source q a b))))
+          (below (pinAt c k q) low (source-kept well k q l a b e))))
 
-  pub kept-known : (k : ℕ) → k < n → Kept k → getD (valuesTo f d s n) k 0 < 2
+  pub kept-known : (k : ℕ) → k < n → Kept c n k → getD (valuesTo f d s n) k 0 < 2
   kept-known = each-below Known n go
     where
       go : (k : ℕ) → k < n → ((j : ℕ) → j < k → Known j) → Known k

@@ -1,12 +1,13 @@
 -- The free lines form trees: a source of a free line is free, no head line, and read by that one pin alone; a bound line reads bound lines and head lines.
 -- Assumes nothing.
 use mathlib.Core.Path.{_≡_, refl, sym, ap, _∙_}
-use mathlib.Core.Bool.{Bool, true, false, not, _&&_, _||_, false≢true}
+use mathlib.Core.Logic.{_⊎_, inl, inr}
+use mathlib.Core.Bool.{Bool, true, false, not, _&&_, _||_, true≢false, false≢true}
 use mathlib.Core.List.{List}
 use Prim.Native.Nat.{ℕ, suc, _≤_, _<_}
 use native.Mathlib.Omega.{arith}
 use lib.Dec.{eqb}
-use borrow.Author.Tests.{eqb-true, leb-false, lt-leb}
+use borrow.Author.Tests.{eq-eqb, eqb-true, leb-false, lt-leb}
 use Rattle.ground.proofs.Tests.{both, neither}
 use Rattle.ground.proofs.Below.{any-some, some-any, any-same}
 use Rattle.ground.proofs.Grow.{grow-at, grow-meet}
@@ -18,6 +19,10 @@ use Rattle.reads.specs.Words.{Reads}
 use Rattle.reads.proofs.Pins.{one-reader}
 use Rattle.heads.specs.Heads.{somePin, boundIn, bound, readByBound, head}
 use Rattle.heads.proofs.Pins.{some-pin, pin-some, reads-it, it-reads, has-pin, pin-lower, reads}
+
+-- what a bound line reads: a bound line or a head line
+abbrev pub Kept : List ℕ → ℕ → ℕ → Type 0
+Kept c n k = (bound c n k ≡ true) ⊎ (head c n k ≡ true)
 
 module _ {c : List ℕ} {m n : ℕ} (well : WellFormed c m n) where
   -- a line is bound exactly if some pin of it reads a line that branches or is bound
@@ -44,6 +49,10 @@ module _ {c : List ℕ} {m n : ℕ} (well : WellFormed c m n) where
           let w = pin-some c k (λ j. branches c n j || bound c n j) (sym (bound-law k l) ∙ q) in
           absurd (has-pin (kindAt c k) (w .pin) (w .some) (w .has) (eqb-true _ 0 e))
       go false q = refl
+
+  -- so a bound line is a gate
+  pub bound-gate : (k : ℕ) → k < n → bound c n k ≡ true → kindAt c k ≡ 0 → ⊥
+  bound-gate k l e z = true≢false (sym e ∙ input-free k l (eq-eqb _ 0 z))
 
   -- ---- read by a bound line
 
@@ -75,6 +84,13 @@ module _ {c : List ℕ} {m n : ℕ} (well : WellFormed c m n) where
     pub bound-sources : bound c n k ≡ true → bound c n (pinAt c k s) ≡ false → head c n (pinAt c k s) ≡ true
     unfolding head
     bound-sources e free = rw (free, reader-bound (reads well k s l a b) e)
+
+    pub source-kept : bound c n k ≡ true → Kept c n (pinAt c k s)
+    source-kept e = go (bound c n (pinAt c k s)) refl
+      where
+        go : (t : Bool) → bound c n (pinAt c k s) ≡ t → (t ≡ true) ⊎ (head c n (pinAt c k s) ≡ true)
+        go true q = inl refl
+        go false q = inr (bound-sources e q)
 
     -- of a free line: it does not branch, and is free
     pub free-sources : bound c n k ≡ false → (readsOf c n (pinAt c k s) < 2) × (bound c n (pinAt c k s) ≡ false)
