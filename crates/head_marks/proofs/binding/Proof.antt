@@ -6,19 +6,13 @@ use Rattle.head_marks.specs.Owed.{binds}
 use Rattle.head_marks.proofs.binding.Statement.{statement}
 use Rattle.head_marks.proofs.binding.Tie as tie
 
-shared-slice-read-if1 : tie.Need-shared-slice-read-if1
-shared-slice-read-if1 c = search needs
-
 returns : tie.Need-returns
 unfolding binds
 returns c = simp (eq-eqb _ _ (c .if1 .taken))
-
-shared-slice-read-result : tie.Need-shared-slice-read-result
-shared-slice-read-result c = search needs
 
 returns-2 : tie.Need-returns-2
 unfolding binds
 returns-2 c = simp (ne-eqb _ _ (c .before .if1 .left))
 
 pub binding-spec : {M : Type 1} → statement M
-binding-spec = tie.close (tie.spec shared-slice-read-if1 returns shared-slice-read-result returns-2)
+binding-spec = tie.close (tie.spec (λ c. search needs) returns (λ c. search needs) returns-2)

@@ -16,56 +16,47 @@ Inv-loop circuit reads marks k has s₀ s = None (pinBinds circuit reads marks k
 abbrev μ-loop : tie.MeasureT-loop
 μ-loop circuit reads marks k has s₀ s = has - s
 
-mul-pins : tie.Need-mul-pins Inv-loop μ-loop
-mul-pins c = search needs
-
-shared-slice-read-pins : tie.Need-shared-slice-read-pins Inv-loop μ-loop
-shared-slice-read-pins c = search needs
-
-pins-requires : tie.Need-pins-requires Inv-loop μ-loop
-pins-requires c κs = search needs
+abbrev entry : tie.After-pins Inv-loop μ-loop → tie.Start Inv-loop μ-loop
+entry c = c .before .before .before .before .before
 
 loop-holds : tie.Need-loop-holds Inv-loop μ-loop
 loop-holds c = none-yet _ _
 
-add-source : tie.Need-add-source Inv-loop μ-loop
-add-source c = omega arith
-
 source-requires : tie.Need-source-requires Inv-loop μ-loop
 source-requires c κs =
-    let s = c .before .before .before .before .before .before .before in
-    let few = few-pins (kindAt (s .args .circuit .now) (s .args .k)) in
-    (record { inside = omega arith }, omega (arith, c .before .before .pins .ensures))
+    let had = c .before .before in
+    let a = entry had .args in
+    let few = few-pins (kindAt (a .circuit .now) (a .k)) in
+    (record { inside = omega arith }, omega (arith, had .pins .ensures))
 
 binding-requires : tie.Need-binding-requires Inv-loop μ-loop
 binding-requires c κs =
-    let s = c .before .before .before .before .before .before .before .before in
+    let turn = c .before .before in
+    let had = turn .before in
+    let s = entry had in
     let few = few-pins (kindAt (s .args .circuit .now) (s .args .k)) in
-    let inside = s .pre .0 .inside (s .args .k) (c .before .before .loop .s + 1) (s .pre .2) (omega arith) (omega (arith, c .before .before .before .pins .ensures)) in
+    let inside = s .pre .0 .inside (s .args .k) (turn .loop .s + 1) (s .pre .2) (omega arith) (omega (arith, had .pins .ensures)) in
     (omega (arith, c .source .ensures), omega (arith, c .source .ensures))
 
 returns : tie.Need-returns Inv-loop μ-loop
 returns c =
-    let s = c .before .before .before .before .before .before .before .before .before .before in
-    binds-yes (s .args .circuit .now) (s .args .reads .now) (s .args .marks .now) (s .args .k) (c .before .before .before .before .loop .inv)
-    (c .before .before .source .ensures) (c .before .binding .ensures) (omega arith) (c .before .before .before .before .before .pins .ensures) (c .if1 .taken)
-
-add-s : tie.Need-add-s Inv-loop μ-loop
-add-s c = omega arith
-
-loop-less : tie.Need-loop-less Inv-loop μ-loop
-loop-less c = omega arith
+    let turn = c .before .before .before .before in
+    let a = entry (turn .before) .args in
+    binds-yes (a .circuit .now) (a .reads .now) (a .marks .now) (a .k) (turn .loop .inv)
+    (c .before .before .source .ensures) (c .before .binding .ensures) (omega arith) (turn .before .pins .ensures) (c .if1 .taken)
 
 loop-again : tie.Need-loop-again Inv-loop μ-loop
 loop-again c =
-    let s = c .before .before .before .before .before .before .before .before .before .before in
-    binds-not (s .args .circuit .now) (s .args .reads .now) (s .args .marks .now) (s .args .k) (c .before .before .before .before .loop .inv)
+    let turn = c .before .before .before .before in
+    let a = entry (turn .before) .args in
+    binds-not (a .circuit .now) (a .reads .now) (a .marks .now) (a .k) (turn .loop .inv)
     (c .before .before .source .ensures) (c .before .binding .ensures) (omega arith) (c .if1 .left)
 
 returns-2 : tie.Need-returns-2 Inv-loop μ-loop
 returns-2 c =
-    let s = c .before .before .before .before .before .before .before in
-    binds-none (s .args .circuit .now) (s .args .reads .now) (s .args .marks .now) (s .args .k) (c .before .loop .inv) (omega arith) (c .before .before .pins .ensures)
+    let turn = c .before in
+    let a = entry (turn .before) .args in
+    binds-none (a .circuit .now) (a .reads .now) (a .marks .now) (a .k) (turn .loop .inv) (omega arith) (turn .before .pins .ensures)
 
 pub is-bound-spec : {M : Type 1} → statement M
 is-bound-spec =
@@ -73,15 +64,15 @@ is-bound-spec =
     (tie.spec
     Inv-loop
     μ-loop
-    mul-pins
-    shared-slice-read-pins
-    pins-requires
+    (λ c. search needs)
+    (λ c. search needs)
+    (λ c κs. search needs)
     loop-holds
-    add-source
+    (λ c. omega arith)
     source-requires
     binding-requires
     returns
-    add-s
-    loop-less
+    (λ c. omega arith)
+    (λ c. omega arith)
     loop-again
     returns-2)

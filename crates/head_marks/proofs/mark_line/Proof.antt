@@ -7,34 +7,41 @@ use Rattle.head_marks.proofs.Lines.{bound-marked, free-left}
 use Rattle.head_marks.proofs.mark_line.Statement.{statement}
 use Rattle.head_marks.proofs.mark_line.Tie as tie
 
-is-bound-requires : tie.Need-is-bound-requires
-is-bound-requires c κs = let s = c .before .before .before .before in (s .pre .sourced, s .pre .counted .long, s .pre .line)
+abbrev entry : tie.After-is-bound → tie.Start
+entry c = c .before .before .before .before .before
 
-slice-write-marks : tie.Need-slice-write-marks
-slice-write-marks c = search needs
+is-bound-requires : tie.Need-is-bound-requires
+is-bound-requires c κs = let p = c .before .before .before .before .pre in (p .sourced, p .counted .long, p .line)
 
 mark-sources-requires : tie.Need-mark-sources-requires
-mark-sources-requires c κs =
-    let s = c .before .before .before .before .before .before .before in
-    simp length-set (s .pre .sourced, s .pre .line)
+mark-sources-requires c κs = let p = entry (c .before .before) .pre in simp length-set (p .sourced, p .line)
 
 same-length : tie.Need-same-length
 same-length c =
-    let s = c .before .before .before .before .before .before .before .before .before .before in
-    c .before .before .mark-sources .kept .1 .1 .0 ∙ length-set (s .args .marks .now) (s .args .k) 2
+    let marked = c .before .before in
+    let a = entry (marked .before .before .before) .args in
+    marked .mark-sources .kept .1 .1 .0 ∙ length-set (a .marks .now) (a .k) 2
 
 returns : tie.Need-returns
 returns c =
-    let s = c .before .before .before .before .before .before .before .before .before .before in
-    λ so. bound-marked (s .pre) (s .args .marks .now) so refl (c .before .before .before .before .before .is-bound .ensures) (c .before .before .before .before .if1 .taken) (c .before .before .mark-sources .ensures)
-
-same-length-2 : tie.Need-same-length-2
-same-length-2 c = search needs
+    let marked = c .before .before in
+    let told = marked .before .before in
+    let s = entry (told .before) in
+    λ so. bound-marked (s .pre) (s .args .marks .now) so refl (told .before .is-bound .ensures) (told .if1 .taken) (marked .mark-sources .ensures)
 
 returns-2 : tie.Need-returns-2
 returns-2 c =
-    let s = c .before .before .before .before .before .before in
+    let s = entry (c .before) in
     λ so. free-left (s .pre) (s .args .marks .now) so (c .before .is-bound .ensures) (c .if1 .left)
 
 pub mark-line-spec : {M : Type 1} → statement M
-mark-line-spec = tie.close (tie.spec is-bound-requires slice-write-marks mark-sources-requires same-length returns same-length-2 returns-2)
+mark-line-spec =
+    tie.close
+    (tie.spec
+    is-bound-requires
+    (λ c. search needs)
+    mark-sources-requires
+    same-length
+    returns
+    (λ c. search needs)
+    returns-2)

@@ -14,6 +14,9 @@ Inv-loop circuit reads marks₀ k₀ marks k = Turns circuit reads marks₀ mark
 abbrev μ-loop : tie.MeasureT-loop
 μ-loop circuit reads marks₀ k₀ marks k = length marks₀ - k
 
+abbrev entry : tie.At-loop Inv-loop μ-loop → tie.Start Inv-loop μ-loop
+entry c = c .before .before .before .before .before .before .before .before
+
 count-reads-requires : tie.Need-count-reads-requires Inv-loop μ-loop
 count-reads-requires c κs =
     let p = c .before .before .before .before .pre in
@@ -23,29 +26,19 @@ loop-holds : tie.Need-loop-holds Inv-loop μ-loop
 loop-holds c = no-turn _ (c .before .before .before .before .before .before .before .pre) (c .before .before .count-reads .ensures)
 
 mark-line-requires : tie.Need-mark-line-requires Inv-loop μ-loop
-mark-line-requires c κs =
-    turn-ready (c .before .before .before .before .before .before .before .before .before .before .before .pre) (c .before .before .before .loop .inv) (omega arith)
-
-add-k : tie.Need-add-k Inv-loop μ-loop
-add-k c = omega arith
-
-loop-less : tie.Need-loop-less Inv-loop μ-loop
-loop-less c = omega arith
+mark-line-requires c κs = let turn = c .before .before .before in turn-ready (entry turn .pre) (turn .loop .inv) (omega arith)
 
 loop-again : tie.Need-loop-again Inv-loop μ-loop
 loop-again c =
     let call = c .before .before .mark-line in
-    next-turn (c .before .before .before .before .before .before .before .before .before .before .before .before .before .before .pre)
-    (c .before .before .before .before .before .before .loop .inv) (omega arith) (call .kept .1 .1 .1 .0) (call .ensures)
-
-same-length : tie.Need-same-length Inv-loop μ-loop
-same-length c = search needs
+    let turn = c .before .before .before .before .before .before in
+    next-turn (entry turn .pre) (turn .loop .inv) (omega arith) (call .kept .1 .1 .1 .0) (call .ensures)
 
 same-length-2 : tie.Need-same-length-2 Inv-loop μ-loop
 same-length-2 c = c .before .loop .inv .long
 
 returns : tie.Need-returns Inv-loop μ-loop
-returns c = all-marked (c .before .before .before .before .before .before .before .before .before .pre) (c .before .loop .inv) (omega arith)
+returns c = all-marked (entry (c .before) .pre) (c .before .loop .inv) (omega arith)
 
 pub mark-lines-spec : {M : Type 1} → statement M
 mark-lines-spec =
@@ -56,9 +49,9 @@ mark-lines-spec =
     count-reads-requires
     loop-holds
     mark-line-requires
-    add-k
-    loop-less
+    (λ c. omega arith)
+    (λ c. omega arith)
     loop-again
-    same-length
+    (λ c. search needs)
     same-length-2
     returns)

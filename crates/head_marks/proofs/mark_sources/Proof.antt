@@ -15,32 +15,14 @@ Inv-loop circuit k marks₀ has s₀ marks s = Sources circuit k has marks₀ ma
 abbrev μ-loop : tie.MeasureT-loop
 μ-loop circuit k marks₀ has s₀ marks s = has - s
 
-mul-pins : tie.Need-mul-pins Inv-loop μ-loop
-mul-pins c = search needs
-
-shared-slice-read-pins : tie.Need-shared-slice-read-pins Inv-loop μ-loop
-shared-slice-read-pins c = search needs
-
-pins-requires : tie.Need-pins-requires Inv-loop μ-loop
-pins-requires c κs = search needs
-
 loop-holds : tie.Need-loop-holds Inv-loop μ-loop
 loop-holds c = no-source _ _ _ _
-
-add-mark-source : tie.Need-add-mark-source Inv-loop μ-loop
-add-mark-source c = omega arith
 
 mark-source-requires : tie.Need-mark-source-requires Inv-loop μ-loop
 mark-source-requires c κs =
     let s = c .before .before .before .before .before .before .before in
     let few = few-pins (kindAt (s .args .circuit .now) (s .args .k)) in
     rw (c .before .before .loop .inv .long) (s .pre .0, s .pre .1, omega arith, omega (arith, c .before .before .before .pins .ensures))
-
-add-s : tie.Need-add-s Inv-loop μ-loop
-add-s c = omega arith
-
-loop-less : tie.Need-loop-less Inv-loop μ-loop
-loop-less c = omega arith
 
 loop-again : tie.Need-loop-again Inv-loop μ-loop
 loop-again c =
@@ -59,14 +41,14 @@ mark-sources-spec =
     (tie.spec
     Inv-loop
     μ-loop
-    mul-pins
-    shared-slice-read-pins
-    pins-requires
+    (λ c. search needs)
+    (λ c. search needs)
+    (λ c κs. search needs)
     loop-holds
-    add-mark-source
+    (λ c. omega arith)
     mark-source-requires
-    add-s
-    loop-less
+    (λ c. omega arith)
+    (λ c. omega arith)
     loop-again
     same-length
     returns)

@@ -15,32 +15,14 @@ Inv-loop circuit j reads₀ has s₀ reads s = Pins circuit j has reads₀ reads
 abbrev μ-loop : tie.MeasureT-loop
 μ-loop circuit j reads₀ has s₀ reads s = has - s
 
-mul-pins : tie.Need-mul-pins Inv-loop μ-loop
-mul-pins c = search needs
-
-shared-slice-read-pins : tie.Need-shared-slice-read-pins Inv-loop μ-loop
-shared-slice-read-pins c = search needs
-
-pins-requires : tie.Need-pins-requires Inv-loop μ-loop
-pins-requires c κs = search needs
-
 loop-holds : tie.Need-loop-holds Inv-loop μ-loop
 loop-holds c = no-pin _ _ _ _
-
-add-count-pin : tie.Need-add-count-pin Inv-loop μ-loop
-add-count-pin c = omega arith
 
 count-pin-requires : tie.Need-count-pin-requires Inv-loop μ-loop
 count-pin-requires c κs =
     let s = c .before .before .before .before .before .before .before in
     let few = few-pins (kindAt (s .args .circuit .now) (s .args .j)) in
     rw (c .before .before .loop .inv .long) (s .pre .0, s .pre .1, omega arith, omega (arith, c .before .before .before .pins .ensures))
-
-add-s : tie.Need-add-s Inv-loop μ-loop
-add-s c = omega arith
-
-loop-less : tie.Need-loop-less Inv-loop μ-loop
-loop-less c = omega arith
 
 loop-again : tie.Need-loop-again Inv-loop μ-loop
 loop-again c =
@@ -59,14 +41,14 @@ count-pins-spec =
     (tie.spec
     Inv-loop
     μ-loop
-    mul-pins
-    shared-slice-read-pins
-    pins-requires
+    (λ c. search needs)
+    (λ c. search needs)
+    (λ c κs. search needs)
     loop-holds
-    add-count-pin
+    (λ c. omega arith)
     count-pin-requires
-    add-s
-    loop-less
+    (λ c. omega arith)
+    (λ c. omega arith)
     loop-again
     same-length
     returns)

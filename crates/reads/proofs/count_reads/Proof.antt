@@ -21,12 +21,6 @@ count-pins-requires c κs =
     let so = c .before .before .loop .inv in
     rw (so .long) (c .before .before .before .before .before .pre .0, omega (arith, so .long))
 
-add-j : tie.Need-add-j Inv-loop μ-loop
-add-j c = omega arith
-
-loop-less : tie.Need-loop-less Inv-loop μ-loop
-loop-less c = omega arith
-
 loop-again : tie.Need-loop-again Inv-loop μ-loop
 loop-again c =
     let so = c .before .before .before .before .before .loop .inv in
@@ -40,4 +34,15 @@ returns : tie.Need-returns Inv-loop μ-loop
 returns c = all-lines (c .before .loop .inv) (omega (arith, c .before .loop .inv .long))
 
 pub count-reads-spec : {M : Type 1} → statement M
-count-reads-spec = tie.close (tie.spec Inv-loop μ-loop loop-holds count-pins-requires add-j loop-less loop-again same-length returns)
+count-reads-spec =
+    tie.close
+    (tie.spec
+    Inv-loop
+    μ-loop
+    loop-holds
+    count-pins-requires
+    (λ c. omega arith)
+    (λ c. omega arith)
+    loop-again
+    same-length
+    returns)
