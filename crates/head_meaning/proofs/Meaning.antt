@@ -10,7 +10,6 @@ use lib.ListN.{length}
 use Rattle.answers.specs.declared.Ruling.{Ruling}
 use Rattle.answers.specs.Rules.{refusal}
 use Rattle.answers.proofs.Rules.{both-fine}
-use Rattle.answers.proofs.Answer.{was-ruled}
 use Rattle.circuit.specs.Record.{linesOf, inputsOf}
 use Rattle.circuit.specs.Promise.{circuitRules}
 use Rattle.circuit.specs.Formed.{WellFormed}
@@ -29,7 +28,7 @@ use Rattle.nodes.proofs.Walk.{answers}
 use Rattle.nodes.proofs.Budget as budget
 use Rattle.search.specs.declared.Searched.the-variants as searched
 use Rattle.search.specs.Promise.{searchRestRules, searchRules, Searches}
-use Rattle.search.proofs.Says.{ruled}
+use Rattle.search.proofs.Says.{was-found}
 use Rattle.verdicts.specs.Told.{Tells}
 use Rattle.verdicts.proofs.Verdicts as inputs
 use Rattle.cut.specs.Words.{Serves}
@@ -42,10 +41,7 @@ use Rattle.head_meaning.proofs.Served.{serves-says}
 
 module _ {c f : List ℕ} {b : ℕ} {t w : List ℕ} {v : Verdict} {t′ w′ : List ℕ} (p : HeadSearches c f b t w (searched.Verdict v) t′ w′) where
   fine : (refusal (searchRules c f (length t) (length w)) ≡ Ruling.Fine) × (v ≡ headVerdictFor c (faultAt f 0) b)
-  fine =
-      let q : refusal (searchRules c f (length t) (length w)) ≡ Ruling.Fine = was-ruled (ruled (headVerdictFor c (faultAt f 0) b)) (p .answer) refl in
-      let e : searched.Verdict v ≡ searched.Verdict (headVerdictFor c (faultAt f 0) b) = p .answer ∙ rw q in
-      (q, cc)
+  fine = was-found (p .answer)
 
   accepted : (refusal (circuitRules c) ≡ Ruling.Fine) × (refusal (searchRestRules c f (inputsOf c) (linesOf c) (length t) (length w)) ≡ Ruling.Fine)
   accepted = both-fine (circuitRules c) (searchRestRules c f (inputsOf c) (linesOf c) (length t) (length w)) (fine .0)

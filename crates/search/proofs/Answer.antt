@@ -9,7 +9,6 @@ use Rattle.answers.specs.declared.Ruling.{Ruling}
 use Rattle.answers.specs.Rules.{Rule, refusal}
 use Rattle.answers.proofs.Rules.{both-fine}
 use Rattle.answers.proofs.Lent.{lent-sizes}
-use Rattle.answers.proofs.Answer as answer
 use Rattle.answers.proofs.Answer.{numbers-told, fine-done, memory-part}
 use Rattle.circuit.specs.Record.{inputsOf, Inside}
 use Rattle.circuit.specs.Formed.{Known}

@@ -6,6 +6,7 @@ use Prim.Native.Nat.{ℕ, _*_}
 use lib.ListN.{length}
 use Rattle.answers.specs.declared.Ruling.{Ruling}
 use Rattle.answers.specs.Rules.{Applies, AllSay}
+use Rattle.answers.specs.Answer.{answered}
 use Rattle.answers.proofs.Rules.{refused, both-say}
 use Rattle.answers.proofs.Lent.{lent-says}
 use Rattle.answers.proofs.Answer as answer
@@ -37,6 +38,13 @@ rulingOf (searched.Refused number place) = Ruling.Refused number place
 
 pub ruled : (v : Verdict) → Ruled searched.Refused rulingOf (searched.Verdict v)
 ruled v = record { refuses = λ x y. refl; accepts = refl }
+
+-- where a verdict is answered, nothing was refused, and it is the one that is due
+pub was-found : {r : Ruling} {v due : Verdict} → searched.Verdict v ≡ answered searched.Refused r (searched.Verdict due) → (r ≡ Ruling.Fine) × (v ≡ due)
+was-found {r} {v} {due} e =
+    let fine : r ≡ Ruling.Fine = answer.was-ruled (ruled due) e refl in
+    let same : searched.Verdict v ≡ searched.Verdict due = e ∙ rw fine in
+    (fine, cc)
 
 module _ {c f : List ℕ} {b : ℕ} {t w : List ℕ} {r : Searched} {t′ w′ : List ℕ} (p : Searches c f b t w r t′ w′) (number place : ℕ) where
   -- a refusal is the first that applies, with the lowest place

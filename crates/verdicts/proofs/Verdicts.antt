@@ -9,7 +9,6 @@ use lib.ListN.{length, getD}
 use Rattle.answers.specs.declared.Ruling.{Ruling}
 use Rattle.answers.specs.Rules.{refusal}
 use Rattle.answers.proofs.Rules.{both-fine}
-use Rattle.answers.proofs.Answer.{was-ruled}
 use Rattle.circuit.specs.Record.{linesOf, inputsOf}
 use Rattle.circuit.specs.Promise.{circuitRules}
 use Rattle.circuit.proofs.Accepted.{good}
@@ -28,7 +27,7 @@ use Rattle.nodes.proofs.Walk.{answers}
 use Rattle.nodes.proofs.Budget as budget
 use Rattle.search.specs.declared.Searched.the-variants as searched
 use Rattle.search.specs.Promise.{searchRestRules, searchRules, look, verdictFor, testFor, workFor, Searches}
-use Rattle.search.proofs.Says.{ruled}
+use Rattle.search.proofs.Says.{was-found}
 use Rattle.verdicts.specs.Meaning.{FaithfulLook}
 use Rattle.verdicts.specs.Told.{Tells, allNodes, works}
 use Rattle.verdicts.proofs.Look.{means}
@@ -42,10 +41,7 @@ accepted-means c f circuit fault =
 
 module _ {c f : List ℕ} {b : ℕ} {t w : List ℕ} {v : Verdict} {t′ w′ : List ℕ} (p : Searches c f b t w (searched.Verdict v) t′ w′) where
   fine : (refusal (searchRules c f (length t) (length w)) ≡ Ruling.Fine) × (v ≡ verdictFor c (faultAt f 0) b)
-  fine =
-      let q : refusal (searchRules c f (length t) (length w)) ≡ Ruling.Fine = was-ruled (ruled (verdictFor c (faultAt f 0) b)) (p .answer) refl in
-      let e : searched.Verdict v ≡ searched.Verdict (verdictFor c (faultAt f 0) b) = p .answer ∙ rw q in
-      (q, cc)
+  fine = was-found (p .answer)
 
   node-means : FaithfulLook (inputsOf c) (look c (faultAt f 0)) (Tells c (faultAt f 0))
   node-means =

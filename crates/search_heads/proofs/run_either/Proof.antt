@@ -10,15 +10,18 @@ abbrev entry : tie.After-served-by → tie.Start
 entry c = c .before .before .before .before .before .before .before .before
 
 shared-slice-read-served-by : tie.Need-shared-slice-read-served-by
-shared-slice-read-served-by c = let p = c .before .before .before .before .before .before .before .pre in omega (arith, p .marked .long, p .run .ready .line)
+shared-slice-read-served-by c =
+    let p = c .before .before .before .before .before .before .before .pre in
+    omega (arith, p .marked .long, p .run .ready .line)
 
 run-heads-requires : tie.Need-run-heads-requires
 run-heads-requires c κs = heads-ready (c .before .before .before .before .before .before .before .before .before .before .before .before .before .pre)
 
 returns : tie.Need-returns
 returns c =
-    let chosen = c .before .before .before .before .before .before .before .before .before .before .before .before .before in
-    over-heads (entry (chosen .before) .pre) (chosen .before .served-by .ensures) (chosen .if1 .taken) (c .before .before .before .before .before .before .before .before .run-heads .ensures)
+    let ran = c .before .before .before .before .before .before .before .before in
+    let chosen = ran .before .before .before .before .before in
+    over-heads (entry (chosen .before) .pre) (chosen .before .served-by .ensures) (chosen .if1 .taken) (ran .run-heads .ensures)
 
 run-all-x-requires : tie.Need-run-all-x-requires
 run-all-x-requires c κs =
@@ -27,8 +30,9 @@ run-all-x-requires c κs =
 
 returns-2 : tie.Need-returns-2
 returns-2 c =
-    let chosen = c .before .before .before .before .before .before .before in
-    over-inputs (entry (chosen .before) .pre) (chosen .before .served-by .ensures) (chosen .if1 .left) (c .before .before .before .before .run-all-x .ensures)
+    let ran = c .before .before .before .before in
+    let chosen = ran .before .before .before in
+    over-inputs (entry (chosen .before) .pre) (chosen .before .served-by .ensures) (chosen .if1 .left) (ran .run-all-x .ensures)
 
 pub run-either-spec : {M : Type 1} → statement M
 run-either-spec =
