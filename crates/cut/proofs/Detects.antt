@@ -15,7 +15,7 @@ use Rattle.simulate.specs.Boolean.{Vector, good, faulty, Detects}
 use Rattle.heads.specs.Heads.{bound, head}
 use Rattle.heads.proofs.Forest.{Kept}
 use Rattle.cut.specs.Cut.{cut, headVector}
-use Rattle.cut.specs.Words.{Serves}
+use Rattle.cut.specs.Words.{HeadsServe}
 use Rattle.cut.proofs.Lines.{is-cut}
 use Rattle.cut.proofs.Truths.{good-tame, fault-tame, free-good, cut-same}
 
@@ -37,7 +37,7 @@ module _ {c : List ℕ} {m n : ℕ} (well : WellFormed c m n) where
   kept-out k l (inl e) = is-cut well .bound-out k l e
   kept-out k l (inr e) = is-cut well .head-out k l e
 
-  module _ (fault : Fault) (serves : Serves c n fault) (x : Vector) where
+  module _ (fault : Fault) (serves : HeadsServe c n fault) (x : Vector) where
     down : Detects c fault n x → Detects (cut c n) fault n (headVector c n x)
     down w = go (place c n (w .line))
       where

@@ -23,7 +23,7 @@ use Rattle.heads.specs.Heads.{bound, head}
 use Rattle.heads.proofs.Pins.{pin-lower}
 use Rattle.heads.proofs.Forest.{Kept, free-sources, source-no-head, source-kept, head-free, bound-gate}
 use Rattle.cut.specs.Cut.{cut, headLine, headVector}
-use Rattle.cut.specs.Words.{Serves}
+use Rattle.cut.specs.Words.{HeadsServe}
 use Rattle.cut.proofs.Lines.{is-cut, cut-gate, cut-input, cut-inputs}
 
 -- ---- what a fault that is served leaves alone
@@ -46,7 +46,7 @@ fault-off fault k s b h = go (eqb k (fault .line)) refl (eqb s (fault .site)) re
     go true e false f = refl
     go false e v f = refl
 
-pub fault-tame : (c : List ℕ) (n : ℕ) (fault : Fault) → Serves c n fault → Tame c n (faulty fault)
+pub fault-tame : (c : List ℕ) (n : ℕ) (fault : Fault) → HeadsServe c n fault → Tame c n (faulty fault)
 fault-tame c n fault (inl e) = record {
   pins = λ k s b free _. fault-off fault k s b (λ q _. false≢true (sym free ∙ ap (bound c n) q ∙ e));
   lines = λ k b free _. fault-off fault k 0 b (λ q _. false≢true (sym free ∙ ap (bound c n) q ∙ e));

@@ -45,5 +45,5 @@ headVector c n x i = truthAt good c x n (headLine c n i)
 -- ---- faults
 
 -- the search over head lines serves any fault at a bound line, and a head line itself stuck
-unfoldable pub serves : List ℕ → ℕ → Fault → Bool
-serves c n fault = bound c n (fault .line) || (head c n (fault .line) && eqb (fault .site) 0)
+unfoldable pub headsServe : List ℕ → ℕ → Fault → Bool
+headsServe c n fault = bound c n (fault .line) || (head c n (fault .line) && eqb (fault .site) 0)

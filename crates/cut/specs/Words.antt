@@ -23,5 +23,5 @@ pub record Cut (c d : List ℕ) (n : ℕ) : Type 0 where
   pub rest-out : (k : ℕ) → k < n → bound c n k ≡ false → head c n k ≡ false → outAt d k ≡ 0
 
 -- a fault that the search over head lines serves
-abbrev pub Serves : List ℕ → ℕ → Fault → Type 0
-Serves c n fault = (bound c n (fault .line) ≡ true) ⊎ ((head c n (fault .line) ≡ true) × (fault .site ≡ 0))
+abbrev pub HeadsServe : List ℕ → ℕ → Fault → Type 0
+HeadsServe c n fault = (bound c n (fault .line) ≡ true) ⊎ ((head c n (fault .line) ≡ true) × (fault .site ≡ 0))

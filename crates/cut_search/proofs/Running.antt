@@ -28,7 +28,7 @@ use Rattle.setting.specs.Owed.{TreesReady}
 use Rattle.cut.specs.Cut.{cut}
 use Rattle.cut.proofs.Lines.{cut-inputs}
 use Rattle.cut_lines.specs.Owed.{CutReady}
-use Rattle.cut_search.specs.Owed.{SearchCutReady, RunCutReady, RunHeadsReady, CutDone}
+use Rattle.cut_search.specs.Owed.{SearchCutReady, RunCutReady, RunHeadsReady, HeadRunDone}
 use Rattle.cut_search.proofs.Cut.{well, sourced, few-heads, cut-ready, test-size}
 
 -- ---- the cut circuit is there
@@ -54,7 +54,7 @@ module _ {c marks lines : List ℕ} {fault : Fault} {s : Node} {n test room : �
   pub cut-done : {b : ℕ} {t w : List ℕ} {r : Verdict} {s′ t′ w′ : List ℕ}
       → SideDone (lookOf fault lines n) (lookWork fault lines n) b s w r s′ w′
       → t′ ≡ testBy r t (setTrees c n s′)
-      → CutDone fault c n s b t w r t′ w′
+      → HeadRunDone fault c n s b t w r t′ w′
   cut-done {b} {t} {w} {r} {s′} {t′} {w′} q e =
       let a : SideDone (lookOf fault (cut c n) n) (lookWork fault (cut c n) n) b s w r s′ w′ =
       subst (λ (l : List ℕ). SideDone (lookOf fault l n) (lookWork fault l n) b s w r s′ w′) (p .lines-are) q in
@@ -91,5 +91,5 @@ module _ {c marks : List ℕ} {lines : ℕ} {fault : Fault} {n test room : ℕ} 
   pub cut-run-ready : {s : Node} → s ≡ start (headsOf c n) → RunCutReady c marks lines fault s n test room
   cut-run-ready e = record { ready = p .ready; node = rw e (start-is (headsOf c n)); lines-size = p .lines-size }
 
-pub done-of : {fault : Fault} {c : List ℕ} {n : ℕ} {s s₂ : Node} {b : ℕ} {t w : List ℕ} {r : Verdict} {t′ w′ : List ℕ} → s ≡ s₂ → CutDone fault c n s b t w r t′ w′ → CutDone fault c n s₂ b t w r t′ w′
+pub done-of : {fault : Fault} {c : List ℕ} {n : ℕ} {s s₂ : Node} {b : ℕ} {t w : List ℕ} {r : Verdict} {t′ w′ : List ℕ} → s ≡ s₂ → HeadRunDone fault c n s b t w r t′ w′ → HeadRunDone fault c n s₂ b t w r t′ w′
 done-of e p = rw (← e) p

@@ -39,7 +39,7 @@ pub record RunHeadsReady (c marks : List ℕ) (lines : ℕ) (fault : Fault) (n t
   pub lines-size : lines ≡ 8 * n
 
 -- what a search over head lines from s on leaves
-pub record CutDone (fault : Fault) (c : List ℕ) (n : ℕ) (s : Node) (b : ℕ) (t w : List ℕ) (r : Verdict) (t′ w′ : List ℕ) : Type 0 where
+pub record HeadRunDone (fault : Fault) (c : List ℕ) (n : ℕ) (s : Node) (b : ℕ) (t w : List ℕ) (r : Verdict) (t′ w′ : List ℕ) : Type 0 where
   pub verdict : r ≡ verdictOf (headLook fault c n) b s
   pub test : t′ ≡ testBy r t (setTrees c n (testOf (headLook fault c n) s))
   pub work : w′ ≡ memoryOf (headLook fault c n) (lookWork fault (cut c n) n) b w s

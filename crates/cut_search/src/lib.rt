@@ -15,7 +15,7 @@ ghost use Rattle.nodes.specs.Budget.{testBy};
 ghost use Rattle.heads.specs.Heads.{headsOf};
 ghost use Rattle.trees.specs.Setting.{setTrees};
 ghost use Rattle.setting.specs.Owed.{TreesReady};
-ghost use Rattle.cut_search.specs.Owed.{SearchCutReady, RunCutReady, RunHeadsReady, CutDone};
+ghost use Rattle.cut_search.specs.Owed.{SearchCutReady, RunCutReady, RunHeadsReady, HeadRunDone};
 
 // The test buffer gets the inputs of the trees set for the node, if it is a test.
 fn put_trees(
@@ -51,7 +51,7 @@ fn search_cut(
     work: &mut [u8],
 ) -> Verdict
     requires { ⌜ SearchCutReady (now circuit) (now marks) (now lines) fault (now node) (length (now want)) (length (now test)) (length (now work)) ⌝ }
-    ensures { λ r. ⌜ CutDone fault (now (circuit .entry)) (length (now (want .entry))) (now (node .entry)) budget (now (test .entry)) (now (work .entry)) r (now (test .exit)) (now (work .exit)) ⌝ }
+    ensures { λ r. ⌜ HeadRunDone fault (now (circuit .entry)) (length (now (want .entry))) (now (node .entry)) budget (now (test .entry)) (now (work .entry)) r (now (test .exit)) (now (work .exit)) ⌝ }
 {
     let n = want.len();
     let found = side(lines, fault, n, node, work, budget);
@@ -72,7 +72,7 @@ fn run_cut(
     work: &mut [u8],
 ) -> Verdict
     requires { ⌜ RunCutReady (now circuit) (now marks) (length (now lines)) fault (now node) (length (now want)) (length (now test)) (length (now work)) ⌝ }
-    ensures { λ r. ⌜ CutDone fault (now (circuit .entry)) (length (now (want .entry))) (now (node .entry)) budget (now (test .entry)) (now (work .entry)) r (now (test .exit)) (now (work .exit)) ⌝ }
+    ensures { λ r. ⌜ HeadRunDone fault (now (circuit .entry)) (length (now (want .entry))) (now (node .entry)) budget (now (test .entry)) (now (work .entry)) r (now (test .exit)) (now (work .exit)) ⌝ }
 {
     copy(circuit, lines);
     cut_lines(circuit, marks, lines);
@@ -104,7 +104,7 @@ pub fn run_heads(
     work: &mut [u8],
 ) -> Verdict
     requires { ⌜ RunHeadsReady (now circuit) (now marks) (length (now lines)) fault (length (now want)) (length (now test)) (length (now work)) ⌝ }
-    ensures { λ r. ⌜ CutDone fault (now (circuit .entry)) (length (now (want .entry))) (start (headsOf (now (circuit .entry)) (length (now (want .entry))))) budget
+    ensures { λ r. ⌜ HeadRunDone fault (now (circuit .entry)) (length (now (want .entry))) (start (headsOf (now (circuit .entry)) (length (now (want .entry))))) budget
         (now (test .entry)) (now (work .entry)) r (now (test .exit)) (now (work .exit)) ⌝ }
 {
     let heads = count_heads(marks);

@@ -20,14 +20,14 @@ use mathlib.Core.Logic.{⊎-elim}
 use Rattle.gates.specs.Gate.{pinsOf}
 use Rattle.circuit.specs.Record.{kindAt, pinAt}
 use Rattle.reads.specs.Reads.{readsOf}
-use Rattle.reads.specs.Owed.{Counted}
+use Rattle.reads.specs.Owed.{ReadsCounted}
 use Rattle.reads.proofs.Counted.{counted-branches}
 use Rattle.heads.specs.Heads.{somePin, bound, readByBound}
-use Rattle.heads.specs.Marks.{markOf, Marked}
+use Rattle.heads.specs.Marks.{lineMark, Marked}
 use Rattle.heads.proofs.Pins.{pin-lower}
 use Rattle.heads.proofs.Forest.{bound-law}
 use Rattle.heads.proofs.Says.{head-is}
-use Rattle.head_marks.specs.Owed.{binds, markBy, MarkedBy, SourcesMarked, MarkedTo, LineReady, MarkLineDone, MarkReady}
+use Rattle.head_marks.specs.Owed.{binds, markBy, MarkedBy, SourcesMarked, MarkedTo, MarkLineReady, MarkLineDone, MarkReady}
 use Rattle.head_marks.proofs.Pins.{marked-as}
 
 -- 2 is for bound lines
@@ -40,7 +40,7 @@ is-two false false = refl
 turn-other : (j k : ℕ) → (j ≡ k → ⊥) → ltb j k ≡ ltb j (suc k)
 turn-other j k d = ⊎-elim (λ l. lt-ltb j k l ∙ sym (lt-ltb j (suc k) (omega arith))) (λ l. le-ltb j k l ∙ sym (le-ltb j (suc k) (omega arith))) (either j k)
 
-module _ {c reads : List ℕ} {k n : ℕ} (p : LineReady c reads k n) (marks : List ℕ) (so : MarkedTo c n k marks) where
+module _ {c reads : List ℕ} {k n : ℕ} (p : MarkLineReady c reads k n) (marks : List ℕ) (so : MarkedTo c n k marks) where
   -- line k is bound exactly if the bytes say so
   turn : somePin c k (binds reads marks) ≡ bound c n k
   unfolding somePin binds
@@ -82,10 +82,10 @@ module _ {c reads : List ℕ} {k n : ℕ} (p : LineReady c reads k n) (marks : L
 pub record Turns (c reads marks₀ marks : List ℕ) (k : ℕ) : Type 0 where
   pub at-most : k ≤ length marks₀
   pub long : length marks ≡ length marks₀
-  pub counted : Counted (length marks₀) (readsOf c (length marks₀)) reads
+  pub counted : ReadsCounted (length marks₀) (readsOf c (length marks₀)) reads
   pub marked : MarkedTo c (length marks₀) k marks
 
-pub no-turn : {c reads₀ marks : List ℕ} (reads : List ℕ) → MarkReady c reads₀ marks → Counted (length reads₀) (readsOf c (length reads₀)) reads → Turns c reads marks marks 0
+pub no-turn : {c reads₀ marks : List ℕ} (reads : List ℕ) → MarkReady c reads₀ marks → ReadsCounted (length reads₀) (readsOf c (length reads₀)) reads → Turns c reads marks marks 0
 no-turn {c} {reads₀} {marks} reads p q = record {
   at-most = omega arith;
   long = refl;
@@ -94,7 +94,7 @@ no-turn {c} {reads₀} {marks} reads p q = record {
 }
 
 module _ {c reads₀ reads marks₀ marks : List ℕ} {k : ℕ} (p : MarkReady c reads₀ marks₀) (so : Turns c reads marks₀ marks k) where
-  pub turn-ready : k < length marks → LineReady c reads k (length marks)
+  pub turn-ready : k < length marks → MarkLineReady c reads k (length marks)
   turn-ready l = rw (so .long) (record { inputs = p .inputs; well = p .well; sourced = p .sourced; counted = so .counted; line = omega (arith, so .long) })
 
   pub next-turn : {marks′ : List ℕ} → k < length marks → length marks′ ≡ length marks → MarkLineDone c k marks marks′ → Turns c reads marks₀ marks′ (k + 1)
@@ -106,7 +106,7 @@ module _ {c reads₀ reads marks₀ marks : List ℕ} {k : ℕ} (p : MarkReady c
   }
 
   pub all-marked : length marks ≤ k → Marked c (length marks₀) marks
-  unfolding readByBound markOf
+  unfolding readByBound lineMark
   all-marked l =
       let e : k ≡ length marks₀ = omega (arith, so .at-most, so .long) in
       let m : MarkedTo c (length marks₀) (length marks₀) marks = rw e at (so .marked) in

@@ -11,7 +11,7 @@ use Rattle.ground.specs.Below.{anyBelow}
 use Rattle.circuit.specs.Record.{pinAt}
 use Rattle.circuit.specs.Formed.{WellFormed}
 use Rattle.reads.specs.Reads.{readsOf}
-use Rattle.reads.specs.Owed.{Sourced, Counted}
+use Rattle.reads.specs.Owed.{Sourced, ReadsCounted}
 use Rattle.heads.specs.Heads.{somePin, bound}
 
 -- by the bytes, line i is read twice or bound
@@ -45,11 +45,11 @@ SourcesMarked c k = MarksMore (λ j. somePin c k (λ i. eqb i j))
 abbrev pub MarkedTo : List ℕ → ℕ → ℕ → List ℕ → Type 0
 MarkedTo c n k = MarkedBy n (λ j. ltb j k && bound c n j) (λ j. anyBelow k (λ i. bound c n i && somePin c i (λ q. eqb q j)))
 
-pub record LineReady (c reads : List ℕ) (k n : ℕ) : Type 0 where
+pub record MarkLineReady (c reads : List ℕ) (k n : ℕ) : Type 0 where
   pub inputs : ℕ
   pub well : WellFormed c inputs n
   pub sourced : Sourced c n
-  pub counted : Counted n (readsOf c n) reads
+  pub counted : ReadsCounted n (readsOf c n) reads
   pub line : k < n
 
 abbrev pub MarkLineDone : List ℕ → ℕ → List ℕ → List ℕ → Type 0

@@ -8,7 +8,7 @@ ghost use lib.ListN.{length};
 ghost use Rattle.reads.specs.Owed.{Sourced};
 ghost use Rattle.heads.specs.Heads.{somePin};
 ghost use Rattle.heads.specs.Marks.{Marked};
-ghost use Rattle.head_marks.specs.Owed.{binds, ReadsMore, PinMarked, SourcesMarked, LineReady, MarkLineDone, MarkReady};
+ghost use Rattle.head_marks.specs.Owed.{binds, ReadsMore, PinMarked, SourcesMarked, MarkLineReady, MarkLineDone, MarkReady};
 
 // A line that reads line i is bound: it branches or is bound itself.
 fn binding(reads: &[u8], marks: &[u8], i: usize) -> bool
@@ -73,7 +73,7 @@ fn mark_sources(circuit: &[u8], k: usize, marks: &mut [u8])
 
 // Marks line k, if it is bound, and what it reads.
 fn mark_line(circuit: &[u8], reads: &[u8], k: usize, marks: &mut [u8])
-    requires { ⌜ LineReady (now circuit) (now reads) k (length (now marks)) ⌝ }
+    requires { ⌜ MarkLineReady (now circuit) (now reads) k (length (now marks)) ⌝ }
     ensures { λ _. ⌜ MarkLineDone (now (circuit .entry)) k (now (marks .entry)) (now (marks .exit)) ⌝ }
 {
     if is_bound(circuit, reads, marks, k) {

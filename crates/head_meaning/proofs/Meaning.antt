@@ -31,7 +31,7 @@ use Rattle.search.specs.Promise.{searchRestRules, searchRules, Searches}
 use Rattle.search.proofs.Says.{was-found}
 use Rattle.verdicts.specs.Told.{Tells}
 use Rattle.verdicts.proofs.Verdicts as inputs
-use Rattle.cut.specs.Words.{Serves}
+use Rattle.cut.specs.Words.{HeadsServe}
 use Rattle.head_verdicts.specs.Look.{headLook, headVerdict, headTest}
 use Rattle.head_verdicts.proofs.Look.{head-looks}
 use Rattle.head_verdicts.proofs.Verdicts as heads
@@ -63,7 +63,7 @@ module _ {c f : List ℕ} {b : ℕ} {t w : List ℕ} {v : Verdict} {t′ w′ : 
   -- ---- where it is
 
   module _ (s : served c (faultAt f 0) ≡ true) where
-    serves : Serves c (linesOf c) (faultAt f 0)
+    serves : HeadsServe c (linesOf c) (faultAt f 0)
     serves = serves-says c (linesOf c) (faultAt f 0) .holds s
 
     -- the verdict is the definition's

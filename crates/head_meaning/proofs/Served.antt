@@ -11,17 +11,17 @@ use Rattle.ground.proofs.Tests.{both}
 use Rattle.answers.specs.Rules.{Same}
 use Rattle.lists.specs.declared.Fault.{Fault}
 use Rattle.heads.specs.Heads.{bound, head}
-use Rattle.cut.specs.Cut.{serves}
-use Rattle.cut.specs.Words.{Serves}
+use Rattle.cut.specs.Cut.{headsServe}
+use Rattle.cut.specs.Words.{HeadsServe}
 
-pub serves-says : (c : List ℕ) (n : ℕ) (fault : Fault) → Same (serves c n fault) (Serves c n fault)
-unfolding serves
+pub serves-says : (c : List ℕ) (n : ℕ) (fault : Fault) → Same (headsServe c n fault) (HeadsServe c n fault)
+unfolding headsServe
 serves-says c n fault = record { holds = holds (bound c n (fault .line)) refl; tests = tests }
   where
-    holds : (t : Bool) → bound c n (fault .line) ≡ t → (t || (head c n (fault .line) && eqb (fault .site) 0)) ≡ true → Serves c n fault
+    holds : (t : Bool) → bound c n (fault .line) ≡ t → (t || (head c n (fault .line) && eqb (fault .site) 0)) ≡ true → HeadsServe c n fault
     holds true e h = inl e
     holds false e h = let w = both (head c n (fault .line)) _ h in inr (w .0, eqb-true _ 0 (w .1))
 
-    tests : Serves c n fault → (bound c n (fault .line) || (head c n (fault .line) && eqb (fault .site) 0)) ≡ true
+    tests : HeadsServe c n fault → (bound c n (fault .line) || (head c n (fault .line) && eqb (fault .site) 0)) ≡ true
     tests (inl e) = rw e
     tests (inr w) = rw (w .0, eq-eqb (fault .site) 0 (w .1), or-true)

@@ -29,7 +29,7 @@ use Rattle.sides.specs.Look.{Settled, lookOf, lookWork}
 use Rattle.sides.proofs.Look.{look-says, look-three}
 use Rattle.heads.specs.Heads.{bound, head, headsOf}
 use Rattle.cut.specs.Cut.{cut}
-use Rattle.cut.specs.Words.{Serves}
+use Rattle.cut.specs.Words.{HeadsServe}
 use Rattle.cut.proofs.Lines.{is-cut, cut-inputs}
 use Rattle.cut.proofs.Detects.{Place, kept, rest, place, kept-out}
 use Rattle.cut.proofs.Given.{cut-values}
@@ -78,10 +78,10 @@ module _ (fault : Fault) {c : List ℕ} {m n : ℕ} (well : WellFormed c m n) wh
     head-work = rw (cut-values well unforced s p, cut-values well (stuckAt fault) s p)
 
   -- where the fault is served, the other free lines are X in both halves
-  pub others-x : Serves c n fault → (s : Node) (k : ℕ) → k < n → bound c n k ≡ false → head c n k ≡ false → (getD (goodOf d s n) k 0 ≡ X) × (getD (faultyOf fault d s n) k 0 ≡ X)
+  pub others-x : HeadsServe c n fault → (s : Node) (k : ℕ) → k < n → bound c n k ≡ false → head c n k ≡ false → (getD (goodOf d s n) k 0 ≡ X) × (getD (faultyOf fault d s n) k 0 ≡ X)
   others-x serves s k l free none = (rest-x well unforced s k l free none, rest-x well (stuckAt fault) s k l free none ∙ stuck-off fault k 0 X (λ e _. away e serves))
     where
-      away : k ≡ fault .line → Serves c n fault → ⊥
+      away : k ≡ fault .line → HeadsServe c n fault → ⊥
       away e (inl b) = false≢true (sym free ∙ ap (bound c n) e ∙ b)
       away e (inr b) = false≢true (sym none ∙ ap (head c n) e ∙ b .0)
 

@@ -29,7 +29,7 @@ use Rattle.heads.specs.Heads.{head, headsOf}
 use Rattle.trees.specs.Setting.{setTrees}
 use Rattle.trees.proofs.Tree.{trees-set, trees-length}
 use Rattle.cut.specs.Cut.{cut, headLine, headVector}
-use Rattle.cut.specs.Words.{Serves}
+use Rattle.cut.specs.Words.{HeadsServe}
 use Rattle.cut.proofs.Detects.{detects-cut}
 use Rattle.verdicts.proofs.Fillings.{filling, filling-fills}
 use Rattle.verdicts.proofs.Meaning as meaning
@@ -48,7 +48,7 @@ fills-heads {c} {m} {n} well s size x fills i l known =
     ∙ good-truth c (setTrees c n s) n (sym (trees-length c n s)) x fills (w .place) (rw e known)
     ∙ e
 
-module _ (fault : Fault) {c : List ℕ} {n : ℕ} (small : fault .value ≤ 1) (well : WellFormed c (inputsBefore c n) n) (serves : Serves c n fault) where
+module _ (fault : Fault) {c : List ℕ} {n : ℕ} (small : fault .value ≤ 1) (well : WellFormed c (inputsBefore c n) n) (serves : HeadsServe c n fault) where
   -- the test is a node of head lines
   test-node : (b k : ℕ) → headVerdict fault c n b ≡ Test k → IsNode (headsOf c n) (testOf (headLook fault c n) (start (headsOf c n)))
   test-node b k e =

@@ -17,7 +17,7 @@ use Rattle.gates.specs.Gate.{pinsOf}
 use Rattle.gates.proofs.Laws.{gate-pin}
 use Rattle.circuit.specs.Record.{kindAt, pinAt, isInput, inputsBefore}
 use Rattle.circuit.specs.Formed.{WellFormed}
-use Rattle.reads.specs.Words.{Reads}
+use Rattle.reads.specs.Words.{PinReads}
 use Rattle.heads.specs.Heads.{somePin, bound, head, headsOf}
 use Rattle.heads.proofs.Pins.{reads-it, it-reads, pin-lower, reads}
 use Rattle.heads.proofs.Forest.{free-sources, only-reader, source-no-head, head-free}
@@ -51,10 +51,10 @@ module _ {c : List ℕ} {m n : ℕ} (well : WellFormed c m n) where
   abbrev root : ℕ → ℕ → Bool
   root b j = not (bound c n j) && not (anyBelow b (takes j))
 
-  takes-says : (j k : ℕ) → k < n → takes j k ≡ true → (s : ℕ) × Reads c n j k s × (bound c n k ≡ false)
+  takes-says : (j k : ℕ) → k < n → takes j k ≡ true → (s : ℕ) × PinReads c n j k s × (bound c n k ≡ false)
   takes-says j k l = go (bound c n k) refl
     where
-      go : (t : Bool) → bound c n k ≡ t → (not t && somePin c k (λ i. eqb i j)) ≡ true → (s : ℕ) × Reads c n j k s × (bound c n k ≡ false)
+      go : (t : Bool) → bound c n k ≡ t → (not t && somePin c k (λ i. eqb i j)) ≡ true → (s : ℕ) × PinReads c n j k s × (bound c n k ≡ false)
       go true e h = absurd (false≢true h)
       go false e h = let w = it-reads c j k l h in (w .0, w .1, e)
 

@@ -15,7 +15,7 @@ use Rattle.gates.specs.Gate.{pinsOf}
 use Rattle.circuit.specs.Record.{kindAt, pinAt, isInput}
 use Rattle.circuit.specs.Formed.{WellFormed}
 use Rattle.reads.specs.Reads.{readsOf, branches}
-use Rattle.reads.specs.Words.{Reads}
+use Rattle.reads.specs.Words.{PinReads}
 use Rattle.reads.proofs.Pins.{one-reader}
 use Rattle.heads.specs.Heads.{somePin, boundIn, bound, readByBound, head}
 use Rattle.heads.proofs.Pins.{some-pin, pin-some, reads-it, it-reads, has-pin, pin-lower, reads}
@@ -35,7 +35,7 @@ module _ {c : List ℕ} {m n : ℕ} (well : WellFormed c m n) where
       let low : pinAt c k (suc s) < k = pin-lower well k (suc s) l (omega arith) h in
       ap (λ (b : Bool). branches c n (pinAt c k (suc s)) || b) (grow-meet (boundIn c n) false k n (pinAt c k (suc s)) low (omega arith)))
 
-  pub reached : {k j s : ℕ} → Reads c n j k s → (branches c n j || bound c n j) ≡ true → bound c n k ≡ true
+  pub reached : {k j s : ℕ} → PinReads c n j k s → (branches c n j || bound c n j) ≡ true → bound c n k ≡ true
   reached {k} {j} {s} r e =
       bound-law k (r .line)
       ∙ some-pin c k (λ i. branches c n i || bound c n i) (record { pin = s; some = r .some; has = r .has; passes = rw (r .is) e })
@@ -56,7 +56,7 @@ module _ {c : List ℕ} {m n : ℕ} (well : WellFormed c m n) where
 
   -- ---- read by a bound line
 
-  pub bound-reader : (k : ℕ) → readByBound c n k ≡ true → (j : ℕ) × (s : ℕ) × Reads c n k j s × (bound c n j ≡ true)
+  pub bound-reader : (k : ℕ) → readByBound c n k ≡ true → (j : ℕ) × (s : ℕ) × PinReads c n k j s × (bound c n j ≡ true)
   unfolding readByBound
   bound-reader k e =
       let w = some-any n (λ j. bound c n j && somePin c j (λ i. eqb i k)) e in
@@ -64,7 +64,7 @@ module _ {c : List ℕ} {m n : ℕ} (well : WellFormed c m n) where
       let q = it-reads c k (w .0) (w .1) (h .1) in
       (w .0, q .0, q .1, h .0)
 
-  pub reader-bound : {k j s : ℕ} → Reads c n k j s → bound c n j ≡ true → readByBound c n k ≡ true
+  pub reader-bound : {k j s : ℕ} → PinReads c n k j s → bound c n j ≡ true → readByBound c n k ≡ true
   unfolding readByBound
   reader-bound {k} {j} r e = any-some n (λ j. bound c n j && somePin c j (λ i. eqb i k)) j (r .line) (rw (e, reads-it r))
 
@@ -101,7 +101,7 @@ module _ {c : List ℕ} {m n : ℕ} (well : WellFormed c m n) where
         go false e = let w = neither (branches c n (pinAt c k s)) _ e in (leb-false 2 _ (w .0), w .1)
 
     -- and is read by that pin alone
-    pub only-reader : bound c n k ≡ false → {j p : ℕ} → Reads c n (pinAt c k s) j p → (j ≡ k) × (p ≡ s)
+    pub only-reader : bound c n k ≡ false → {j p : ℕ} → PinReads c n (pinAt c k s) j p → (j ≡ k) × (p ≡ s)
     only-reader free r = one-reader c n (pinAt c k s) (free-sources free .0) r (reads well k s l a b)
 
     -- so it is no head line

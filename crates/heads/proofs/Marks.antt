@@ -9,12 +9,12 @@ use lib.ListN.{getD}
 use Rattle.ground.specs.Choose.{choose, one}
 use Rattle.reads.specs.Reads.{branches}
 use Rattle.heads.specs.Heads.{bound, readByBound, head}
-use Rattle.heads.specs.Marks.{markOf, Marked}
+use Rattle.heads.specs.Marks.{lineMark, Marked}
 
 module _ {c : List ℕ} {n : ℕ} {marks : List ℕ} (marked : Marked c n marks) (k : ℕ) (l : k < n) where
   -- what a test of the mark says, is said of the line
   at : (test : ℕ → Bool) (is : Bool → Bool → Bool) → ((b h : Bool) → test (choose b 2 (one h)) ≡ is b h) → test (getD marks k 0) ≡ is (bound c n k) (head c n k)
-  unfolding markOf
+  unfolding lineMark
   at test is says = ap test (marked .are k l) ∙ says (bound c n k) (head c n k)
 
   pub bounds : eqb (getD marks k 0) 2 ≡ bound c n k

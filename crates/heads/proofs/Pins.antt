@@ -12,7 +12,7 @@ use Rattle.gates.specs.Gate.{pinsOf}
 use Rattle.gates.proofs.Laws.{few-pins}
 use Rattle.circuit.specs.Record.{kindAt, pinAt}
 use Rattle.circuit.specs.Formed.{WellFormed}
-use Rattle.reads.specs.Words.{Reads}
+use Rattle.reads.specs.Words.{PinReads}
 use Rattle.heads.specs.Heads.{somePin}
 
 -- a pin of line k that reads a line which passes the test
@@ -37,10 +37,10 @@ module _ (c : List ℕ) (k : ℕ) (t : ℕ → Bool) where
 
 -- ---- pins that read line k
 
-pub reads-it : {c : List ℕ} {n k j s : ℕ} → Reads c n k j s → somePin c j (λ i. eqb i k) ≡ true
+pub reads-it : {c : List ℕ} {n k j s : ℕ} → PinReads c n k j s → somePin c j (λ i. eqb i k) ≡ true
 reads-it {c} {n} {k} {j} r = some-pin c j (λ i. eqb i k) (record { pin = _; some = r .some; has = r .has; passes = eq-eqb _ k (r .is) })
 
-pub it-reads : (c : List ℕ) {n : ℕ} (k j : ℕ) → j < n → somePin c j (λ i. eqb i k) ≡ true → (s : ℕ) × Reads c n k j s
+pub it-reads : (c : List ℕ) {n : ℕ} (k j : ℕ) → j < n → somePin c j (λ i. eqb i k) ≡ true → (s : ℕ) × PinReads c n k j s
 it-reads c k j l e =
     let w = pin-some c j (λ i. eqb i k) e in
     (w .pin, record { line = l; some = w .some; has = w .has; is = eqb-true _ k (w .passes) })
@@ -56,5 +56,5 @@ module _ {c : List ℕ} {m n : ℕ} (well : WellFormed c m n) (k s : ℕ) (l : k
   pub pin-lower : pinAt c k s < k
   pin-lower = well .lower k l (has-pin (kindAt c k) s a b) s a (omega (arith, few-pins (kindAt c k)))
 
-  pub reads : Reads c n (pinAt c k s) k s
+  pub reads : PinReads c n (pinAt c k s) k s
   reads = record { line = l; some = a; has = b; is = refl }

@@ -10,7 +10,7 @@ use Rattle.answers.specs.Rules.{Same}
 use Rattle.circuit.specs.Record.{pinAt}
 use Rattle.circuit.specs.Formed.{WellFormed}
 use Rattle.reads.specs.Reads.{branches}
-use Rattle.reads.specs.Words.{Reads, Branches}
+use Rattle.reads.specs.Words.{PinReads, Branches}
 use Rattle.reads.proofs.Pins.{branches-says}
 use Rattle.heads.specs.Heads.{bound, readByBound, head}
 use Rattle.heads.specs.Words.{Bound, branch, beyond, Head}
@@ -56,7 +56,7 @@ module _ {c : List ℕ} {m n : ℕ} (well : WellFormed c m n) where
       holds false e false f true g h = record { is-free = λ b. false≢true (sym e ∙ bound-tests b); why = inr (branches-says c n k .holds g) }
       holds false e false f false g h = absurd (false≢true h)
 
-      why-tests : ((j : ℕ) × (s : ℕ) × Reads c n k j s × Bound c n j) ⊎ Branches c n k → (readByBound c n k || branches c n k) ≡ true
+      why-tests : ((j : ℕ) × (s : ℕ) × PinReads c n k j s × Bound c n j) ⊎ Branches c n k → (readByBound c n k || branches c n k) ≡ true
       why-tests (inl w) = rw (reader-bound well (w .2) (bound-tests (w .3)))
       why-tests (inr b) = rw (branches-says c n k .tests b, or-true)
 

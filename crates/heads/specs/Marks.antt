@@ -8,9 +8,9 @@ use Rattle.ground.specs.Choose.{choose, one}
 use Rattle.heads.specs.Heads.{bound, head}
 
 -- 2 bound, 1 head line, 0 another free line
-unfoldable pub markOf : List ℕ → ℕ → ℕ → ℕ
-markOf c n k = choose (bound c n k) 2 (one (head c n k))
+unfoldable pub lineMark : List ℕ → ℕ → ℕ → ℕ
+lineMark c n k = choose (bound c n k) 2 (one (head c n k))
 
 pub record Marked (c : List ℕ) (n : ℕ) (marks : List ℕ) : Type 0 where
   pub long : length marks ≡ n
-  pub are : (k : ℕ) → k < n → getD marks k 0 ≡ markOf c n k
+  pub are : (k : ℕ) → k < n → getD marks k 0 ≡ lineMark c n k

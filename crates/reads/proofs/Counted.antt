@@ -17,7 +17,7 @@ use Rattle.ground.proofs.Counting.{count-suc}
 use Rattle.gates.specs.Gate.{pinsOf}
 use Rattle.circuit.specs.Record.{kindAt, pinAt}
 use Rattle.reads.specs.Reads.{sumBelow, pinsReading, readsBy, readsOf, branches}
-use Rattle.reads.specs.Owed.{upToTwo, OneMore, Counted, CountsMore, pinAdds, lineAdds}
+use Rattle.reads.specs.Owed.{upToTwo, OneMore, ReadsCounted, CountsMore, pinAdds, lineAdds}
 
 -- ---- a number as far as 2
 
@@ -47,7 +47,7 @@ next-more {read} some x e = go (ℕ-discrete x 0)
 
 -- ---- the bytes of all lines
 
-pub counted-as : {n : ℕ} {g h : ℕ → ℕ} {bytes : List ℕ} → ((k : ℕ) → g k ≡ h k) → Counted n g bytes → Counted n h bytes
+pub counted-as : {n : ℕ} {g h : ℕ → ℕ} {bytes : List ℕ} → ((k : ℕ) → g k ≡ h k) → ReadsCounted n g bytes → ReadsCounted n h bytes
 counted-as same p = record { long = p .long; are = λ k l. p .are k l ∙ ap upToTwo (same k) }
 
 -- a pin's own line is counted once more, and no other
@@ -97,7 +97,7 @@ module _ {c : List ℕ} {j has : ℕ} {bytes₀ bytes : List ℕ} {s : ℕ} (so 
 pub record Lines (c : List ℕ) (bytes₀ bytes : List ℕ) (j : ℕ) : Type 0 where
   pub at-most : j ≤ length bytes₀
   pub long : length bytes ≡ length bytes₀
-  pub counted : Counted (length bytes₀) (λ k. sumBelow j (readsBy c k)) bytes
+  pub counted : ReadsCounted (length bytes₀) (λ k. sumBelow j (readsBy c k)) bytes
 
 pub no-line : (c bytes : List ℕ) → bytes ≡ replicate (length bytes) 0 → Lines c bytes bytes 0
 unfolding sumBelow
@@ -118,14 +118,14 @@ module _ {c bytes₀ bytes : List ℕ} {j : ℕ} (so : Lines c bytes₀ bytes j)
         counted = rw e ((rw (so .long) at p) (λ k. sumBelow j (readsBy c k)) (so .counted));
       }
 
-  pub all-lines : length bytes₀ ≤ j → Counted (length bytes₀) (readsOf c (length bytes₀)) bytes
+  pub all-lines : length bytes₀ ≤ j → ReadsCounted (length bytes₀) (readsOf c (length bytes₀)) bytes
   unfolding readsOf
   all-lines l =
       let e : j ≡ length bytes₀ = omega (arith, so .at-most) in
       rw e at (so .counted)
 
 -- a line branches exactly if its byte is 2
-pub counted-branches : (c : List ℕ) {n : ℕ} {bytes : List ℕ} → Counted n (readsOf c n) bytes → (k : ℕ) → k < n → eqb (getD bytes k 0) 2 ≡ branches c n k
+pub counted-branches : (c : List ℕ) {n : ℕ} {bytes : List ℕ} → ReadsCounted n (readsOf c n) bytes → (k : ℕ) → k < n → eqb (getD bytes k 0) 2 ≡ branches c n k
 counted-branches c {n} {bytes} p k l = ap (λ (x : ℕ). eqb x 2) (p .are k l) ∙ go (leb 2 (readsOf c n k)) refl
   where
     go : (t : Bool) → leb 2 (readsOf c n k) ≡ t → eqb (upToTwo (readsOf c n k)) 2 ≡ t

@@ -14,7 +14,7 @@ use Rattle.answers.specs.Rules.{Same}
 use Rattle.gates.specs.Gate.{pinsOf}
 use Rattle.circuit.specs.Record.{kindAt, pinAt}
 use Rattle.reads.specs.Reads.{sumBelow, readsBy, readsOf, branches}
-use Rattle.reads.specs.Words.{Reads, Branches}
+use Rattle.reads.specs.Words.{PinReads, Branches}
 use Rattle.reads.proofs.Sums.{sum-one, sum-two, sum-some, sum-branches, count-sum}
 
 module _ (c : List ℕ) (n k : ℕ) where
@@ -26,12 +26,12 @@ module _ (c : List ℕ) (n k : ℕ) where
   unfolding readsBy
   by-sum j = count-sum (pinsOf (kindAt c j)) (λ i. eqb (pinAt c j (suc i)) k)
 
-  reads-pin : {j s : ℕ} → Reads c n k j s → pin j (s - 1) ≡ 1
+  reads-pin : {j s : ℕ} → PinReads c n k j s → pin j (s - 1) ≡ 1
   reads-pin {j} {s} r =
       let e : suc (s - 1) ≡ s = omega (arith, r .some) in
       rw (e, eq-eqb (pinAt c j s) k (r .is))
 
-  pin-reads : {j i : ℕ} → j < n → i < pinsOf (kindAt c j) → 1 ≤ pin j i → Reads c n k j (suc i)
+  pin-reads : {j i : ℕ} → j < n → i < pinsOf (kindAt c j) → 1 ≤ pin j i → PinReads c n k j (suc i)
   pin-reads {j} {i} l h q = record { line = l; some = omega arith; has = h; is = go (ℕ-discrete (pinAt c j (suc i)) k) q }
     where
       go : Dec (pinAt c j (suc i) ≡ k) → 1 ≤ pin j i → pinAt c j (suc i) ≡ k
@@ -40,16 +40,16 @@ module _ (c : List ℕ) (n k : ℕ) where
 
   -- ---- the pins of one line
 
-  by-one : {j s : ℕ} → Reads c n k j s → 1 ≤ readsBy c k j
+  by-one : {j s : ℕ} → PinReads c n k j s → 1 ≤ readsBy c k j
   by-one {j} {s} r =
       rw (by-sum j) (omega (arith, sum-one (pinsOf (kindAt c j)) (pin j) (s - 1) (omega (arith, r .some, r .has)), reads-pin r))
 
-  by-two : {j s t : ℕ} → s < t → Reads c n k j s → Reads c n k j t → 2 ≤ readsBy c k j
+  by-two : {j s t : ℕ} → s < t → PinReads c n k j s → PinReads c n k j t → 2 ≤ readsBy c k j
   by-two {j} {s} {t} l r q =
       rw (by-sum j)
       (omega (arith, sum-two (pinsOf (kindAt c j)) (pin j) (s - 1) (t - 1) (omega (arith, r .some)) (omega (arith, r .some, q .has)), reads-pin r, reads-pin q))
 
-  some-by : {j : ℕ} → j < n → 1 ≤ readsBy c k j → (s : ℕ) × Reads c n k j s
+  some-by : {j : ℕ} → j < n → 1 ≤ readsBy c k j → (s : ℕ) × PinReads c n k j s
   some-by {j} l h =
       let w = sum-some (pinsOf (kindAt c j)) (pin j) (rw (← by-sum j) h) in
       (suc (w .0), pin-reads l (w .1) (w .2))
@@ -72,12 +72,12 @@ module _ (c : List ℕ) (n k : ℕ) where
   -- ---- of all lines
 
   -- a line that a pin reads is read
-  pub read-once : {j s : ℕ} → Reads c n k j s → 1 ≤ readsOf c n k
+  pub read-once : {j s : ℕ} → PinReads c n k j s → 1 ≤ readsOf c n k
   unfolding readsOf
   read-once {j} r = omega (arith, by-one r, sum-one n (readsBy c k) j (r .line))
 
   -- and one that is read has a pin that reads it
-  pub reads-some : 1 ≤ readsOf c n k → (j : ℕ) × (s : ℕ) × Reads c n k j s
+  pub reads-some : 1 ≤ readsOf c n k → (j : ℕ) × (s : ℕ) × PinReads c n k j s
   unfolding readsOf
   reads-some h =
       let w = sum-some n (readsBy c k) h in
@@ -91,7 +91,7 @@ module _ (c : List ℕ) (n k : ℕ) where
     where
       go : Dec (b .j ≡ b .i) → 2 ≤ sumBelow n (readsBy c k)
       go (yes e) =
-          let o : Reads c n k (b .i) (b .s) = rw e at (b .one) in
+          let o : PinReads c n k (b .i) (b .s) = rw e at (b .one) in
           let d : b .s ≡ b .t → ⊥ = b .apart e in
           let own : 2 ≤ readsBy c k (b .i) =
           ⊎-elim (λ l. by-two l o (b .other)) (λ l. by-two (omega arith) (b .other) o) (either (b .s) (b .t)) in
@@ -119,7 +119,7 @@ module _ (c : List ℕ) (n k : ℕ) where
   branches-says = record { holds = λ e. read-two (leb-true 2 _ e); tests = λ b. le-leb 2 _ (two-read b) }
 
   -- a line that does not branch has one reading pin at most
-  pub one-reader : {j i s t : ℕ} → readsOf c n k < 2 → Reads c n k j s → Reads c n k i t → (j ≡ i) × (s ≡ t)
+  pub one-reader : {j i s t : ℕ} → readsOf c n k < 2 → PinReads c n k j s → PinReads c n k i t → (j ≡ i) × (s ≡ t)
   one-reader {j} {i} {s} {t} few r q = go (ℕ-discrete j i) (ℕ-discrete s t)
     where
       go : Dec (j ≡ i) → Dec (s ≡ t) → (j ≡ i) × (s ≡ t)

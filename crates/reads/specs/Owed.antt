@@ -23,13 +23,13 @@ abbrev pub OneMore : ℕ → ℕ → Type 0
 OneMore read r = (x : ℕ) → read ≡ upToTwo x → r ≡ upToTwo (x + 1)
 
 -- a byte for each of n lines: how often the line is read, which is g of it, as far as 2
-pub record Counted (n : ℕ) (g : ℕ → ℕ) (bytes : List ℕ) : Type 0 where
+pub record ReadsCounted (n : ℕ) (g : ℕ → ℕ) (bytes : List ℕ) : Type 0 where
   pub long : length bytes ≡ n
   pub are : (k : ℕ) → k < n → getD bytes k 0 ≡ upToTwo (g k)
 
 -- whatever was counted before, so much more of each line is counted now
 abbrev pub CountsMore : ℕ → (ℕ → ℕ) → List ℕ → List ℕ → Type 0
-CountsMore n more bytes bytes′ = (g : ℕ → ℕ) → Counted n g bytes → Counted n (λ k. g k + more k) bytes′
+CountsMore n more bytes bytes′ = (g : ℕ → ℕ) → ReadsCounted n g bytes → ReadsCounted n (λ k. g k + more k) bytes′
 
 -- what pin s of line j adds to line k
 abbrev pub pinAdds : List ℕ → ℕ → ℕ → ℕ → ℕ

@@ -7,7 +7,7 @@ use Rattle.gates.specs.Gate.{pinsOf}
 use Rattle.circuit.specs.Record.{kindAt, pinAt}
 
 -- line j has a pin s, which reads line k
-pub record Reads (c : List ℕ) (n k j s : ℕ) : Type 0 where
+pub record PinReads (c : List ℕ) (n k j s : ℕ) : Type 0 where
   pub line : j < n
   pub some : 1 ≤ s
   pub has : s ≤ pinsOf (kindAt c j)
@@ -19,6 +19,6 @@ pub record Branches (c : List ℕ) (n k : ℕ) : Type 0 where
   pub s : ℕ
   pub i : ℕ
   pub t : ℕ
-  pub one : Reads c n k j s
-  pub other : Reads c n k i t
+  pub one : PinReads c n k j s
+  pub other : PinReads c n k i t
   pub apart : j ≡ i → s ≡ t → ⊥

@@ -5,7 +5,7 @@ ghost use mathlib.Core.Path.{_≡_};
 ghost use Prim.Native.Nat.{_≤_, _<_};
 ghost use lib.ListN.{length, replicate};
 ghost use Rattle.reads.specs.Reads.{readsOf};
-ghost use Rattle.reads.specs.Owed.{Sourced, OneMore, Counted, CountsMore, pinAdds, lineAdds};
+ghost use Rattle.reads.specs.Owed.{Sourced, OneMore, ReadsCounted, CountsMore, pinAdds, lineAdds};
 
 // One reading more.
 fn one_more(read: u8) -> u8
@@ -43,7 +43,7 @@ fn count_pins(circuit: &[u8], j: usize, reads: &mut [u8])
 // How often each line is read, into memory that is all 0.
 pub fn count_reads(circuit: &[u8], reads: &mut [u8])
     requires { ⌜ Sourced (now circuit) (length (now reads)) × (now reads ≡ replicate (length (now reads)) 0) ⌝ }
-    ensures { λ _. ⌜ Counted (length (now (reads .entry))) (readsOf (now (circuit .entry)) (length (now (reads .entry)))) (now (reads .exit)) ⌝ }
+    ensures { λ _. ⌜ ReadsCounted (length (now (reads .entry))) (readsOf (now (circuit .entry)) (length (now (reads .entry)))) (now (reads .exit)) ⌝ }
 {
     let mut j = 0;
     while j < reads.len() {

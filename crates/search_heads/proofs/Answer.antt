@@ -22,10 +22,10 @@ use Rattle.heads.specs.Heads.{headsOf}
 use Rattle.heads.specs.Marks.{Marked}
 use Rattle.heads.proofs.Marks.{bounds, heads}
 use Rattle.head_marks.specs.Owed.{MarkReady}
-use Rattle.cut.specs.Cut.{serves}
+use Rattle.cut.specs.Cut.{headsServe}
 use Rattle.head_verdicts.specs.Look.{headTest}
 use Rattle.search_heads.specs.Promise.{headVerdictFor, headTestFor, headWorkFor, HeadSearches}
-use Rattle.cut_search.specs.Owed.{RunHeadsReady, CutDone}
+use Rattle.cut_search.specs.Owed.{RunHeadsReady, HeadRunDone}
 use Rattle.cut_search.proofs.Cut.{well, sourced}
 use Rattle.search_heads.specs.Owed.{servedBy, EitherReady, EitherDone, HeadsReady, RoomReady, HeadSearchedBy}
 
@@ -36,15 +36,15 @@ module _ {c marks : List ℕ} {lines : ℕ} {fault : Fault} {n inputs test room 
   heads-ready = record { ready = record { inputs = inputs; known = p .known; run = p .run; marked = p .marked }; lines-size = p .lines-size }
 
   -- the mark says which
-  serves-is : {u : Bool} → u ≡ servedBy (getD marks (fault .line) 0) (fault .site) → u ≡ serves c n fault
-  unfolding servedBy serves
+  serves-is : {u : Bool} → u ≡ servedBy (getD marks (fault .line) 0) (fault .site) → u ≡ headsServe c n fault
+  unfolding servedBy headsServe
   serves-is e = e ∙ rw (bounds (p .marked) (fault .line) (p .run .ready .line), heads (p .marked) (fault .line) (p .run .ready .line))
 
   module _ {b : ℕ} {t w : List ℕ} {u : Bool} {r : Verdict} {t′ w′ : List ℕ} (says : u ≡ servedBy (getD marks (fault .line) 0) (fault .site)) where
-    pub over-heads : u ≡ true → CutDone fault c n (start (headsOf c n)) b t w r t′ w′ → EitherDone c fault b t w r t′ w′
+    pub over-heads : u ≡ true → HeadRunDone fault c n (start (headsOf c n)) b t w r t′ w′ → EitherDone c fault b t w r t′ w′
     unfolding headVerdictFor headTestFor headWorkFor headTest
     over-heads e q =
-        let yes : serves c n fault ≡ true = sym (serves-is says) ∙ e in
+        let yes : headsServe c n fault ≡ true = sym (serves-is says) ∙ e in
         record {
           verdict = rw (← p .known .lines, yes) (q .verdict);
           test = rw (← p .known .lines, yes, ← q .verdict) (q .test);
@@ -54,7 +54,7 @@ module _ {c marks : List ℕ} {lines : ℕ} {fault : Fault} {n inputs test room 
     pub over-inputs : u ≡ false → RunDone (lookOf fault c n) (lookWork fault c n) (start inputs) b t w r t′ w′ → EitherDone c fault b t w r t′ w′
     unfolding headVerdictFor headTestFor headWorkFor verdictFor testFor workFor
     over-inputs e q =
-        let no : serves c n fault ≡ false = sym (serves-is says) ∙ e in
+        let no : headsServe c n fault ≡ false = sym (serves-is says) ∙ e in
         record {
           verdict = rw (← p .known .inputs, ← p .known .lines, no) (q .verdict);
           test = rw (← p .known .inputs, ← p .known .lines, no, ← q .verdict) (q .test);

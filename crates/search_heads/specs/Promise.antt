@@ -18,11 +18,11 @@ use Rattle.nodes.specs.Budget.{testBy}
 use Rattle.search.specs.declared.Searched.{Searched}
 use Rattle.search.specs.declared.Searched.the-variants as searched
 use Rattle.search.specs.Promise.{searchRules, verdictFor, testFor, workFor, verdictNumbers, searchedNumbers}
-use Rattle.cut.specs.Cut.{serves}
+use Rattle.cut.specs.Cut.{headsServe}
 use Rattle.head_verdicts.specs.Look.{headVerdict, headTest, headMemory}
 
 abbrev pub served : List ℕ → Fault → Bool
-served c fault = serves c (linesOf c) fault
+served c fault = headsServe c (linesOf c) fault
 
 unfoldable pub headVerdictFor : List ℕ → Fault → ℕ → Verdict
 headVerdictFor c fault b = choose (served c fault) (headVerdict fault c (linesOf c) b) (verdictFor c fault b)

@@ -10,7 +10,7 @@ use lib.ListN.{getD}
 use Rattle.circuit.specs.Record.{kindAt, pinAt}
 use Rattle.circuit.specs.Formed.{WellFormed}
 use Rattle.reads.specs.Reads.{readsOf}
-use Rattle.reads.specs.Words.{Reads}
+use Rattle.reads.specs.Words.{PinReads}
 use Rattle.reads.proofs.Pins.{reads-some}
 use Rattle.heads.specs.Heads.{bound, head}
 use Rattle.heads.proofs.Pins.{pin-lower}
@@ -23,7 +23,7 @@ module _ {c : List ℕ} {m n : ℕ} (well : WellFormed c m n) {s w w₂ : List �
   one-line : (k : ℕ) → k < n → bound c n k ≡ false → ((j : ℕ) → k < j → j < n → bound c n j ≡ false → getD w j 0 ≡ getD w₂ j 0) → getD w k 0 ≡ getD w₂ k 0
   one-line k l free above = go (head c n k) refl (ℕ-discrete (readsOf c n k) 0)
     where
-      reader : head c n k ≡ false → (j : ℕ) × (i : ℕ) × Reads c n k j i → getD w k 0 ≡ getD w₂ k 0
+      reader : head c n k ≡ false → (j : ℕ) × (i : ℕ) × PinReads c n k j i → getD w k 0 ≡ getD w₂ k 0
       reader none (j, i, r) = at (bound c n j) refl
         where
           at : (t : Bool) → bound c n j ≡ t → getD w k 0 ≡ getD w₂ k 0
