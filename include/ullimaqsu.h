@@ -218,10 +218,11 @@ uint32_t ullimaqsu_search(const uint8_t *circuit, size_t circuit_len,
    For a fault at a bound line or at one of its pins, and for a head line itself stuck, a node has one value for each head line, in line order;
    all other free lines are X, and their outputs are not looked at. Otherwise nodes, budget and outcome are those of ullimaqsu_search. For any
    other fault, at a pin of a head line too, this is ullimaqsu_search.
-   The test buffer, exactly n bytes, is written only for a test, with the trees set from the head lines down: where a value of its first source
-   alone makes a gate's value, that source has it and the others are X; else AND, NAND, OR and NOR set both sources, XOR and XNOR the first to 0
-   and the second as it must be, a selector its select to 0 and its first source. The work memory, exactly 2 N bytes, then holds the good and
-   after them the faulty values of the last node looked at, for a test too with X on all free lines but the head lines; with budget 0 it stays.
+   The test buffer, exactly n bytes, is written only for a test; where the search decides at head lines, with the trees set from these down: where
+   a value of its first source alone makes a gate's value, that source has it and the others are X; else AND, NAND, OR and NOR set both sources,
+   XOR and XNOR the first to 0 and the second as it must be, a selector its select to 0 and its first source. The work memory, exactly 2 N bytes,
+   then holds the good and after them the faulty values of the last node looked at, where the search decides at head lines with X on all free
+   lines but these, for a test too; with budget 0 it stays.
    Answer: the outcome, and the number of nodes looked at, which may be more than ullimaqsu_search needs. Where both reach a verdict it is the
    same. */
 uint32_t ullimaqsu_search_heads(const uint8_t *circuit, size_t circuit_len,

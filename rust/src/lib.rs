@@ -213,9 +213,9 @@ fn searched(circuit: &[u8], returned: u32, area: [u8; 32]) -> Result<Search, Ref
 
 /// The test search that decides at head lines, the free lines next to those which can be reached from a branch, as [`search`] decides at inputs:
 /// so it needs few nodes where wide trees lie before few head lines. It serves faults at bound lines and at their pins, and head lines that are
-/// stuck; for any other fault it is [`search`]. The test buffer, one byte for each input, is written only for a test, with the trees set for it.
-/// The work memory, two bytes for each line, then holds the good and the faulty values of the last node, in which all free lines but the head
-/// lines are X; with budget 0 it stays. A refusal writes nothing.
+/// stuck; for any other fault it is [`search`]. The test buffer, one byte for each input, is written only for a test, and where it decides
+/// at head lines the trees are set for it. The work memory, two bytes for each line, then holds the good and the faulty values of the last node,
+/// in which, where it decides at head lines, all other free lines are X; with budget 0 it stays. A refusal writes nothing.
 ///
 /// Lines 0 and 1 are inputs, line 2 is their AND. It is a head line, since line 3, an XOR, reads it twice:
 ///

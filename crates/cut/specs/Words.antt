@@ -1,4 +1,4 @@
--- The same in words.
+-- What is used of the cut circuit, line by line; and which faults are served, in words.
 -- Assumes nothing.
 use mathlib.Core.Path.{_≡_}
 use mathlib.Core.Logic.{_⊎_}

@@ -40,7 +40,7 @@ use Rattle.head_meaning.specs.Told.{headCount, allHeadNodes}
 use Rattle.head_meaning.proofs.Served.{serves-says}
 
 module _ {c f : List ℕ} {b : ℕ} {t w : List ℕ} {v : Verdict} {t′ w′ : List ℕ} (p : HeadSearches c f b t w (searched.Verdict v) t′ w′) where
-  fine : (refusal (searchRules c f (length t) (length w)) ≡ Ruling.Fine) × (v ≡ headVerdictFor c (faultAt f 0) b)
+  pub fine : (refusal (searchRules c f (length t) (length w)) ≡ Ruling.Fine) × (v ≡ headVerdictFor c (faultAt f 0) b)
   fine = was-found (p .answer)
 
   accepted : (refusal (circuitRules c) ≡ Ruling.Fine) × (refusal (searchRestRules c f (inputsOf c) (linesOf c) (length t) (length w)) ≡ Ruling.Fine)
@@ -51,7 +51,7 @@ module _ {c f : List ℕ} {b : ℕ} {t w : List ℕ} {v : Verdict} {t′ w′ : 
       let g = good-faults 1 c f (both-fine (faultRules 1 c f) _ (accepted .1) .0) in
       g .faults 0 (omega (arith, g .records .some)) .value
 
-  well : WellFormed c (inputsOf c) (linesOf c)
+  pub well : WellFormed c (inputsOf c) (linesOf c)
   well = good c (accepted .0) .well
 
   -- ---- where the fault is not served, the promise is the very one of the search
@@ -63,16 +63,16 @@ module _ {c f : List ℕ} {b : ℕ} {t w : List ℕ} {v : Verdict} {t′ w′ : 
   -- ---- where it is
 
   module _ (s : served c (faultAt f 0) ≡ true) where
-    serves : HeadsServe c (linesOf c) (faultAt f 0)
+    pub serves : HeadsServe c (linesOf c) (faultAt f 0)
     serves = serves-says c (linesOf c) (faultAt f 0) .holds s
 
     -- the verdict is the definition's
-    is : v ≡ headVerdict (faultAt f 0) c (linesOf c) b
+    pub is : v ≡ headVerdict (faultAt f 0) c (linesOf c) b
     unfolding headVerdictFor
     is = rw s at (fine .1)
 
     -- the test buffer
-    buffer : (k : ℕ) → v ≡ Test k → t′ ≡ headTest (faultAt f 0) c (linesOf c)
+    pub buffer : (k : ℕ) → v ≡ Test k → t′ ≡ headTest (faultAt f 0) c (linesOf c)
     unfolding headTestFor
     buffer k e = p .test ∙ rw (fine .0, s, ← is, e)
 

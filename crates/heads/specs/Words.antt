@@ -13,7 +13,7 @@ pub data Bound (c : List ℕ) (n : ℕ) : ℕ → Type 0 where
 abbrev pub Free : List ℕ → ℕ → ℕ → Type 0
 Free c n k = Bound c n k → ⊥
 
--- a free line read by a bound gate or itself branching
+-- it is free, and a bound line reads it or it branches
 pub record Head (c : List ℕ) (n k : ℕ) : Type 0 where
   pub is-free : Free c n k
   pub why : ((j : ℕ) × (s : ℕ) × PinReads c n k j s × Bound c n j) ⊎ Branches c n k

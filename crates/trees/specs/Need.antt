@@ -54,11 +54,11 @@ pub record Alone (put : ℕ → ℕ) (u : ℕ) : Type 0 where
 pub record Needs (kind v : ℕ) (put : ℕ → ℕ) : Type 0 where
   -- the gate then has that value
   pub gives : gateOf kind put ≡ v
-  -- a value that the first source alone can force is put on it, and the rest stays X
+  -- where the first source can force it alone, it does, and the others stay X
   pub forced : (u : ℕ) → u < 2 → ForcedBy kind v u → Alone put u
-  -- otherwise AND, NAND, OR and NOR, which are 3 to 6, set both
+  -- where it can't, the kinds 3 to 6, AND, NAND, OR and NOR, set both sources to one value
   pub both : ((u : ℕ) → u < 2 → ForcedBy kind v u → ⊥) → 3 ≤ kind → kind ≤ 6 → (put 1 < 2) × (put 2 ≡ put 1)
-  -- XOR and XNOR, which are 7 and 8, set the first source to 0 and so need the second
+  -- the kinds 7 and 8, XOR and XNOR, have 0 on the first source, and so need the second
   pub differs : (kind ≡ 7) ⊎ (kind ≡ 8) → (put 1 ≡ 0) × (put 2 < 2)
-  -- a selector sets select 0 and its first source
+  -- a selector has 0 on its select, and needs its first source
   pub chooses : kind ≡ selector → (put 3 ≡ 0) × (put 1 < 2) × (put 2 ≡ X)

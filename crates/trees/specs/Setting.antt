@@ -1,4 +1,5 @@
--- Setting the trees of free lines, from the highest line down and without going back: as a fold over the lines, and line by line. They are proved equivalent.
+-- Setting the trees of free lines, from the highest line down and without going back: as a fold over the lines, and line by line. In an accepted circuit the fold
+-- does what is said line by line, and that leaves one value for each free line.
 -- Assumes nothing.
 use mathlib.Core.Path.{_≡_}
 use mathlib.Core.Bool.{true, false}
@@ -47,5 +48,5 @@ pub record Set (c : List ℕ) (n : ℕ) (s w : List ℕ) : Type 0 where
   pub heads : (k : ℕ) → k < n → head c n k ≡ true → getD w k 0 ≡ getD s (headsBefore c n k) 0
   -- a source of a free line has what that line needs there
   pub sources : (k p : ℕ) → k < n → bound c n k ≡ false → 1 ≤ p → p ≤ pinsOf (kindAt c k) → getD w (pinAt c k p) 0 ≡ needOf (kindAt c k) (getD w k 0) p
-  -- a line that is neither is X
+  -- a line that is no head line and that nothing reads is X
   pub unread : (k : ℕ) → k < n → head c n k ≡ false → readsOf c n k ≡ 0 → getD w k 0 ≡ X

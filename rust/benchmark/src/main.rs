@@ -26,6 +26,7 @@ fn main() {
     print("the largest sizes", MICROSECONDS, ["proved", "Rust"], large::rows());
     print("small calls", NANOSECONDS, ["proved", "Rust"], small::rows());
     print("search_heads: all faults, 100 nodes each", MICROSECONDS, ["proved", "Rust"], small::heads());
+    print("the same beside the proved search", MICROSECONDS, ["heads", "inputs"], small::heads_beside_search());
     print("64 patterns at once", MICROSECONDS, BESIDE_LANES, large::lanes());
     print("64 patterns at once, small calls", NANOSECONDS, BESIDE_LANES, small::lanes());
     print("the order of their entries, in Rust", MICROSECONDS, ORDERS, large::orders());

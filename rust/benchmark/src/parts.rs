@@ -220,12 +220,25 @@ pub fn search_heads_beside_search(name: &str, files: &Files, budget: u64) -> Row
     )
 }
 
-/// The search that decides at head lines for each of the faults, one after the other, likewise. A round ends with what the last of them leaves.
-pub fn search_heads_singly<G: Gates>(name: &str, files: &Files, budget: u64) -> Row {
-    let each = |circuit: &[u8], lent: &mut Searched, search: fn(&[u8], &[u8], u64, &mut Searched) -> u32| {
+/// A search for one fault, with a budget.
+type OneSearch = fn(&[u8], &[u8], u64, &mut Searched) -> u32;
+
+/// The proved search over head lines beside another, for each of the faults one after the other. A round ends with what the last of them leaves.
+fn singly(name: &str, files: &Files, budget: u64, other: OneSearch) -> Row {
+    let each = |circuit: &[u8], lent: &mut Searched, search: OneSearch| {
         files.faults.chunks_exact(8).map(|fault| search(circuit, fault, budget, lent)).sum()
     };
-    one_search(name, files, |circuit, _, lent| each(circuit, lent, proved_heads), |circuit, _, lent| each(circuit, lent, plain_heads::<G>))
+    one_search(name, files, |circuit, _, lent| each(circuit, lent, proved_heads), |circuit, _, lent| each(circuit, lent, other))
+}
+
+/// Beside the same in Rust.
+pub fn search_heads_singly<G: Gates>(name: &str, files: &Files, budget: u64) -> Row {
+    singly(name, files, budget, plain_heads::<G>)
+}
+
+/// Beside the proved search over patterns.
+pub fn search_heads_singly_beside_search(name: &str, files: &Files, budget: u64) -> Row {
+    singly(name, files, budget, proved_patterns)
 }
 
 /// What the search for all of the faults is lent.

@@ -49,10 +49,16 @@ fn written(name: &str) -> Files {
     Files { circuit, faults, patterns: vec![] }
 }
 
-/// The examples in the bench notation, with all their faults one after the other. Of these parity16 alone has trees.
+/// The examples in the bench notation, with all their faults one after the other. Of these parity16 and trees alone have trees.
 pub fn heads() -> impl Iterator<Item = Row> {
-    let names = ["c17", "adder16", "decoder4", "multiplier4", "parity16"];
+    let names = ["c17", "decoder4", "multiplier4", "adder16", "parity16", "trees"];
     names.into_iter().map(|name| parts::search_heads_singly::<Branches>(name, &written(name), 100))
+}
+
+/// The same where every input is a head line, so that both searches look at the same nodes: what finding the head lines costs.
+pub fn heads_beside_search() -> impl Iterator<Item = Row> {
+    let names = ["c17", "decoder4", "multiplier4", "adder16"];
+    names.into_iter().map(|name| parts::search_heads_singly_beside_search(name, &written(name), 100))
 }
 
 /// Dictionaries that carry 64 patterns at once, and here have fewer.

@@ -39,7 +39,8 @@ is `test`; `redundant` where no pattern at all detects the fault; or `given up` 
 
 With --heads the search decides at head lines, which check --heads lists, and once it has a test sets the trees behind them: a wide tree is one
 decision. It does so for faults at bound lines and their pins, and for a head line that is stuck; for any other fault it is the search over inputs. Where
-both reach a verdict, a test or redundant, they agree, though nodes and tests may differ. The last line says how many faults were searched for which way.
+both reach a verdict, a test or redundant, they agree, though nodes and tests may differ. Each fault is searched for alone, so that where head lines
+serve few faults it takes longer. A line below the table says how many faults were searched for which way.
 
 With --compare the faults that are searched for over head lines are searched for over inputs too. One line more says how many nodes that takes and
 how many faults it gives up, and how many verdicts head lines bring and lose. This can take far longer: on wide trees the search over inputs uses up its
