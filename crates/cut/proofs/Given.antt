@@ -10,7 +10,7 @@ use lib.ListN.{getD}
 use borrow.Author.Tests.{ne-eqb}
 use Rattle.ground.specs.Choose.{choose}
 use Rattle.ground.proofs.Grow.{grow-same}
-use Rattle.gates.specs.Gate.{gateOf}
+use Rattle.gates.specs.Gate.{X, gateOf}
 use Rattle.gates.proofs.Laws.{gate-same, few-pins}
 use Rattle.gates.proofs.Table.{other}
 use Rattle.circuit.specs.Record.{kindAt, pinAt, isInput, inputsBefore}
@@ -23,13 +23,22 @@ use Rattle.cut.specs.Given.{shown, given}
 use Rattle.cut.proofs.Lines.{is-cut, cut-gate, cut-input, cut-inputs}
 
 module _ {c : List ℕ} {m n : ℕ} (well : WellFormed c m n) (f : Forcing) (s p : List ℕ) where
+  -- the value of line k where it is free, and what its gate's pins see, where b says that it is bound and h that it is a head line
+  abbrev freeValue : ℕ → Bool → ℕ
+  freeValue k h = choose h (getD s (headsBefore c n k) 0) X
+
+  abbrev sees : List ℕ → ℕ → Bool → Bool → ℕ → ℕ
+  sees vs k b h q = f k q (choose (eqb q 0) (choose b (getD vs (pinAt c k q) 0) (freeValue k h)) (getD vs (pinAt c k q) 0))
+
   line-given : (vs : List ℕ) (k : ℕ) → k < n → lineValue f (cut c n) s vs k ≡ lineValue (given c n s f) c p vs k
   unfolding lineValue gateValue given shown
   line-given vs k l = go (bound c n k) refl (head c n k) refl
     where
-      go : (b : Bool) → bound c n k ≡ b → (h : Bool) → head c n k ≡ h
-          → f k 0 (choose (isInput (cut c n) k) (getD s (inputsBefore (cut c n) k) 0) (gateOf (kindAt (cut c n) k) (λ q. f k q (getD vs (pinAt (cut c n) k q) 0))))
-          ≡ f k 0 (choose b (choose (isInput c k) (getD p (inputsBefore c k) 0) (gateOf (kindAt c k) (λ q. f k q (choose (eqb q 0) (choose b (getD vs (pinAt c k q) 0) (choose h (getD s (headsBefore c n k) 0) 2)) (getD vs (pinAt c k q) 0))))) (choose h (getD s (headsBefore c n k) 0) 2))
+      go : (b : Bool)
+          → bound c n k ≡ b
+          → (h : Bool)
+          → head c n k ≡ h
+          → lineValue f (cut c n) s vs k ≡ f k 0 (choose b (choose (isInput c k) (getD p (inputsBefore c k) 0) (gateOf (kindAt c k) (sees vs k b h))) (freeValue k h))
       go true e h g =
           let no : isInput c k ≡ false = ne-eqb (kindAt c k) 0 (bound-gate well k l e) in
           ap (f k 0)

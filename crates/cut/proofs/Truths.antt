@@ -69,7 +69,9 @@ module _ {c : List ℕ} {m n : ℕ} (well : WellFormed c m n) (x : Vector) (t : 
 
   inner-good : (k : ℕ) → k < n → bound c n k ≡ false → inner k ≡ truthAt good c x n k
   unfolding lineTruth gateTruth
-  inner-good = each-below (λ k. bound c n k ≡ false → inner k ≡ truthAt good c x n k) n (λ k l below free. go k l below free (isInput c k) refl ∙ sym (grow-at (lineTruth good c x) false n k l))
+  inner-good =
+      each-below (λ k. bound c n k ≡ false → inner k ≡ truthAt good c x n k) n
+      (λ k l below free. go k l below free (isInput c k) refl ∙ sym (grow-at (lineTruth good c x) false n k l))
     where
       go : (k : ℕ)
           → k < n
@@ -77,7 +79,7 @@ module _ {c : List ℕ} {m n : ℕ} (well : WellFormed c m n) (x : Vector) (t : 
           → bound c n k ≡ false
           → (b : Bool)
           → isInput c k ≡ b
-          → choose b (x (inputsBefore c k)) (boolGate (kindAt c k) (λ s. t k s (getD (truthsTo t c x k) (pinAt c k s) false))) ≡ choose b (x (inputsBefore c k)) (boolGate (kindAt c k) (λ s. getD (truthsTo good c x k) (pinAt c k s) false))
+          → choose b (x (inputsBefore c k)) (gateTruth t c (truthsTo t c x k) k) ≡ choose b (x (inputsBefore c k)) (gateTruth good c (truthsTo good c x k) k)
       go k l below free true e = refl
       go k l below free false e =
           let some : kindAt c k ≡ 0 → ⊥ = eqb-false (kindAt c k) 0 e in

@@ -91,5 +91,9 @@ module _ {c marks : List ℕ} {lines : ℕ} {fault : Fault} {n test room : ℕ} 
   pub cut-run-ready : {s : Node} → s ≡ start (headsOf c n) → RunCutReady c marks lines fault s n test room
   cut-run-ready e = record { ready = p .ready; node = rw e (start-is (headsOf c n)); lines-size = p .lines-size }
 
-pub done-of : {fault : Fault} {c : List ℕ} {n : ℕ} {s s₂ : Node} {b : ℕ} {t w : List ℕ} {r : Verdict} {t′ w′ : List ℕ} → s ≡ s₂ → HeadRunDone fault c n s b t w r t′ w′ → HeadRunDone fault c n s₂ b t w r t′ w′
+-- what is left of an equal node
+pub done-of : {fault : Fault} {c : List ℕ} {n : ℕ} {s s₂ : Node} {b : ℕ} {t w : List ℕ} {r : Verdict} {t′ w′ : List ℕ}
+    → s ≡ s₂
+    → HeadRunDone fault c n s b t w r t′ w′
+    → HeadRunDone fault c n s₂ b t w r t′ w′
 done-of e p = rw (← e) p

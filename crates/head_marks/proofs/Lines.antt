@@ -27,7 +27,7 @@ use Rattle.heads.specs.Marks.{lineMark, Marked}
 use Rattle.heads.proofs.Pins.{pin-lower}
 use Rattle.heads.proofs.Forest.{bound-law}
 use Rattle.heads.proofs.Says.{head-is}
-use Rattle.head_marks.specs.Owed.{binds, markBy, MarkedBy, SourcesMarked, MarkedTo, MarkLineReady, MarkLineDone, MarkReady}
+use Rattle.head_marks.specs.Owed.{binds, markBy, MarkedBy, SourcesMarked, boundYet, readYet, MarkedTo, MarkLineReady, MarkLineDone, MarkReady}
 use Rattle.head_marks.proofs.Pins.{marked-as}
 
 -- 2 is for bound lines
@@ -52,19 +52,26 @@ module _ {c reads : List ℕ} {k n : ℕ} (p : MarkLineReady c reads k n) (marks
       rw (
         counted-branches c (p .counted) (pinAt c k (suc i)) in-range,
         so .are (pinAt c k (suc i)) in-range,
-        is-two (ltb (pinAt c k (suc i)) k && bound c n (pinAt c k (suc i))) (anyBelow k (λ i₁. bound c n i₁ && somePin c i₁ (λ q. eqb q (pinAt c k (suc i))))),
+        is-two (boundYet c n k (pinAt c k (suc i))) (readYet c n k (pinAt c k (suc i))),
         lt-ltb (pinAt c k (suc i)) k low,
       ))
       ∙ sym (bound-law (p .well) k (p .line))
 
-  pub bound-marked : {b : Bool} {marks′ : List ℕ} → n ≡ length marks → b ≡ somePin c k (binds reads marks) → b ≡ true → SourcesMarked c k (set marks k 2) marks′ → MarkedTo c n (suc k) marks′
+  pub bound-marked : {b : Bool} {marks′ : List ℕ}
+      → n ≡ length marks
+      → b ≡ somePin c k (binds reads marks)
+      → b ≡ true
+      → SourcesMarked c k (set marks k 2) marks′
+      → MarkedTo c n (suc k) marks′
   bound-marked {b} {marks′} size says t q =
       let e : bound c n k ≡ true = sym turn ∙ sym says ∙ t in
-      let all : MarkedBy n (λ j. ltb j (suc k) && bound c n j) (λ j. anyBelow k (λ i. bound c n i && somePin c i (λ x. eqb x j)) || somePin c k (λ i. eqb i j)) marks′ =
-      (rw (length-set marks k 2, ← size) at q) (λ j. ltb j (suc k) && bound c n j) (λ j. anyBelow k (λ i. bound c n i && somePin c i (λ x. eqb x j))) (record { long = length-set marks k 2 ∙ so .long; are = λ j l. go e j l (ℕ-discrete j k) }) in
-      marked-as (λ j. rw e) all
+      let itself : MarkedBy n (boundYet c n (suc k)) (readYet c n k) (set marks k 2) =
+      record { long = length-set marks k 2 ∙ so .long; are = λ j l. go e j l (ℕ-discrete j k) } in
+      let sources : MarkedBy n (boundYet c n (suc k)) (λ j. readYet c n k j || somePin c k (λ i. eqb i j)) marks′ =
+      (rw (length-set marks k 2, ← size) at q) (boundYet c n (suc k)) (readYet c n k) itself in
+      marked-as (λ j. rw e) sources
     where
-      go : bound c n k ≡ true → (j : ℕ) → j < n → Dec (j ≡ k) → getD (set marks k 2) j 0 ≡ markBy (ltb j (suc k) && bound c n j) (anyBelow k (λ i. bound c n i && somePin c i (λ x. eqb x j)))
+      go : bound c n k ≡ true → (j : ℕ) → j < n → Dec (j ≡ k) → getD (set marks k 2) j 0 ≡ markBy (boundYet c n (suc k) j) (readYet c n k j)
       go e j l (yes q) = rw (q, lt-ltb k (suc k) (le-refl _), e) (getD-set-same marks k 2 0 (omega (arith, p .line)))
       go e j l (no d) = getD-set-other marks k j 2 0 d ∙ so .are j l ∙ rw (turn-other j k d)
 
@@ -73,7 +80,10 @@ module _ {c reads : List ℕ} {k n : ℕ} (p : MarkLineReady c reads k n) (marks
       let e : bound c n k ≡ false = sym turn ∙ sym says ∙ t in
       record { long = so .long; are = λ j l. so .are j l ∙ go e j (ℕ-discrete j k) }
     where
-      go : bound c n k ≡ false → (j : ℕ) → Dec (j ≡ k) → markBy (ltb j k && bound c n j) (anyBelow k (λ i. bound c n i && somePin c i (λ x. eqb x j))) ≡ markBy (ltb j (suc k) && bound c n j) (anyBelow (suc k) (λ i. bound c n i && somePin c i (λ x. eqb x j)))
+      go : bound c n k ≡ false
+          → (j : ℕ)
+          → Dec (j ≡ k)
+          → markBy (boundYet c n k j) (readYet c n k j) ≡ markBy (boundYet c n (suc k) j) (readYet c n (suc k) j)
       go e j (yes q) = rw (q, le-ltb k k (le-refl k), lt-ltb k (suc k) (le-refl _), e, or-false)
       go e j (no d) = rw (turn-other j k d, e, or-false)
 

@@ -41,9 +41,16 @@ PinMarked c k s = MarksMore (λ j. eqb (pinAt c k s) j)
 abbrev pub SourcesMarked : List ℕ → ℕ → List ℕ → List ℕ → Type 0
 SourcesMarked c k = MarksMore (λ j. somePin c k (λ i. eqb i j))
 
--- the marks once the lines below k had their turn
+-- once the lines below k had their turn: line j is one of them and bound; some bound one of them reads it
+abbrev pub boundYet : List ℕ → ℕ → ℕ → ℕ → Bool
+boundYet c n k j = ltb j k && bound c n j
+
+abbrev pub readYet : List ℕ → ℕ → ℕ → ℕ → Bool
+readYet c n k j = anyBelow k (λ i. bound c n i && somePin c i (λ q. eqb q j))
+
+-- the marks then
 abbrev pub MarkedTo : List ℕ → ℕ → ℕ → List ℕ → Type 0
-MarkedTo c n k = MarkedBy n (λ j. ltb j k && bound c n j) (λ j. anyBelow k (λ i. bound c n i && somePin c i (λ q. eqb q j)))
+MarkedTo c n k = MarkedBy n (boundYet c n k) (readYet c n k)
 
 pub record MarkLineReady (c reads : List ℕ) (k n : ℕ) : Type 0 where
   pub inputs : ℕ

@@ -96,7 +96,12 @@ module _ {c : List ℕ} {m n : ℕ} (well : WellFormed c m n) where
       le : countBelow b (root (suc b)) ≤ countBelow b (root b)
       le = count-le b (root (suc b)) (root b) (λ j _. root-before b j)
 
-      go : (i : Bool) → isInput c b ≡ i → (t : Bool) → bound c n b ≡ t → countBelow b (root b) ≤ countBelow b (isInput c) → countBelow b (root (suc b)) + one (root (suc b) b) ≤ countBelow b (isInput c) + one (isInput c b)
+      go : (i : Bool)
+          → isInput c b ≡ i
+          → (t : Bool)
+          → bound c n b ≡ t
+          → countBelow b (root b) ≤ countBelow b (isInput c)
+          → countBelow b (root (suc b)) + one (root (suc b) b) ≤ countBelow b (isInput c) + one (isInput c b)
       go true e t f ih = rw e (omega (arith, le, one-most (root (suc b) b)))
       go false e true f ih = rw (e, f) (omega (arith, le))
       go false e false f ih =

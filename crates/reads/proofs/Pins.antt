@@ -1,7 +1,7 @@
 -- How often a line is read, and the pins that read it: the numbers say what the words say.
 -- Assumes nothing.
 use mathlib.Core.Path.{_≡_}
-use mathlib.Core.Logic.{_⊎_, inl, inr, ⊎-elim}
+use mathlib.Core.Logic.{inl, inr, ⊎-elim}
 use mathlib.Core.List.{List}
 use Prim.Native.Nat.{ℕ, suc, _-_, _≤_, _<_}
 use native.Mathlib.Decide.{ℕ-discrete}
@@ -15,7 +15,7 @@ use Rattle.gates.specs.Gate.{pinsOf}
 use Rattle.circuit.specs.Record.{kindAt, pinAt}
 use Rattle.reads.specs.Reads.{sumBelow, readsBy, readsOf, branches}
 use Rattle.reads.specs.Words.{PinReads, Branches}
-use Rattle.reads.proofs.Sums.{sum-one, sum-two, sum-some, sum-branches, count-sum}
+use Rattle.reads.proofs.Sums.{sum-one, sum-two, sum-some, TwoBelow, sum-branches, count-sum}
 
 module _ (c : List ℕ) (n k : ℕ) where
   -- 1 for pin i of line j, counted from 0, if it reads k
@@ -57,7 +57,7 @@ module _ (c : List ℕ) (n k : ℕ) where
   two-by : {j : ℕ} → j < n → 2 ≤ readsBy c k j → Branches c n k
   two-by {j} l h = go (sum-branches (pinsOf (kindAt c j)) (pin j) (rw (← by-sum j) h))
     where
-      go : ((i : ℕ) × (i < pinsOf (kindAt c j)) × (2 ≤ pin j i)) ⊎ ((i : ℕ) × (p : ℕ) × (i < p) × (p < pinsOf (kindAt c j)) × (1 ≤ pin j i) × (1 ≤ pin j p)) → Branches c n k
+      go : TwoBelow (pinsOf (kindAt c j)) (pin j) → Branches c n k
       go (inl w) = absurd (omega (arith, one-most (eqb (pinAt c j (suc (w .0))) k), w .2))
       go (inr w) = record {
         j = j;
@@ -107,7 +107,7 @@ module _ (c : List ℕ) (n k : ℕ) where
   unfolding readsOf
   read-two h = go (sum-branches n (readsBy c k) h)
     where
-      go : ((j : ℕ) × (j < n) × (2 ≤ readsBy c k j)) ⊎ ((j : ℕ) × (i : ℕ) × (j < i) × (i < n) × (1 ≤ readsBy c k j) × (1 ≤ readsBy c k i)) → Branches c n k
+      go : TwoBelow n (readsBy c k) → Branches c n k
       go (inl w) = two-by (w .1) (w .2)
       go (inr w) =
           let r = some-by {j = w .0} (omega (arith, w .2, w .3)) (w .4) in

@@ -42,23 +42,24 @@ sum-some (suc n) f h = go (either 0 (f n)) (sum-some n f)
     go (inl l) ih = (n, omega arith, l)
     go (inr l) ih = let w = ih (omega arith) in (w .0, omega (arith, w .1), w .2)
 
--- where two or more are, either one place adds two or two places add something
-pub sum-branches : (n : ℕ) (f : ℕ → ℕ) → 2 ≤ sumBelow n f → ((i : ℕ) × (i < n) × (2 ≤ f i)) ⊎ ((i : ℕ) × (j : ℕ) × (i < j) × (j < n) × (1 ≤ f i) × (1 ≤ f j))
+-- one of n places adds two, or two of them add something
+abbrev pub TwoBelow : ℕ → (ℕ → ℕ) → Type 0
+TwoBelow n f = ((i : ℕ) × (i < n) × (2 ≤ f i)) ⊎ ((i : ℕ) × (j : ℕ) × (i < j) × (j < n) × (1 ≤ f i) × (1 ≤ f j))
+
+-- so it is where two or more are
+pub sum-branches : (n : ℕ) (f : ℕ → ℕ) → 2 ≤ sumBelow n f → TwoBelow n f
 unfolding sumBelow
 sum-branches zero f h = absurd (omega arith)
 sum-branches (suc n) f h = go (either 1 (f n)) (either 0 (f n)) (sum-branches n f)
   where
-    go : (1 < f n) ⊎ (f n ≤ 1)
-        → (0 < f n) ⊎ (f n ≤ 0)
-        → (2 ≤ sumBelow n f → ((i : ℕ) × (i < n) × (2 ≤ f i)) ⊎ ((i : ℕ) × (j : ℕ) × (i < j) × (j < n) × (1 ≤ f i) × (1 ≤ f j)))
-        → ((i : ℕ) × (i < suc n) × (2 ≤ f i)) ⊎ ((i : ℕ) × (j : ℕ) × (i < j) × (j < suc n) × (1 ≤ f i) × (1 ≤ f j))
+    wider : TwoBelow n f → TwoBelow (suc n) f
+    wider (inl w) = inl (w .0, omega (arith, w .1), w .2)
+    wider (inr w) = inr (w .0, w .1, w .2, omega (arith, w .3), w .4, w .5)
+
+    go : (1 < f n) ⊎ (f n ≤ 1) → (0 < f n) ⊎ (f n ≤ 0) → (2 ≤ sumBelow n f → TwoBelow n f) → TwoBelow (suc n) f
     go (inl l) m ih = inl (n, omega arith, l)
     go (inr l) (inl m) ih = let w = sum-some n f (omega arith) in inr (w .0, n, w .1, omega arith, w .2, m)
     go (inr l) (inr m) ih = wider (ih (omega arith))
-      where
-        wider : ((i : ℕ) × (i < n) × (2 ≤ f i)) ⊎ ((i : ℕ) × (j : ℕ) × (i < j) × (j < n) × (1 ≤ f i) × (1 ≤ f j)) → ((i : ℕ) × (i < suc n) × (2 ≤ f i)) ⊎ ((i : ℕ) × (j : ℕ) × (i < j) × (j < suc n) × (1 ≤ f i) × (1 ≤ f j))
-        wider (inl w) = inl (w .0, omega (arith, w .1), w .2)
-        wider (inr w) = inr (w .0, w .1, w .2, omega (arith, w .3), w .4, w .5)
 
 -- a count is a sum
 pub count-sum : (n : ℕ) (t : ℕ → Bool) → countBelow n t ≡ sumBelow n (λ k. one (t k))

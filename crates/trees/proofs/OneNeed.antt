@@ -52,24 +52,36 @@ module _ (k v : ℕ) (some : 1 ≤ k) (last : k ≤ lastKind) (known : v < 2) wh
             absurd (simp (z, o) at t)
 
     -- what is put has such a shape
-    shaped : (p : ℕ → ℕ) → Needs k v p → (u : ℕ) × (u < 2) × ((s : ℕ) → 1 ≤ s → s ≤ pinsOf k → p s ≡ shape k u s)
+    abbrev OfShape : (ℕ → ℕ) → Type 0
+    OfShape p = (u : ℕ) × (u < 2) × ((s : ℕ) → 1 ≤ s → s ≤ pinsOf k → p s ≡ shape k u s)
+
+    -- a kind below the selector has two pins at most
+    at-two : (p t : ℕ → ℕ) → k ≤ 8 → p 1 ≡ t 1 → p 2 ≡ t 2 → (s : ℕ) → 1 ≤ s → s ≤ pinsOf k → p s ≡ t s
+    at-two p t l first second s a b =
+        three (λ s. s ≤ 2 → p s ≡ t s) (λ _. first) (λ _. second) (λ z. absurd (omega arith)) s a (omega (arith, few-pins k)) (omega (arith, two-pins k (λ e. omega arith)))
+
+    shaped : (p : ℕ → ℕ) → Needs k v p → OfShape p
     unfolding shape
     shaped p n = ⊎-elim (λ l. pair (omega arith)) (λ l. ⊎-elim (λ m. second l (omega arith)) (λ m. chosen (omega arith)) (either k 9)) (either k 7)
       where
-        pair : k ≤ 6 → (u : ℕ) × (u < 2) × ((s : ℕ) → 1 ≤ s → s ≤ pinsOf k → p s ≡ choose (leb k 6) (atPins u u X) (choose (leb k 8) (atPins 0 u X) (atPins u X 0)) s)
+        pair : k ≤ 6 → OfShape p
         pair l =
             let b = n .both none (omega (arith, leb-false k 2 gate)) l in
-            (p 1, b .0, λ s x y. rw (le-leb k 6 l) (three (λ s. s ≤ 2 → p s ≡ atPins (p 1) (p 1) X s) (λ _. refl) (λ _. b .1) (λ z. absurd (omega arith)) s x (omega (arith, few-pins k)) (omega (arith, two-pins k (λ e. omega arith)))))
+            (p 1, b .0, rw (le-leb k 6 l) (at-two p (atPins (p 1) (p 1) X) (omega arith) refl (b .1)))
 
-        second : 7 ≤ k → k ≤ 8 → (u : ℕ) × (u < 2) × ((s : ℕ) → 1 ≤ s → s ≤ pinsOf k → p s ≡ choose (leb k 6) (atPins u u X) (choose (leb k 8) (atPins 0 u X) (atPins u X 0)) s)
+        second : 7 ≤ k → k ≤ 8 → OfShape p
         second l m =
             let b = n .differs (⊎-elim (λ h. inl (omega arith)) (λ h. inr (omega arith)) (either k 8)) in
-            (p 2, b .1, λ s x y. rw (lt-leb k 6 l, le-leb k 8 m) (three (λ s. s ≤ 2 → p s ≡ atPins 0 (p 2) X s) (λ _. b .0) (λ _. refl) (λ z. absurd (omega arith)) s x (omega (arith, few-pins k)) (omega (arith, two-pins k (λ e. omega arith)))))
+            (p 2, b .1, rw (lt-leb k 6 l, le-leb k 8 m) (at-two p (atPins 0 (p 2) X) m (b .0) refl))
 
-        chosen : k ≡ 9 → (u : ℕ) × (u < 2) × ((s : ℕ) → 1 ≤ s → s ≤ pinsOf k → p s ≡ choose (leb k 6) (atPins u u X) (choose (leb k 8) (atPins 0 u X) (atPins u X 0)) s)
+        chosen : k ≡ 9 → OfShape p
         chosen e =
-            let b = n .chooses e in
-            (p 1, b .1, λ s x y. rw (lt-leb k 6 (omega arith), lt-leb k 8 (omega arith)) (three (λ s. p s ≡ atPins (p 1) X 0 s) refl (b .2) (b .0) s x (omega (arith, few-pins k))))
+            let b = n .chooses e in (
+              p 1,
+              b .1,
+              rw (lt-leb k 6 (omega arith), lt-leb k 8 (omega arith))
+                  (λ s x y. three (λ s. p s ≡ atPins (p 1) X 0 s) refl (b .2) (b .0) s x (omega (arith, few-pins k))),
+            )
 
     unforced-one : (p q : ℕ → ℕ) → Needs k v p → Needs k v q → (s : ℕ) → 1 ≤ s → s ≤ pinsOf k → p s ≡ q s
     unfolding oneTest
