@@ -23,7 +23,7 @@ use Rattle.simulate.specs.Boolean.{Vector, Truths, good, faulty, gateTru
 use Rattle.simulate.specs.Vectors.{Fills}
 use Rattle.simulate.specs.Work.{goodOf, faultyOf}
 use Rattle.simulate.proofs.Mono.{Monotone, unforced-mono, stuck-mono}
-use Rattle.simulate.proofs.Truths.{Alike, good-alike, faulty-alike}
+use Rattle.simulate.proofs.Alike.{Alike, good-alike, faulty-alike}
 
 module _ (c p : List ℕ) (n : ℕ) (inputs : inputsBefore c n ≡ length p) (x : Vector) (fills : Fills p x) where
   module _ (f : Forcing) (t : Truths) (mono : Monotone f) (alike : Alike f t) where

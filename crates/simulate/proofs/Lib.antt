@@ -7,8 +7,9 @@ pub mod Below
 pub mod Halves
 pub mod Work
 pub mod Mono
+pub mod Alike
 pub mod Known
-pub mod Truths
 pub mod Fillings
+pub mod Truths
 pub mod Sites
 pub mod Unused
