@@ -35,3 +35,7 @@ four-numbers a b c d {e} w n p q r s =
     let r' : d ≡ x3 ++ drop 24 a = r ∙ rw q' (next-number x2 a 16 (w .third) m2 (omega arith)) in
     let s' : e ≡ areaOf w ++ drop 32 a = s ∙ rw r' (next-number x3 a 24 (w .fourth) m3 (omega arith)) in
     s' ∙ rw (drop-of-length-le a {i = 32} (omega arith), append-nil)
+
+pub area-length : (w : Four) → length (areaOf w) ≡ 32
+unfolding areaOf
+area-length w = simp (length-append, le-length)

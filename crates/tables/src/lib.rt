@@ -12,7 +12,7 @@ pub const FAIL: u8 = 1;
 
 pub const UNKNOWN: u8 = 2;
 
-fn in_range(n: u64) -> bool
+pub fn in_range(n: u64) -> bool
     ensures { λ r. ⌜ r ≡ inRange n ⌝ }
 {
     if n < 1 {

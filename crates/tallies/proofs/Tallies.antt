@@ -5,13 +5,14 @@ use mathlib.Core.Bool.{Bool, true, false, _&&_, and-false}
 use mathlib.Core.List.{List}
 use Prim.Native.Nat.{ℕ, _+_, _*_, _≤_, _<_}
 use native.Mathlib.Decide.{ℕ-discrete, decLt}
-use native.Mathlib.Nat.{suc-mul, mul-comm, mul-le-mul-right}
+use native.Mathlib.Nat.{mul-comm}
 use native.Mathlib.Omega.{arith}
 use lib.Dec.{ltb}
 use lib.ListN.{length, replicate, length-replicate}
 use borrow.Author.Tests.{lt-ltb, le-ltb}
 use Rattle.ground.proofs.Filled.{filled-at}
 use Rattle.tables.specs.Table.{Sized}
+use Rattle.tables.proofs.Rows.{row-inside}
 use Rattle.needs.specs.Needs.{Patterns}
 use Rattle.counts.specs.Counted.{hit, Counted, Seen}
 use Rattle.counts.specs.Owed.{CellsDone, RowRoom, CellsRoom, SeeDone, Notes}
@@ -21,9 +22,6 @@ use Rattle.tallies.specs.Tally.{Tallied}
 use Rattle.tallies.specs.Owed.{TallyRoom, Zeros, Cleared, PatternDone}
 
 -- ---- a pattern's row of the table
-
-pub row-inside : (p P F : ℕ) → p < P → p * F + F ≤ P * F
-row-inside p P F l = rw (← suc-mul p F) (mul-le-mul-right F l)
 
 pub row-cells : {c s t : List ℕ} {F P : ℕ} → TallyRoom c s t F P → (p : ℕ) → p < P → CellsRoom c t (p * F) F
 row-cells {c} {s} {t} {F} {P} z p l = record { few = z .few-faults; cells = z .cells; entries = omega (arith, row-inside p P F l, z .table) }

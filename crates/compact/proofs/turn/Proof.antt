@@ -1,7 +1,8 @@
 -- `compact::turn` meets its contract: by the counts, which decide as the definition does.
 -- Assumes nothing.
 use native.Mathlib.Omega.{arith}
-use Rattle.tallies.proofs.Tallies.{row-inside, row-cells, row-notes}
+use Rattle.tables.proofs.Rows.{row-inside}
+use Rattle.tallies.proofs.Tallies.{row-cells, row-notes}
 use Rattle.compact.proofs.Turns.{stays, goes}
 use borrow.Author.Needs.{needs}
 use Rattle.compact.proofs.turn.Statement.{statement}

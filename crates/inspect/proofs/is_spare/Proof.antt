@@ -2,7 +2,8 @@
 -- Assumes nothing.
 use native.Mathlib.Omega.{arith}
 use borrow.Author.Needs.{needs}
-use Rattle.tallies.proofs.Tallies.{row-inside, row-cells, row-notes}
+use Rattle.tables.proofs.Rows.{row-inside}
+use Rattle.tallies.proofs.Tallies.{row-cells, row-notes}
 use Rattle.inspect.proofs.Spare.{dropped-spare, kept-spare}
 use Rattle.inspect.proofs.is_spare.Statement.{statement}
 use Rattle.inspect.proofs.is_spare.Tie as tie

@@ -4,7 +4,8 @@ use Prim.Native.Nat.{_-_}
 use native.Mathlib.Omega.{arith}
 use borrow.Author.Needs.{needs}
 use Rattle.tallies.specs.Tally.{withMark}
-use Rattle.tallies.proofs.Tallies.{row-inside, row-cells, row-faults, room-after, TalliedTo, none-tallied, one-tallied, all-tallied}
+use Rattle.tables.proofs.Rows.{row-inside}
+use Rattle.tallies.proofs.Tallies.{row-cells, row-faults, room-after, TalliedTo, none-tallied, one-tallied, all-tallied}
 use Rattle.tallies.proofs.tally.Statement.{statement}
 use Rattle.tallies.proofs.tally.Tie as tie
 
