@@ -1,0 +1,4 @@
+pub mod Reports
+pub mod Words
+pub mod Marks
+pub mod Owed
