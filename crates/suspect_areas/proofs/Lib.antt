@@ -1,0 +1,4 @@
+pub mod Bytes
+pub mod Held
+pub mod Says
+pub mod Promise
