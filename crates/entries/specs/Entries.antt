@@ -2,10 +2,12 @@
 -- With an answer area of another size than 32 bytes nothing is written at all (`entered`).
 -- Assumes nothing.
 use mathlib.Core.Path.{_≡_}
+use mathlib.Core.Bool.{not}
 use mathlib.Core.List.{List}
 use Prim.Native.Nat.{ℕ}
 use lib.IntN.{ℤ}
-use lib.ListN.{length}
+use lib.Dec.{eqb}
+use lib.ListN.{length, take}
 use Rattle.answers.specs.Rules.{Rule, refusal, unless}
 use Rattle.answers.specs.Area.{Numbers, success, told, done, Entered, entered}
 use Rattle.circuit.specs.Record.{linesOf, inputsOf, outputsOf}
@@ -18,6 +20,10 @@ use Rattle.tables.specs.Marks.{keptRules}
 use Rattle.lists.specs.Faults.{faultAt}
 use Rattle.needs.specs.Needs as needs
 use Rattle.findings.specs.Findings.{findingOf, findingNumbers}
+use Rattle.reports.specs.Reports.{reportOf}
+use Rattle.suspects.specs.Promise.{openState, narrowedState}
+use Rattle.suspect_areas.specs.Bytes.{bytesOf, stateIn}
+use Rattle.suspect_areas.specs.Promise.{openAreaRules, reportAreaRules, marksAreaRules}
 use Rattle.nodes.specs.declared.Verdict.{Verdict}
 use Rattle.search.specs.Promise.{searchRules, verdictFor, testFor, workFor, verdictNumbers}
 use Rattle.search_heads.specs.Promise.{headVerdictFor, headTestFor, headWorkFor}
@@ -62,6 +68,22 @@ CompactEntered F P t m a r m′ a′ = LentEntered (keptRules F P t m) done m (n
 -- the audit of a kept list, of the table t and the marks m: the finding and its place
 abbrev pub auditNumbers : ℕ → ℕ → List ℕ → List ℕ → Numbers
 auditNumbers F P t m = told (refusal (keptRules F P t m)) (findingNumbers (findingOf (entriesOf F t) F P m))
+
+-- opening a state of suspects, and reporting to it, where 0 says that the pattern passed: faults remaining; the state s
+abbrev pub SuspectsOpenEntered : ℕ → ℕ → List ℕ → List ℕ → List ℕ → ℕ → List ℕ → List ℕ → Type 0
+SuspectsOpenEntered F P t s a r s′ a′ = LentEntered (openAreaRules s F P t) (success F 0 0) s (bytesOf (openState F P)) a r s′ a′
+
+abbrev pub SuspectsReportEntered : ℕ → ℕ → List ℕ → ℕ → ℕ → List ℕ → List ℕ → ℕ → List ℕ → List ℕ → Type 0
+SuspectsReportEntered F P t p failed s a r s′ a′ =
+    let q = reportOf F P t p (not (eqb failed 0)) in
+    let new = narrowedState (stateIn s) q in
+    LentEntered (reportAreaRules s q) (success (new .remaining) 0 0) s (bytesOf new) a r s′ a′
+
+-- the marks m of the state s: faults remaining, faults, patterns
+abbrev pub SuspectsMarksEntered : List ℕ → List ℕ → List ℕ → ℕ → List ℕ → List ℕ → Type 0
+SuspectsMarksEntered s m a r m′ a′ =
+    LentEntered (marksAreaRules s m) (success (stateIn s .remaining) (stateIn s .faults) (stateIn s .patterns))
+    m (take (stateIn s .faults) (stateIn s .marks)) a r m′ a′
 
 -- a search for one fault: outcome and nodes; the test buffer t and the work memory w, lent with the answer area a, become t′ and w′, which are to hold
 -- `test` and `work`

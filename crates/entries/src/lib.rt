@@ -12,6 +12,8 @@ use replies::AREA;
 use replies::OTHER_SIZE;
 use replies::of_audited;
 use replies::of_checked;
+use replies::of_marked;
+use replies::of_narrowed;
 use replies::of_read;
 use replies::of_ruling;
 use replies::of_searched;
@@ -20,8 +22,11 @@ use replies::report;
 use search::search;
 use search_all::search_all;
 use search_heads::search_heads;
+use suspect_areas::open_area;
+use suspect_areas::read_marks;
+use suspect_areas::report_area;
 ghost use Rattle.answers.specs.Area.{Entered};
-ghost use Rattle.entries.specs.Entries.{checkNumbers, auditNumbers, DictionaryEntered, DictionaryLanesEntered, CompactEntered, SearchEntered, SearchHeadsEntered, SearchAllEntered, ClausesEntered, BenchEntered, BenchNamesEntered};
+ghost use Rattle.entries.specs.Entries.{checkNumbers, auditNumbers, DictionaryEntered, DictionaryLanesEntered, CompactEntered, SuspectsOpenEntered, SuspectsReportEntered, SuspectsMarksEntered, SearchEntered, SearchHeadsEntered, SearchAllEntered, ClausesEntered, BenchEntered, BenchNamesEntered};
 
 #[no_mangle]
 pub extern "C" fn ullimaqsu_check(circuit: &[u8], answer: &mut [u8]) -> u32
@@ -100,6 +105,67 @@ pub extern "C" fn ullimaqsu_audit(
 {
     let v = audit(fault_count, pattern_count, table, marks);
     report(of_audited(v), answer)
+}
+
+#[no_mangle]
+pub extern "C" fn ullimaqsu_suspects_open(
+    fault_count: u64,
+    pattern_count: u64,
+    table: &[u8],
+    state: &mut [u8],
+    answer: &mut [u8],
+) -> u32
+    ensures { λ r. ⌜ SuspectsOpenEntered «fault_count» «pattern_count» (now (table .entry)) (now (state .entry)) (now (answer .entry))
+        r (now (state .exit)) (now (answer .exit)) ⌝ }
+{
+    if answer.len() != AREA {
+        return OTHER_SIZE;
+    }
+    let v = open_area(fault_count, pattern_count, table, state);
+    report(of_narrowed(v), answer)
+}
+
+#[no_mangle]
+pub extern "C" fn ullimaqsu_suspects_report(
+    fault_count: u64,
+    pattern_count: u64,
+    table: &[u8],
+    pattern: u64,
+    failed: u64,
+    state: &mut [u8],
+    answer: &mut [u8],
+) -> u32
+    ensures { λ r. ⌜ SuspectsReportEntered «fault_count» «pattern_count» (now (table .entry)) pattern failed (now (state .entry)) (now (answer .entry))
+        r (now (state .exit)) (now (answer .exit)) ⌝ }
+{
+    if answer.len() != AREA {
+        return OTHER_SIZE;
+    }
+    let v = report_area(
+        fault_count,
+        pattern_count,
+        table,
+        pattern,
+        failed != 0,
+        state,
+    );
+    report(of_narrowed(v), answer)
+}
+
+#[no_mangle]
+pub extern "C" fn ullimaqsu_suspects_marks(
+    state: &[u8],
+    marks: &mut [u8],
+    answer: &mut [u8],
+) -> u32
+    ensures { λ r. ⌜ SuspectsMarksEntered (now (state .entry)) (now (marks .entry)) (now (answer .entry))
+        r (now (marks .exit)) (now (answer .exit)) ⌝ }
+{
+    if answer.len() != AREA {
+        return OTHER_SIZE;
+    }
+    let v = read_marks(state, marks);
+    report(of_marked(v), answer)
 }
 
 #[no_mangle]

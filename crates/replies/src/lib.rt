@@ -8,12 +8,16 @@ use findings::Finding;
 use nets::Read;
 use nodes::Verdict;
 use search::Searched;
+use suspect_areas::Marked;
+use suspects::Narrowed;
 ghost use mathlib.Core.Path.{_≡_};
 ghost use Rattle.answers.specs.Area.{refusedAt, told, done, Entered};
 ghost use Rattle.answers.specs.Area as answering;
 ghost use Rattle.circuit.specs.Promise.{checkedNumbers};
 ghost use Rattle.findings.specs.Findings.{findingNumbers};
 ghost use Rattle.audit.specs.Promise.{auditedNumbers};
+ghost use Rattle.suspects.specs.Promise.{narrowedNumbers};
+ghost use Rattle.suspect_areas.specs.Promise.{markedNumbers};
 ghost use Rattle.search.specs.Promise.{verdictNumbers, searchedNumbers};
 ghost use Rattle.clauses.specs.Promise.{writtenNumbers};
 ghost use Rattle.bench.specs.Promise.{readNumbers};
@@ -111,6 +115,24 @@ pub fn of_searched(v: Searched) -> Reply
     match v {
         Searched::Verdict(found) => of_verdict(found),
         Searched::Refused(number, place) => refused(number, place),
+    }
+}
+
+pub fn of_narrowed(v: Narrowed) -> Reply
+    ensures { λ r. ⌜ numbersIn r ≡ narrowedNumbers v ⌝ }
+{
+    match v {
+        Narrowed::Remaining(faults) => success(faults, 0, 0),
+        Narrowed::Refused(number, place) => refused(number, place),
+    }
+}
+
+pub fn of_marked(v: Marked) -> Reply
+    ensures { λ r. ⌜ numbersIn r ≡ markedNumbers v ⌝ }
+{
+    match v {
+        Marked::Marks(remaining, faults, patterns) => success(remaining, faults, patterns),
+        Marked::Refused(number, place) => refused(number, place),
     }
 }
 
