@@ -153,11 +153,7 @@ pub extern "C" fn ullimaqsu_suspects_report(
 }
 
 #[no_mangle]
-pub extern "C" fn ullimaqsu_suspects_marks(
-    state: &[u8],
-    marks: &mut [u8],
-    answer: &mut [u8],
-) -> u32
+pub extern "C" fn ullimaqsu_suspects_marks(state: &[u8], marks: &mut [u8], answer: &mut [u8]) -> u32
     ensures { λ r. ⌜ SuspectsMarksEntered (now (state .entry)) (now (marks .entry)) (now (answer .entry))
         r (now (marks .exit)) (now (answer .exit)) ⌝ }
 {
