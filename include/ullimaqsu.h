@@ -38,6 +38,14 @@
  *   A table has one row for each pattern and, in the row, one byte for each fault, an entry: pass, fail or unknown. A tester compares the
  *   outputs whose good value under the pattern is known; the others are masked.
  *
+ * State of suspects
+ *
+ *   The faults of a table that remain after what a tester has reported. No entry keeps it: C lends it, an area of exactly ULLIMAQSU_SUSPECTS
+ *   bytes, of any content before it is opened. Opening and reports write every byte of it:
+ *       bytes 0-7     faults, bytes 8-15 patterns, bytes 16-23 faults times patterns, bytes 24-31 faults remaining
+ *       bytes 32-287  256 marks, a byte each: 1 where the fault remains, 0 where it does not and from the number of faults on
+ *   It may be read, copied and kept. Bytes that are not so are those of no opened state, and any one byte that has changed is noticed.
+ *
  * Text in the bench notation
  *
  *   Up to 32,768 bytes. A line, ended by LF or by the text's end, has one statement or none, and after it may have a comment, from # to its
@@ -65,8 +73,9 @@ typedef __UINT64_TYPE__ uint64_t;
 #endif
 
 /* Refusals: name, number, what it says, and what its place counts ("" where the place is always 0). They are checked in this order, and the
-   first that applies is given, with the lowest place; but compactor and audit check 12 and 13 before the size of the marks, and both readers
-   of a bench text 14 to 16 first, then 1, 4 and 5 on the records that the text makes, then the size of the buffer.
+   first that applies is given, with the lowest place; but compactor and audit check 12 and 13 before the size of the marks, both readers
+   of a bench text 14 to 16 first, then 1, 4 and 5 on the records that the text makes, then the size of the buffer, and the entries of a state
+   of suspects the state's size first, then 22, then 12, 13 and 17, and the size of the marks last.
    No refusal has the number 3. It stood for no input, and past 2 there always is one: line 0, below which there is no line for a gate to read.
    2: the place is where, in the first line that breaks its layout, the first field begins that breaks its rule, also where only its second byte is
    wrong. Divided by 8 it gives the line, and what is left over is where that field begins in a record (ULLIMAQSU_FIELDS).
@@ -84,11 +93,13 @@ typedef __UINT64_TYPE__ uint64_t;
     each(ULLIMAQSU_PATTERN_BYTE,    9, "a pattern byte is above 2", "byte") \
     each(ULLIMAQSU_BUFFER_SIZE,    10, "a lent buffer has not its exact size", "") \
     each(ULLIMAQSU_NO_ROOM,        11, "the clauses do not fit the lent words", "words needed:") \
-    each(ULLIMAQSU_TABLE_SIZE,     12, "a count of faults or patterns is outside 1 to 256, or the table is not of their product", "") \
+    each(ULLIMAQSU_TABLE_SIZE,     12, "a count of faults or patterns is outside 1 to 256 or other than at opening, or the table is not of their product", "") \
     each(ULLIMAQSU_TABLE_BYTE,     13, "a table byte is above 2", "byte") \
     each(ULLIMAQSU_BENCH_SYNTAX,   14, "the text goes on or ends as no text in the bench notation does", "byte") \
     each(ULLIMAQSU_BENCH_NAME,     15, "a name is used and defined nowhere, or defined a second time", "byte") \
-    each(ULLIMAQSU_BENCH_CYCLE,    16, "a gate depends on itself, or on one that does", "gate")
+    each(ULLIMAQSU_BENCH_CYCLE,    16, "a gate depends on itself, or on one that does", "gate") \
+    each(ULLIMAQSU_NO_PATTERN,     17, "the number of the pattern is not below the number of patterns", "") \
+    each(ULLIMAQSU_NOT_OPENED,     22, "the state of suspects was never opened, or is damaged", "")
 
 /* The fields of a circuit record in layout order: the first byte in the record, the first of the kinds that have the field, its name, and what is
    wrong with a number at the place of refusal 2, where the line's kind has the field and where it lacks it. Fields from byte 2 on have two
@@ -145,6 +156,9 @@ enum ullimaqsu_kind {
     ULLIMAQSU_SELECTOR = 9
 };
 
+/* How many bytes a state of suspects has. */
+#define ULLIMAQSU_SUSPECTS 288
+
 #ifdef __cplusplus
 extern "C" {
 #endif
@@ -197,6 +211,33 @@ uint32_t ullimaqsu_audit(uint64_t fault_count, uint64_t pattern_count,
                          const uint8_t *table, size_t table_len,
                          const uint8_t *marks, size_t marks_len,
                          uint8_t *answer, size_t answer_len);
+
+/* Opens a state of suspects. Refusals 10 (state), 12, 13.
+   Every fault of the table remains, whatever the state held before.
+   Answer: the number of faults remaining, which are all. */
+uint32_t ullimaqsu_suspects_open(uint64_t fault_count, uint64_t pattern_count,
+                                 const uint8_t *table, size_t table_len,
+                                 uint8_t *state, size_t state_len,
+                                 uint8_t *answer, size_t answer_len);
+
+/* Reports to an opened state that a pattern failed or passed. Refusals 10 (state), 22, 12, 13, 17.
+   `failed` is 0 where it passed, and any other number where it failed. Faults whose entry of this pattern is pass where it failed, or fail where
+   it passed, remain no longer; unknown never counts against a fault. So a fault remains exactly if no pattern reported failed has its entry
+   pass and none reported passed has it fail. Reports may come in any order and repeat, and of such as contradict each other both are held. The
+   table is lent again for each, with the counts as at opening, and the entry that it has then counts. A fault never comes back.
+   Answer: the number of faults remaining, which are the marks set. */
+uint32_t ullimaqsu_suspects_report(uint64_t fault_count, uint64_t pattern_count,
+                                   const uint8_t *table, size_t table_len,
+                                   uint64_t pattern, uint64_t failed,
+                                   uint8_t *state, size_t state_len,
+                                   uint8_t *answer, size_t answer_len);
+
+/* The faults that remain in an opened state, which stays. Refusals 10 (state), 22, 10 (marks).
+   Marks, one byte for each fault as at opening: 1 remains, 0 does not.
+   Answer: the numbers of faults remaining, faults and patterns. */
+uint32_t ullimaqsu_suspects_marks(const uint8_t *state, size_t state_len,
+                                  uint8_t *marks, size_t marks_len,
+                                  uint8_t *answer, size_t answer_len);
 
 /* The test search, for one fault. Refusals 1, 2, 4 to 7 and 10. N is the number of lines, n of inputs.
    A node is a pattern; the first is all X. A node that fails is the test. One at which every output is known in both circuits and equal

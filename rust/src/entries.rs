@@ -18,6 +18,13 @@ macro_rules! entries {
                 fault_count: u64, pattern_count: u64, table: &[u8], marks: &mut [u8], answer: &mut [u8]
             );
             Audit = ullimaqsu_audit(fault_count: u64, pattern_count: u64, table: &[u8], marks: &[u8], answer: &mut [u8]);
+            SuspectsOpen = ullimaqsu_suspects_open(
+                fault_count: u64, pattern_count: u64, table: &[u8], state: &mut [u8], answer: &mut [u8]
+            );
+            SuspectsReport = ullimaqsu_suspects_report(
+                fault_count: u64, pattern_count: u64, table: &[u8], pattern: u64, failed: u64, state: &mut [u8], answer: &mut [u8]
+            );
+            SuspectsMarks = ullimaqsu_suspects_marks(state: &[u8], marks: &mut [u8], answer: &mut [u8]);
             Search = ullimaqsu_search(
                 circuit: &[u8], fault: &[u8], budget: u64, test: &mut [u8], work: &mut [u8], answer: &mut [u8]
             );

@@ -11,6 +11,7 @@ mod entries;
 mod field;
 pub mod raw;
 mod refusal;
+mod suspects;
 
 #[cfg(any(not(direct), test))]
 mod bridge;
@@ -19,6 +20,7 @@ mod direct;
 
 pub use field::BadField;
 pub use refusal::{refusals, Meaning, Refusal};
+pub use suspects::{Suspects, SUSPECTS};
 
 use raw::{enter, Call};
 use refusal::{answered, answered_of};

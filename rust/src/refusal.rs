@@ -59,12 +59,18 @@ impl fmt::Display for Refusal {
 
 impl error::Error for Refusal {}
 
-/// Reads the answer area of a call: the four numbers of its answer, or the refusal.
-pub(crate) fn answered(returned: u32, area: [u8; 32]) -> Result<[u64; 4], Refusal> {
+/// The four numbers that bytes begin with.
+pub(crate) fn numbers(bytes: &[u8]) -> [u64; 4] {
     let mut numbers = [0; 4];
-    for (number, bytes) in numbers.iter_mut().zip(area.chunks_exact(8)) {
+    for (number, bytes) in numbers.iter_mut().zip(bytes.chunks_exact(8)) {
         *number = u64::from_le_bytes(bytes.try_into().expect("eight bytes"));
     }
+    numbers
+}
+
+/// Reads the answer area of a call: the four numbers of its answer, or the refusal.
+pub(crate) fn answered(returned: u32, area: [u8; 32]) -> Result<[u64; 4], Refusal> {
+    let numbers = numbers(&area);
     match returned {
         0 => Ok(numbers),
         number => Err(Refusal::new(number, numbers[0])),
