@@ -18,11 +18,12 @@ fn read(name: &str) -> String {
     fs::read_to_string(root().join(name)).expect("a text")
 }
 
-/// The names of the header and their numbers: those of the table, and those that an enumeration spells out.
+/// The names of the header and their numbers: those of the table, and those that an enumeration or a definition spells out.
 fn names() -> BTreeMap<String, u64> {
     let header = read("include/ullimaqsu.h");
     let spelt = header.lines().filter_map(|line| {
-        let (name, number) = line.trim_start().split_once(" = ")?;
+        let defined = line.strip_prefix("#define ").and_then(|rest| rest.split_once(' '));
+        let (name, number) = defined.or_else(|| line.trim_start().split_once(" = "))?;
         let number = number.split(|letter: char| !letter.is_ascii_digit()).next()?;
         Some((name.strip_prefix("ULLIMAQSU_")?.to_string(), number.parse().ok()?))
     });
@@ -35,7 +36,7 @@ fn the_table_of_refusals() {
     let rows = read("include/ullimaqsu.h").lines().filter(|line| line.trim_start().starts_with("each(ULLIMAQSU_")).count();
     let all: Vec<Meaning> = refusals().collect();
     assert_eq!(all.len(), rows);
-    assert_eq!(all.iter().map(|meaning| meaning.number).collect::<Vec<_>>(), [1, 2, 4, 5, 6, 7, 8, 9, 10, 11, 12, 13, 14, 15, 16]);
+    assert_eq!(all.iter().map(|meaning| meaning.number).collect::<Vec<_>>(), [1, 2, 4, 5, 6, 7, 8, 9, 10, 11, 12, 13, 14, 15, 16, 17, 22]);
     for Meaning { name, says, counts, .. } in &all {
         assert!(name.starts_with("ULLIMAQSU_") && !name.contains(' ') && says.contains(' ') && !says.contains('"'), "{name}: {says}");
         assert!(counts.is_none_or(|counts| !counts.contains('"') && counts.trim() == counts), "{name}: {counts:?}");
@@ -76,7 +77,8 @@ fn numbers_elsewhere() {
         ("SELECTOR", circuits::SELECTOR),
     ];
     assert!(kinds.iter().all(|&(name, kind)| number(name) == kind.into()));
-    let named = 1 + refusals().count() + outcomes.len() + entries.len() + findings.len() + kinds.len();
+    assert_eq!(number("SUSPECTS"), ullimaqsu::SUSPECTS as u64);
+    let named = 2 + refusals().count() + outcomes.len() + entries.len() + findings.len() + kinds.len();
     assert_eq!((number("FINE"), names.len()), (0, named), "each name stands once, and no other number has one");
 }
 
