@@ -66,15 +66,21 @@ fn entry(byte: u8) -> Option<Entry> {
     [Entry::Pass, Entry::Fail, Entry::Unknown].into_iter().find(|&entry| entry as u8 == byte)
 }
 
-/// The rows of a table with which so many marks are lent. Refusals 12, 13, then 10.
-pub fn read(fault_count: u64, pattern_count: u64, table: &[u8], marks: usize) -> Result<Vec<Row>, Refusal> {
+/// The rows of a table. Refusals 12 and 13.
+pub fn rows(fault_count: u64, pattern_count: u64, table: &[u8]) -> Result<Vec<Row>, Refusal> {
     let sizes = 1..=256;
     ensure(sizes.contains(&fault_count) && sizes.contains(&pattern_count), 12)?;
     ensure(table.len() as u64 == fault_count * pattern_count, 12)?;
     let entries = table.iter().enumerate().map(|(place, &byte)| entry(byte).ok_or(refusal(13, place)));
     let entries = entries.collect::<Result<Vec<Entry>, _>>()?;
-    ensure(marks as u64 == pattern_count, 10)?;
     Ok(entries.chunks_exact(fault_count as usize).map(<[_]>::to_vec).collect())
+}
+
+/// The rows of a table with which so many marks are lent. Refusals 12, 13, then 10.
+pub fn read(fault_count: u64, pattern_count: u64, table: &[u8], marks: usize) -> Result<Vec<Row>, Refusal> {
+    let rows = rows(fault_count, pattern_count, table)?;
+    ensure(marks == rows.len(), 10)?;
+    Ok(rows)
 }
 
 /// The compactor, lent so many marks: 1 for kept, 0 for dropped.

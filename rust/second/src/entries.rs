@@ -1,6 +1,6 @@
 //! What the C entries return and leave behind.
 use crate::search_all::Lent;
-use crate::{Dictionary, Refusal, Searched, Slice, Written};
+use crate::{Dictionary, Refusal, Searched, Slice, Suspects, Written};
 
 /// What a caller in C sees: the number returned, the answer area, and the lent memory in order.
 #[derive(Clone, Debug, PartialEq, Eq)]
@@ -56,6 +56,27 @@ pub fn compact(fault_count: u64, pattern_count: u64, table: &[u8], marks: &[u8],
 pub fn audit(fault_count: u64, pattern_count: u64, table: &[u8], marks: &[u8], answer: &[u8]) -> Seen {
     let found = crate::audit(fault_count, pattern_count, table, marks);
     seen(answer, vec![], found.map(|finding| (finding.numbers(), vec![])))
+}
+
+pub fn suspects_open(fault_count: u64, pattern_count: u64, table: &[u8], state: &[u8], answer: &[u8]) -> Seen {
+    stood(state, answer, Suspects::open(fault_count, pattern_count, table, state.len()))
+}
+
+pub fn suspects_report(counts: [u64; 2], table: &[u8], pattern: u64, failed: u64, state: &[u8], answer: &[u8]) -> Seen {
+    stood(state, answer, Suspects::lent(state).and_then(|suspects| suspects.and(counts, table, pattern, failed)))
+}
+
+/// What an entry does that leaves suspects in the state.
+pub fn stood(state: &[u8], answer: &[u8], suspects: Result<Suspects, Refusal>) -> Seen {
+    seen(answer, vec![state.to_vec().into()], suspects.map(|suspects| (vec![suspects.remaining()], vec![suspects.area().into()])))
+}
+
+pub fn suspects_marks(state: &[u8], marks: &[u8], answer: &[u8]) -> Seen {
+    let marked = Suspects::lent(state).and_then(|suspects| {
+        let numbers = vec![suspects.remaining(), suspects.faults as u64, suspects.patterns as u64];
+        Ok((numbers, vec![suspects.marks(marks.len())?.into()]))
+    });
+    seen(answer, vec![marks.to_vec().into()], marked)
 }
 
 pub fn search(circuit: &[u8], fault: &[u8], budget: u64, test: &[u8], work: &[u8], answer: &[u8]) -> Seen {

@@ -20,6 +20,7 @@ pub mod search;
 pub mod search_all;
 pub mod search_heads;
 pub mod slice;
+pub mod suspects;
 pub mod values;
 
 pub use audit::{audit, Finding};
@@ -37,4 +38,5 @@ pub use search::{search, Look, Outcome, Search, Searched};
 pub use search_all::search_all;
 pub use search_heads::search_heads;
 pub use slice::Slice;
+pub use suspects::Suspects;
 pub use values::Value;
