@@ -1,5 +1,6 @@
 //! Ways to spoil what is accepted. One damage may hide another, or do nothing: the second program says what is then right.
 use crate::circuits::{record, sources, BUFFER, INPUT, SELECTOR};
+use crate::suspects::MARKS;
 use crate::texts::BYTES;
 use crate::Random;
 
@@ -103,7 +104,7 @@ pub fn files(random: &mut Random, [circuit, faults, patterns]: [&mut Vec<u8>; 3]
 }
 
 /// Another count, among them such as overflow when they are multiplied.
-fn count(random: &mut Random, right: u64) -> u64 {
+pub fn count(random: &mut Random, right: u64) -> u64 {
     random.pick(&[0, 256, 257, 1 << 32, 1 << 63, u64::MAX, right.wrapping_add(1), right.wrapping_sub(1), right.wrapping_add(1 << 32)])
 }
 
@@ -119,6 +120,29 @@ pub fn table(random: &mut Random, [faults, patterns]: [&mut u64; 2], [table, mar
         }
         5 => answer.resize(random.pick(&[0, 31, 33, 64]), 7),
         _ => marks.resize(size(random, marks.len()), 7),
+    }
+}
+
+/// Does one damage to a state of suspects: a byte is changed, in its numbers or in its marks; a number is another; a mark is turned, and the
+/// number remaining with it, which may make another state of it; or all is as before an opening.
+pub fn state(random: &mut Random, state: &mut Vec<u8>) {
+    if state.len() <= MARKS {
+        return;
+    }
+    match random.below(8) {
+        0..=1 => change(random, &mut state[..MARKS]),
+        2..=3 => change(random, &mut state[MARKS..]),
+        4..=5 => {
+            let bytes = &mut state[8 * random.below(4)..][..8];
+            let number = u64::from_le_bytes((&*bytes).try_into().expect("eight bytes"));
+            bytes.copy_from_slice(&count(random, number).to_le_bytes());
+        }
+        6 => {
+            let mark = MARKS + random.below(state.len() - MARKS);
+            state[mark] ^= 1;
+            state[24] = if state[mark] & 1 == 1 { state[24].wrapping_add(1) } else { state[24].wrapping_sub(1) };
+        }
+        _ => *state = random.junk(state.len()),
     }
 }
 

@@ -13,6 +13,7 @@ pub mod placed;
 mod random;
 pub mod said;
 pub mod selects;
+pub mod suspects;
 pub mod tables;
 mod tally;
 pub mod texts;

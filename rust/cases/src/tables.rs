@@ -54,10 +54,15 @@ pub fn every(len: u32) -> impl Iterator<Item = Vec<u8>> {
     (0..3usize.pow(len)).map(move |number| (0..len).map(|place| (number / 3usize.pow(place) % 3) as u8).collect())
 }
 
+/// So many marks, with few or many of them 1.
+pub fn sound_marks(random: &mut Random, count: usize) -> Vec<u8> {
+    let zeros = random.below(9);
+    (0..count).map(|_| u8::from(random.below(8) >= zeros)).collect()
+}
+
 /// Marks of so many patterns, with few or many of them kept; now and then one or several are neither 0 nor 1.
 pub fn marks(random: &mut Random, patterns: usize) -> Vec<u8> {
-    let dropped = random.below(9);
-    let mut marks: Vec<u8> = (0..patterns).map(|_| u8::from(random.below(8) >= dropped)).collect();
+    let mut marks = sound_marks(random, patterns);
     while random.once_in(6) {
         marks[random.below(patterns)] = random.pick(&[2, 3, 128, 255]);
     }
