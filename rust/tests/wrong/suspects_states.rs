@@ -80,12 +80,20 @@ fn mend_marks_beyond(state: &mut [u8]) {
     state[MARKS + faults..].fill(0);
 }
 
+/// What is marked behind the faults counts as remaining.
+fn mend_counted_beyond(state: &mut [u8]) {
+    let faults = number_of(state, 0).min(256) as usize;
+    let beyond = state[MARKS + faults..].iter().filter(|&&mark| mark == 1).count();
+    set_number_of(state, 3, number_of(state, 3).wrapping_sub(beyond as u64));
+    mend_marks_beyond(state);
+}
+
 fn mend_halves(state: &mut [u8]) {
     (0..4).for_each(|k| set_number_of(state, k, number_of(state, k) & 0xffff_ffff));
 }
 
 /// By what is looked at to tell an opened state.
-pub fn looks<C: OnState>() -> [Wrong<C>; 9] {
+pub fn looks<C: OnState>() -> [Wrong<C>; 10] {
     [
         ("never finds that a state was not opened", |case| {
             mending(case, |state| {
@@ -98,6 +106,7 @@ pub fn looks<C: OnState>() -> [Wrong<C>; 9] {
         ("does not look at the range of the counts", |case| mending(case, mend_counts)),
         ("takes for a mark whatever is not 0", |case| mending(case, mend_marks)),
         ("does not look at the marks of what is no fault", |case| mending(case, mend_marks_beyond)),
+        ("counts marks of what is no fault", |case| mending(case, mend_counted_beyond)),
         ("looks at the lower halves of the numbers", |case| mending(case, mend_halves)),
         ("finds a state of another size not opened", |case| {
             let size = case.clone().state().len();
