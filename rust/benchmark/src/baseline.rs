@@ -13,6 +13,7 @@ pub mod search;
 pub mod search_all;
 pub mod search_heads;
 mod simulate;
+pub mod suspects;
 
 /// Writes the numbers of an answer.
 fn report(returned: u32, numbers: [u64; 3], answer: &mut [u8; 32]) -> u32 {

@@ -90,7 +90,7 @@ fn chain_of_xors() -> Files {
 }
 
 pub fn rows() -> impl Iterator<Item = Row> {
-    let rows: [fn() -> Row; 25] = [
+    let rows: [fn() -> Row; 26] = [
         || parts::check("check: 2,048 lines", &files()),
         || parts::dictionary::<Branches>("dictionary: 2,048 lines, 256 faults, 256 patterns", &files()),
         || parts::dictionary::<Table>("the same beside Rust that looks gates up too", &files()),
@@ -100,6 +100,7 @@ pub fn rows() -> impl Iterator<Item = Row> {
         || parts::audit_beside_compactor("the same beside the proved compactor, not Rust", 256, &table()),
         || parts::audit("audit: 255 kept, each for its last pair", 256, &last_pairs(), &parts::compacted(256, &last_pairs())),
         || parts::audit_beside_compactor("the same beside the proved compactor, not Rust", 256, &last_pairs()),
+        || parts::report("suspects_report: 256 faults, 256 patterns", 256, &table()),
         || parts::search::<Branches>("search: 500 lines, 20 inputs, 100,000 nodes at most", &redundant(), 100_000),
         || parts::search::<Table>("the same beside Rust that looks gates up too", &redundant(), 100_000),
         || parts::search_heads::<Branches>("search_heads: the same over 20 trees, 60 inputs", &redundant_over_trees(), 100_000),

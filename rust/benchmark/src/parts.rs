@@ -160,6 +160,26 @@ pub fn audit_beside_compactor(name: &str, faults: usize, table: &[u8]) -> Row {
     row
 }
 
+/// A report to suspects that the last pattern failed. From the second round on no fault is left to be taken away, and all is gone through as in the
+/// first.
+pub fn report(name: &str, faults: usize, table: &[u8]) -> Row {
+    let (fault_count, pattern_count) = (faults as u64, (table.len() / faults) as u64);
+    let (pattern, failed) = (pattern_count - 1, 1);
+    let mut proved = ([0; ullimaqsu::SUSPECTS], [0; 32]);
+    assert_eq!(enter(Call::SuspectsOpen { fault_count, pattern_count, table, state: &mut proved.0, answer: &mut proved.1 }), 0, "sound");
+    let mut plain = proved;
+    let row = race(
+        name,
+        || {
+            let (state, answer) = &mut proved;
+            enter(Call::SuspectsReport { fault_count, pattern_count, table: black_box(table), pattern, failed, state, answer })
+        },
+        || baseline::suspects::enter([fault_count, pattern_count], black_box(table), pattern, failed, &mut plain.0, &mut plain.1),
+    );
+    assert_eq!(proved, plain);
+    row
+}
+
 /// A test buffer, a work memory and an answer.
 type Searched = (Vec<u8>, Vec<u8>, [u8; 32]);
 

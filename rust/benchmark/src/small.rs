@@ -22,7 +22,7 @@ type Part = fn(&str, &Files, &[u8]) -> Row;
 
 pub fn rows() -> impl Iterator<Item = Row> {
     let examples = [("example A", files("a"), A.to_vec()), ("c17", files("c17"), example("bench/c17.bench"))];
-    let parts: [Part; 10] = [
+    let parts: [Part; 11] = [
         |name, files, _| parts::check(&format!("check: {name}"), files),
         |name, files, _| parts::dictionary::<Branches>(&format!("dictionary: {name}"), files),
         |name, files, _| parts::compact(&format!("compactor: {name}"), files.fault_count(), &parts::table(files)),
@@ -30,6 +30,7 @@ pub fn rows() -> impl Iterator<Item = Row> {
             let (faults, table) = (files.fault_count(), parts::table(files));
             parts::audit(&format!("audit: {name}"), faults, &table, &parts::compacted(faults, &table))
         },
+        |name, files, _| parts::report(&format!("suspects_report: {name}"), files.fault_count(), &parts::table(files)),
         |name, files, _| parts::search::<Branches>(&format!("search: {name}"), files, u64::MAX),
         |name, files, _| parts::search_heads::<Branches>(&format!("search_heads: {name}"), files, u64::MAX),
         |name, files, _| parts::search_all::<Branches>(&format!("search_all: {name}"), files, u64::MAX),

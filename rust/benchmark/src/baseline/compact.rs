@@ -38,15 +38,21 @@ pub fn needed(counts: &[u8], seen: &[u8], row: &[u8]) -> bool {
         || (0..row.len()).any(|g| seen[g] == 1 && row[g] <= 1 && sole(&counts[ROW * g..ROW * g + g], 1 - row[g]))
 }
 
-/// The first thing that is wrong with a table and its marks.
-pub fn check(faults: u64, patterns: u64, table: &[u8], marks: &[u8]) -> Result<(), (u32, usize)> {
+/// The first thing that is wrong with a table.
+pub fn check_table(faults: u64, patterns: u64, table: &[u8]) -> Result<(), (u32, usize)> {
     let range = 1..=256;
     if !range.contains(&faults) || !range.contains(&patterns) || table.len() as u64 != faults * patterns {
         return Err((12, 0));
     }
-    if let Some(bad) = table.iter().position(|&entry| entry > 2) {
-        return Err((13, bad));
+    match table.iter().position(|&entry| entry > 2) {
+        Some(bad) => Err((13, bad)),
+        None => Ok(()),
     }
+}
+
+/// The first thing that is wrong with a table and its marks.
+pub fn check(faults: u64, patterns: u64, table: &[u8], marks: &[u8]) -> Result<(), (u32, usize)> {
+    check_table(faults, patterns, table)?;
     if marks.len() as u64 != patterns {
         return Err((10, 0));
     }
