@@ -212,7 +212,7 @@ uint32_t ullimaqsu_audit(uint64_t fault_count, uint64_t pattern_count,
                          const uint8_t *marks, size_t marks_len,
                          uint8_t *answer, size_t answer_len);
 
-/* Opens a state of suspects. Refusals 10 (state), 12, 13.
+/* Opens a state of suspects. Refusals 10 of the state, then 12, 13.
    Every fault of the table remains, whatever the state held before.
    Answer: the number of faults remaining, which are all. */
 uint32_t ullimaqsu_suspects_open(uint64_t fault_count, uint64_t pattern_count,
@@ -220,7 +220,7 @@ uint32_t ullimaqsu_suspects_open(uint64_t fault_count, uint64_t pattern_count,
                                  uint8_t *state, size_t state_len,
                                  uint8_t *answer, size_t answer_len);
 
-/* Reports to an opened state that a pattern failed or passed. Refusals 10 (state), 22, 12, 13, 17.
+/* Reports to an opened state that a pattern failed or passed. Refusals 10 of the state, then 22, 12, 13, 17.
    `failed` is 0 where it passed, and any other number where it failed. Faults whose entry of this pattern is pass where it failed, or fail where
    it passed, remain no longer; unknown never counts against a fault. So a fault remains exactly if no pattern reported failed has its entry
    pass and none reported passed has it fail. Reports may come in any order and repeat, and of such as contradict each other both are held. The
@@ -232,7 +232,7 @@ uint32_t ullimaqsu_suspects_report(uint64_t fault_count, uint64_t pattern_count,
                                    uint8_t *state, size_t state_len,
                                    uint8_t *answer, size_t answer_len);
 
-/* The faults that remain in an opened state, which stays. Refusals 10 (state), 22, 10 (marks).
+/* The faults that remain in an opened state, which stays. Refusals 10 of the state, then 22, then 10 of the marks.
    Marks, one byte for each fault as at opening: 1 remains, 0 does not.
    Answer: the numbers of faults remaining, faults and patterns. */
 uint32_t ullimaqsu_suspects_marks(const uint8_t *state, size_t state_len,

@@ -2,7 +2,8 @@
 //!
 //! Circuits are the bytes of their records, as `include/ullimaqsu.h` describes them; [`bench`] makes them of a text in the bench notation, and
 //! [`bench_names`] says what the text calls their lines. Every call takes any bytes; what is wrong with them comes back as a [`Refusal`].
-//! [`raw`] has the same entries with nothing interpreted.
+//! Calls keep nothing; what a tester's reports leave of the suspects is held by the caller, in [`Suspects`]. [`raw`] has the same entries with
+//! nothing interpreted.
 //!
 //! On x86-64 the archive is linked. Elsewhere each thread that calls starts the bridge, an x86-64 program under the kit's emulator:
 //! right for tests, and slow.

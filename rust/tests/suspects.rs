@@ -86,13 +86,21 @@ fn boundaries() {
     assert_eq!(compare("suspects, marks, boundaries", marks).seen(), [0]);
 }
 
-/// 256 by 256, of every density.
+/// 256 by 256, of every density: any reports; one on a pattern that is not there; and a bad byte, the last of the table or one where a row ends
+/// or begins.
 #[test]
 fn largest() {
     let mut random = Random::new(11);
-    let tables = DENSITIES.map(|density| of_density(&mut random, density, 256, 256));
-    let reports = tables.iter().flat_map(|table| [(); 20].map(|_| any_report(&mut random, 256, table.clone())));
-    assert_eq!(compare("suspects, 256 by 256", reports).seen(), [0]);
+    let mut all = vec![];
+    for density in DENSITIES {
+        let table = of_density(&mut random, density, 256, 256);
+        let case = any_report(&mut random, 256, table.clone());
+        let bad = |place: usize| SuspectsReport { table: [&table[..place], &[3], &table[place + 1..]].concat(), ..case.clone() };
+        all.extend([255, 256, 65_535].map(bad));
+        all.extend([255, 256].map(|pattern| SuspectsReport { pattern, ..case.clone() }));
+        all.extend([(); 20].map(|_| any_report(&mut random, 256, table.clone())));
+    }
+    assert_eq!(compare("suspects, 256 by 256", all.into_iter()).seen(), [0, 13, 17]);
 }
 
 /// Every size of the state, of the marks and of the answer area, one after the other.
