@@ -13,7 +13,7 @@ pub fn but_for<C: Case>(case: &C, change: impl FnOnce(&mut C)) -> Seen {
     other.second()
 }
 
-/// A refusal of this number that clears the state.
+/// A refusal of this number that clears what is lent first.
 pub fn clearing<C: Case>(case: &C, refused: u32) -> Seen {
     then(case, refused, |seen| seen.lent[0].u8().fill(0))
 }
@@ -93,7 +93,7 @@ fn mend_halves(state: &mut [u8]) {
 }
 
 /// By what is looked at to tell an opened state.
-pub fn looks<C: OnState>() -> [Wrong<C>; 10] {
+pub fn looks<C: OnState>() -> [Wrong<C>; 12] {
     [
         ("never finds that a state was not opened", |case| {
             mending(case, |state| {
@@ -108,6 +108,8 @@ pub fn looks<C: OnState>() -> [Wrong<C>; 10] {
         ("does not look at the marks of what is no fault", |case| mending(case, mend_marks_beyond)),
         ("counts marks of what is no fault", |case| mending(case, mend_counted_beyond)),
         ("looks at the lower halves of the numbers", |case| mending(case, mend_halves)),
+        ("clears what it is lent where it finds no opened state", |case| clearing(case, 22)),
+        ("clears what it is lent where it refuses a size", |case| clearing(case, 10)),
         ("finds a state of another size not opened", |case| {
             let size = case.clone().state().len();
             then(case, 10, |seen| {
