@@ -123,8 +123,8 @@ pub fn table(random: &mut Random, [faults, patterns]: [&mut u64; 2], [table, mar
     }
 }
 
-/// Does one damage to a state of suspects: a byte is changed, in its numbers or in its marks; a number is another; a mark is turned, and the
-/// number remaining with it, which may make another state of it; or all is as before an opening.
+/// Does one damage to a state of suspects: a byte is changed, in its numbers or in its marks; a number is another; a mark is another, and the
+/// number remaining by as much, which may make another state of it; or all is as before an opening.
 pub fn state(random: &mut Random, state: &mut Vec<u8>) {
     if state.len() <= MARKS {
         return;
@@ -133,17 +133,24 @@ pub fn state(random: &mut Random, state: &mut Vec<u8>) {
         0..=1 => change(random, &mut state[..MARKS]),
         2..=3 => change(random, &mut state[MARKS..]),
         4..=5 => {
-            let bytes = &mut state[8 * random.below(4)..][..8];
-            let number = u64::from_le_bytes((&*bytes).try_into().expect("eight bytes"));
-            bytes.copy_from_slice(&count(random, number).to_le_bytes());
+            let first = 8 * random.below(4);
+            change_number(state, first, |number| count(random, number));
         }
         6 => {
             let mark = MARKS + random.below(state.len() - MARKS);
-            state[mark] ^= 1;
-            state[24] = if state[mark] & 1 == 1 { state[24].wrapping_add(1) } else { state[24].wrapping_sub(1) };
+            let (old, new) = (state[mark], random.pick(&[0, 1, 2, 255]));
+            state[mark] = new;
+            change_number(state, MARKS - 8, |remaining| remaining.wrapping_add(new.into()).wrapping_sub(old.into()));
         }
         _ => *state = random.junk(state.len()),
     }
+}
+
+/// Changes the number whose first byte is this one.
+fn change_number(state: &mut [u8], first: usize, change: impl FnOnce(u64) -> u64) {
+    let bytes = &mut state[first..first + 8];
+    let number = u64::from_le_bytes((&*bytes).try_into().expect("eight bytes"));
+    bytes.copy_from_slice(&change(number).to_le_bytes());
 }
 
 /// Does one damage to a text: a byte is changed, taken out, put in or exchanged with the next; a piece is doubled; the end is cut off.

@@ -88,12 +88,21 @@ fn mend_counted_beyond(state: &mut [u8]) {
     mend_marks_beyond(state);
 }
 
+/// A mark counts as often as it says.
+fn mend_summed(state: &mut [u8]) {
+    let summed: u64 = state[MARKS..].iter().map(|&mark| u64::from(mark)).sum();
+    if summed == number_of(state, 3) {
+        mend_marks(state);
+        mend_number(state);
+    }
+}
+
 fn mend_halves(state: &mut [u8]) {
     (0..4).for_each(|k| set_number_of(state, k, number_of(state, k) & 0xffff_ffff));
 }
 
 /// By what is looked at to tell an opened state.
-pub fn looks<C: OnState>() -> [Wrong<C>; 12] {
+pub fn looks<C: OnState>() -> [Wrong<C>; 13] {
     [
         ("never finds that a state was not opened", |case| {
             mending(case, |state| {
@@ -106,6 +115,7 @@ pub fn looks<C: OnState>() -> [Wrong<C>; 12] {
         ("does not look at the range of the counts", |case| mending(case, mend_counts)),
         ("takes for a mark whatever is not 0", |case| mending(case, mend_marks)),
         ("does not look at the marks of what is no fault", |case| mending(case, mend_marks_beyond)),
+        ("takes marks above 1 that are counted by what they say", |case| mending(case, mend_summed)),
         ("counts marks of what is no fault", |case| mending(case, mend_counted_beyond)),
         ("looks at the lower halves of the numbers", |case| mending(case, mend_halves)),
         ("clears what it is lent where it finds no opened state", |case| clearing(case, 22)),
