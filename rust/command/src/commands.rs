@@ -8,6 +8,7 @@ mod dictionary;
 mod faults;
 mod narrow;
 mod search;
+mod suspects;
 mod values;
 
 use crate::help;
@@ -37,13 +38,14 @@ pub struct Command {
     pub run: fn(&Words, &mut Out) -> Result<(), Problem>,
 }
 
-const COMMANDS: [&Command; 10] = [
+const COMMANDS: [&Command; 11] = [
     &check::COMMAND,
     &faults::COMMAND,
     &search::COMMAND,
     &dictionary::COMMAND,
     &compact::COMMAND,
     &audit::COMMAND,
+    &suspects::COMMAND,
     &clauses::COMMAND,
     &values::COMMAND,
     &narrow::COMMAND,

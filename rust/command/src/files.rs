@@ -6,14 +6,19 @@ use std::path::Path;
 
 /// The first bytes of a file, at most so many: who asks for one more than a limit sees that the file goes on.
 pub fn read(path: &Path, most: usize) -> Result<Vec<u8>, Problem> {
+    let mut bytes = Vec::new();
+    open(path)?.take(most as u64).read_to_end(&mut bytes).map_err(|error| unreadable(path, error))?;
+    Ok(bytes)
+}
+
+/// A file that can be read.
+pub fn open(path: &Path) -> Result<File, Problem> {
     let unread = |error| unreadable(path, error);
     let file = File::open(path).map_err(unread)?;
-    if file.metadata().map_err(unread)?.is_dir() {
-        return Err(Problem::Stopped(format!("{} is a directory", shown(path))));
+    match file.metadata().map_err(unread)?.is_dir() {
+        true => Err(Problem::Stopped(format!("{} is a directory", shown(path)))),
+        false => Ok(file),
     }
-    let mut bytes = Vec::new();
-    file.take(most as u64).read_to_end(&mut bytes).map_err(unread)?;
-    Ok(bytes)
 }
 
 /// What opening or reading has met.

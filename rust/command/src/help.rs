@@ -1,9 +1,9 @@
 //! What `--help` and `--version` print.
 use crate::commands::Command;
+use crate::filled::filled;
 use crate::words::Choice;
 
-/// How wide a line of running text is at most, and the left column of a list.
-const WIDTH: usize = 80;
+/// How wide the left column of a list is.
 const LEFT: usize = 14;
 
 /// Which archive was linked, as whoever built the command says.
@@ -38,7 +38,8 @@ fault is NAME/0 or NAME/1, the line of that name stuck at 0 or 1; or at a pin of
 of a selector. A pattern has 0, 1 or X for each input, in the order of the lines. Files have one fault or one pattern a line; blanks and comments, from # to
 the end of the line, may stand in them.
 
-Status: 0, or 1 where what was given is refused, or 2 where the command line is not understood or something can't be read or written.";
+Status: 0, or 1 where what was given is refused, or 2 where the command line or a report of a tester is not understood or something can't be read
+or written.";
 
 /// One command: its usage, what it does, its options and an example.
 pub fn of(command: &Command) -> String {
@@ -63,20 +64,4 @@ fn row(left: &str, right: &str) -> String {
 fn paragraphs(text: &str) -> String {
     let paragraphs = text.split("\n\n").filter(|paragraph| !paragraph.is_empty());
     paragraphs.map(|paragraph| filled("", paragraph, 0)).collect::<Vec<_>>().join("\n")
-}
-
-/// Words behind a beginning, in lines of at most the width; each line but the first begins with so many blanks.
-fn filled(begin: &str, words: &str, indent: usize) -> String {
-    let (mut text, mut column, mut gap) = (begin.to_string(), begin.len(), "");
-    for word in words.split_whitespace() {
-        if column + gap.len() + word.len() > WIDTH {
-            text += &format!("\n{:indent$}", "");
-            (column, gap) = (indent, "");
-        }
-        text += gap;
-        text += word;
-        column += gap.len() + word.len();
-        gap = " ";
-    }
-    text + "\n"
 }

@@ -1,4 +1,4 @@
-//! Faults and patterns with their whole table, as compaction and audit take them.
+//! Faults and patterns with their whole table, as compaction, audit and the suspects take them.
 use crate::circuit::Circuit;
 use crate::commands::Command;
 use crate::entry::Entry;
@@ -29,8 +29,21 @@ impl Listed {
         Ok(Listed { circuit, faults, patterns, table })
     }
 
+    /// The marks of the patterns that compaction keeps.
+    pub fn marks(&self) -> Vec<u8> {
+        let mut marks = vec![0; self.patterns.len()];
+        ullimaqsu::compact(self.faults.len() as u64, self.patterns.len() as u64, &self.table, &mut marks)
+            .expect("the table of a dictionary is never refused");
+        marks
+    }
+
+    /// The entries of a pattern, one for each fault.
+    pub fn row(&self, pattern: usize) -> &[u8] {
+        &self.table[pattern * self.faults.len()..][..self.faults.len()]
+    }
+
     fn entry(&self, pattern: usize, fault: usize) -> Entry {
-        Entry::of(self.table[pattern * self.faults.len() + fault])
+        Entry::of(self.row(pattern)[fault])
     }
 
     /// The first pattern that fails a fault.

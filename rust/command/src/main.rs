@@ -2,7 +2,8 @@
 //!
 //! A command reads its files, calls the library and prints. What the library answers is proved; this program is tested. Made here, besides words,
 //! tables and pictures of the library's answers, are the choice of `faults --collapse`, the texts of `narrow`, the head lines that `check` and
-//! `search` speak of, the numbers of detected faults, and the pattern that `audit` names for a lost fault or pair.
+//! `search` speak of, the numbers of detected faults, the pattern that `audit` names for a lost fault or pair, and the one that `suspects` says to
+//! try.
 mod bar;
 mod circuit;
 mod collapse;
@@ -13,6 +14,7 @@ mod entry;
 mod explain;
 mod fault;
 mod files;
+mod filled;
 mod form;
 mod heads;
 mod help;

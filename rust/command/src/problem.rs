@@ -13,6 +13,8 @@ pub enum Problem {
     Stopped(String),
     /// The answer is printed, and it is that something is not as it should be: status 1, and nothing more is said.
     Printed,
+    /// Something was not understood, which has been told where it came up, and all the rest is done: status 2, and nothing more is said.
+    Told,
     /// Whoever read what is printed has gone: nothing is said.
     Unheard,
 }
@@ -21,7 +23,7 @@ impl Problem {
     pub fn code(&self) -> ExitCode {
         match self {
             Problem::Refused(_) | Problem::Printed => ExitCode::from(1),
-            Problem::Stopped(_) => ExitCode::from(2),
+            Problem::Stopped(_) | Problem::Told => ExitCode::from(2),
             Problem::Unheard => ExitCode::from(CLOSED_PIPE),
         }
     }

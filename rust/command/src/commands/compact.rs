@@ -33,9 +33,7 @@ At most 256 faults and 256 patterns.",
 fn run(words: &Words, out: &mut Out) -> Result<(), Problem> {
     let form = Form::of(words, &COMMAND)?;
     let listed = Listed::load(words, &COMMAND)?;
-    let mut marks = vec![0; listed.patterns.len()];
-    ullimaqsu::compact(listed.faults.len() as u64, listed.patterns.len() as u64, &listed.table, &mut marks)
-        .expect("the table of a dictionary is never refused");
+    let marks = listed.marks();
     let kept_lines: String = kept(&listed, &marks).map(|pattern| pattern.letters() + "\n").collect();
     let mark_lines: String = marks.iter().map(|&mark| format!("{}\n", letter(mark))).collect();
     let sources = [words.at(0), words.at(1), words.at(2)];
