@@ -8,7 +8,8 @@ use std::os::unix::ffi::OsStrExt;
 use std::os::unix::fs::symlink;
 use std::process::Command;
 
-const COMMANDS: [&str; 10] = ["check", "faults", "search", "dictionary", "compact", "audit", "clauses", "values", "narrow", "bench"];
+const COMMANDS: [&str; 11] =
+    ["check", "faults", "search", "dictionary", "compact", "audit", "suspects", "clauses", "values", "narrow", "bench"];
 
 /// All commands have a row, and help for each is the same however it is asked for.
 #[test]
@@ -96,6 +97,9 @@ fn misused_commands() {
     let audit = "wants a circuit, a file of faults, one of patterns and one of marks";
     assert_eq!(ullimaqsu(&["audit", "a", "b", "c"]), misused("audit", audit));
     assert_eq!(ullimaqsu(&["audit", "a", "b", "c", "d", "--json", "--csv"]), misused("audit", "prints --csv or --json, not both"));
+    let suspects = "wants a circuit, a file of faults and one of patterns, and if need be one of reports";
+    assert_eq!(ullimaqsu(&["suspects", "a", "b"]), misused("suspects", suspects));
+    assert_eq!(ullimaqsu(&["suspects", "a", "b", "c", "d", "e"]), misused("suspects", suspects));
 }
 
 /// An option is no value of another, and a value is given once. A flag may be repeated.

@@ -3,13 +3,14 @@ mod harness;
 #[path = "harness/pipes.rs"]
 mod pipes;
 
-use cases::{circuits, tables, texts, Directory, Random};
+use cases::{tables, Directory, Random};
+use harness::case::Case;
 use harness::json::Json;
-use harness::named::{letters, pattern_lines, Named};
+use harness::named::letters;
 use harness::{example, into_broken, into_full, printed, refused, root, said, selectors, stopped, ullimaqsu, Said, COMMAND};
 use pipes::full_pipe;
 use second::compact::{needs, Need, Row};
-use second::{Finding, Given};
+use second::Finding;
 use std::collections::BTreeMap;
 use std::io::Read;
 use std::os::unix::fs::symlink;
@@ -18,49 +19,7 @@ use std::process::{Command, Stdio};
 use std::time::Duration;
 use std::{fs, thread};
 
-/// A circuit with faults and patterns, as the second program has them and as files.
-struct Case {
-    directory: Directory,
-    circuit: PathBuf,
-    named: Named,
-    given: Given,
-}
-
 impl Case {
-    fn new(name: &str, text_or_records: &[u8], named: Named, random: &mut Random, [fault_count, pattern_count]: [usize; 2]) -> Case {
-        let (directory, given) = (Directory::new(name), named.given(random, fault_count, pattern_count));
-        let circuit = directory.write("circuit", text_or_records);
-        directory.write("faults", named.fault_lines(&given.faults));
-        directory.write("patterns", pattern_lines(&given.patterns));
-        Case { directory, circuit, named, given }
-    }
-
-    fn c17(name: &str, random: &mut Random, counts: [usize; 2]) -> Case {
-        let text = fs::read(example("c17")).expect("c17");
-        Case::new(name, &text, Named::of_text(&text), random, counts)
-    }
-
-    /// A few of every sort.
-    fn drawn(name: &str, random: &mut Random) -> Case {
-        let counts = [1 + random.below(12), 1 + random.below(12)];
-        if random.once_in(2) {
-            let text = texts::small(random);
-            Case::new(name, &text, Named::of_text(&text), random, counts)
-        } else {
-            let records = circuits::small(random);
-            Case::new(name, &records, Named::of_records(&records), random, counts)
-        }
-    }
-
-    fn words(&self, command: &str, more: &[&Path]) -> Vec<PathBuf> {
-        let given = [command.into(), self.circuit.clone(), self.directory.path("faults"), self.directory.path("patterns")];
-        given.into_iter().chain(more.iter().map(PathBuf::from)).collect()
-    }
-
-    fn run(&self, command: &str, more: &[&Path]) -> Said {
-        ullimaqsu(&self.words(command, more))
-    }
-
     /// The words of a compaction that writes both files.
     fn both(&self, kept: &Path, marks: &Path) -> Vec<PathBuf> {
         self.words("compact", &[Path::new("-o"), kept, Path::new("--marks"), marks])

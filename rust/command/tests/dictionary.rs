@@ -4,12 +4,11 @@ mod harness;
 use cases::{circuits, drawn, texts, Directory, Random};
 use harness::json::Json;
 use harness::named::{letters, pattern_lines, Named};
-use harness::{example, into_broken, printed, said, stopped, ullimaqsu, COMMAND};
+use harness::{example, fed, into_broken, printed, said, started, stopped, ullimaqsu};
 use second::{Entry, Given};
 use std::fs;
-use std::io::{BufRead, BufReader, Write};
+use std::io::{BufRead, BufReader};
 use std::path::Path;
-use std::process::{Command, Stdio};
 
 /// The letters of each fault, one for each pattern.
 fn entries(given: &Given) -> Vec<String> {
@@ -173,9 +172,7 @@ fn words_and_pipes() {
 
     // who has read enough goes in the middle of it
     let faults = directory.write("faults", "22/0\n".repeat(100_000));
-    let mut process = Command::new(COMMAND);
-    let process = process.args([Path::new("dictionary"), &c17, &faults, &patterns]).stdout(Stdio::piped()).stderr(Stdio::piped());
-    let mut process = process.spawn().expect("it starts");
+    let mut process = started(&[Path::new("dictionary"), &c17, &faults, &patterns]);
     let mut line = String::new();
     BufReader::new(process.stdout.take().expect("piped")).read_line(&mut line).expect("a line");
     let (status, _, told) = said(process.wait_with_output().expect("it ends"));
@@ -192,11 +189,7 @@ fn from_pipes() {
     for (part, (_, bytes)) in parts.iter().enumerate() {
         let mut words = paths.clone();
         words[part] = "/dev/stdin".into();
-        let mut process = Command::new(COMMAND);
-        let process = process.arg("dictionary").args(words).stdin(Stdio::piped()).stdout(Stdio::piped()).stderr(Stdio::piped());
-        let mut process = process.spawn().expect("it starts");
-        process.stdin.take().expect("piped").write_all(bytes).expect("it reads");
-        let said = said(process.wait_with_output().expect("it ends"));
+        let said = fed(&[&["dictionary".into()], &words[..]].concat(), bytes);
         assert_eq!(said, (Some(0), "fault 0\n22/0  P\n1 fault, 1 pattern: 0 detected\n".to_string(), String::new()));
     }
 }

@@ -1,7 +1,10 @@
-//! A search on a terminal, where the bar is drawn and erased between the lines of the answer: what is left there is what a pipe gets.
+//! On a terminal a search draws and erases its bar between the lines of the answer: what is left there is what a pipe gets. And the reports to
+//! suspects are typed there.
 mod harness;
 
+use cases::Directory;
 use harness::{example, printed, COMMAND};
+use std::io::Write;
 use std::process::{Command, Stdio};
 
 /// What a terminal shows of what is written to it, without its edges.
@@ -83,30 +86,59 @@ fn quoted(word: &str) -> String {
     format!("'{}'", word.replace('\'', "'\\''"))
 }
 
-/// All that the command writes to a terminal, which is its standard output and its standard error.
-fn written(words: &[&str]) -> String {
+/// All that the command writes to a terminal, which is its standard output and its standard error, with what is typed there.
+fn written(words: &[&str], typed: &str) -> String {
     let line = [COMMAND].iter().chain(words).map(|word| quoted(word)).collect::<Vec<_>>().join(" ");
     let mut script = on_a_terminal(&line);
     let mut process = script.stdin(Stdio::piped()).stdout(Stdio::piped()).spawn().expect("it starts");
-    // nobody types, and nobody ends the input, which the terminal would show
-    let keyboard = process.stdin.take();
+    // nobody ends the input, which the terminal would show
+    let mut keyboard = process.stdin.take().expect("piped");
+    keyboard.write_all(typed.as_bytes()).expect("a keyboard");
     let output = process.wait_with_output().expect("it ends");
     drop(keyboard);
     assert_eq!(output.status.code(), Some(0));
     String::from_utf8(output.stdout).expect("text")
 }
 
+/// Whether there are terminals; says loudly what is not tried where there are none.
+fn has_terminals(untried: &str) -> bool {
+    let has = on_a_terminal("true").stdin(Stdio::null()).output().is_ok_and(|output| output.status.success());
+    if !has {
+        println!("ABSENT: `script` of util-linux gives no terminal, and {untried}");
+    }
+    has
+}
+
 #[test]
 fn the_same_as_in_a_pipe() {
-    let has_terminals = on_a_terminal("true").stdin(Stdio::null()).output().is_ok_and(|output| output.status.success());
-    if !has_terminals {
-        return println!("ABSENT: `script` of util-linux gives no terminal, and what a search leaves on one was NOT compared");
+    if !has_terminals("what a search leaves on one was NOT compared") {
+        return;
     }
     let c17 = example("c17").display().to_string();
     for form in [&[][..], &["--csv"], &["--json"], &["--heads", "--compare"], &["--heads", "--json"]] {
         let words = [&["search", &c17, "--all"], form].concat();
-        let written = written(&words);
+        let written = written(&words, "");
         assert!(written.matches("46 faults").count() > 3, "the bar is drawn more than once: {written:?}");
         assert_eq!(Screen::after(&written).shown(), printed(&words));
     }
+}
+
+/// Whoever sits there is told what to type. What is typed is shown by the terminal itself, sooner or later than what is printed.
+#[test]
+fn reports_are_typed() {
+    if !has_terminals("reports were NOT typed") {
+        return;
+    }
+    let directory = Directory::new("typed");
+    let files = [directory.write("faults", "22/0\n22/1\n"), directory.write("patterns", "10100\n00000\n")];
+    let [c17, faults, patterns] = [&example("c17"), &files[0], &files[1]].map(|path| path.display().to_string());
+    let words = ["suspects", &c17, &faults, &patterns];
+    let written = written(&words, "0 fail\n\u{4}");
+    let invited = "type 0 fail or 0 pass as the tester reports pattern 0, and so on; Ctrl-D ends\r\n";
+    assert!(written.contains(invited), "{written:?}");
+    assert!(written.contains("pattern 0 failed, 1 fault remains: 22/0\r\nnothing is left to tell apart\r\n"), "{written:?}");
+    // where they come from a file nobody is asked
+    let reports = directory.write("reports", "0 fail\n").display().to_string();
+    let words = [&words[..], &[&reports]].concat();
+    assert_eq!(self::written(&words, ""), printed(&words).replace('\n', "\r\n"));
 }

@@ -28,8 +28,8 @@ and the pattern to try.
 A fault remains if the dictionary has pass for it under no pattern that failed, and fail under none that passed; unknown is never held against it. Reports
 may come in any order and again, and all of them count: a fault that is struck never comes back.
 
-The pattern to try is one that compact keeps: the one that leaves the fewest faults, whether it fails or passes, and of equals the first. It is shown with
-its values, and with how many faults then remain. Any other pattern may be reported as well.
+The pattern to try is one that compact keeps: the one that leaves the fewest faults in the worse of its two cases, and of equals the first. It is shown with
+its values, and with how many faults remain in either case. Any other pattern may be reported as well.
 
 A line that is not understood is told with its number on standard error and changes nothing. The session goes on, and at its end the status is 2.
 
@@ -46,6 +46,7 @@ fn run(words: &Words, out: &mut Out) -> Result<(), Problem> {
     // whoever reports waits for the answer
     let mut answer = |standing: Standing| out.print(&standing.printed(form)).and_then(|()| out.flush());
     answer(session.standing(None))?;
+    lines.invite();
     while let Some(line) = lines.next()? {
         match Report::read(&line, listed.patterns.len()) {
             Ok(None) => (),
@@ -68,6 +69,7 @@ struct Session<'a> {
     /// The patterns that compaction keeps.
     kept: Vec<usize>,
     state: Suspects,
+    any_failed: bool,
 }
 
 impl Session<'_> {
@@ -75,7 +77,7 @@ impl Session<'_> {
         let kept = listed.marks().iter().enumerate().filter(|(_, mark)| **mark == 1).map(|(pattern, _)| pattern).collect();
         let state = Suspects::open(listed.faults.len() as u64, listed.patterns.len() as u64, &listed.table)
             .expect("the table of a dictionary is never refused");
-        Session { listed, kept, state }
+        Session { listed, kept, state, any_failed: false }
     }
 
     /// Where one stands once this is reported.
@@ -83,6 +85,7 @@ impl Session<'_> {
         self.state
             .report(&self.listed.table, report.pattern as u64, report.failed)
             .expect("the table of the opening and the number of a pattern are never refused");
+        self.any_failed |= report.failed;
         self.standing(Some(report))
     }
 
@@ -91,6 +94,6 @@ impl Session<'_> {
         let faults = listed.faults.iter().zip(&marks).filter(|(_, mark)| **mark).map(|(fault, _)| fault.named(&listed.circuit)).collect();
         let next = split::best(self.kept.iter().map(|&pattern| (pattern, listed.row(pattern))), &marks);
         let next = next.map(|split| (split, listed.patterns[split.pattern].letters()));
-        Standing { report, remaining: self.state.remaining() as usize, faults, next }
+        Standing { report, any_failed: self.any_failed, remaining: self.state.remaining() as usize, faults, next }
     }
 }

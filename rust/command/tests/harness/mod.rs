@@ -1,5 +1,6 @@
 //! The command as a user runs it.
 #![allow(dead_code, unused_imports)] // not every test asks for everything
+pub mod case;
 pub mod heads;
 pub mod json;
 pub mod named;
@@ -9,9 +10,9 @@ pub use cases::directory::{root, Directory};
 pub use cases::said::{run, said, Said};
 use std::ffi::OsStr;
 use std::fs::OpenOptions;
-use std::io;
+use std::io::{self, Write};
 use std::path::PathBuf;
-use std::process::{Command, Stdio};
+use std::process::{Child, Command, Stdio};
 
 pub const COMMAND: &str = env!("CARGO_BIN_EXE_ullimaqsu");
 
@@ -35,6 +36,19 @@ pub fn refused(line: &str) -> Said {
 /// The command line is not understood, or something can't be read or written: this line says what.
 pub fn stopped(line: &str) -> Said {
     (Some(2), String::new(), format!("ullimaqsu: {line}\n"))
+}
+
+/// The command with these words, waiting for what it is given and read.
+pub fn started<W: AsRef<OsStr>>(words: &[W]) -> Child {
+    let mut command = Command::new(COMMAND);
+    command.args(words).stdin(Stdio::piped()).stdout(Stdio::piped()).stderr(Stdio::piped()).spawn().expect("it starts")
+}
+
+/// What it says to these words where it reads these bytes from standard input.
+pub fn fed<W: AsRef<OsStr>>(words: &[W], bytes: impl AsRef<[u8]>) -> Said {
+    let mut process = started(words);
+    process.stdin.take().expect("piped").write_all(bytes.as_ref()).expect("it reads");
+    said(process.wait_with_output().expect("it ends"))
 }
 
 /// The command with these words, started by a shell that does something before.

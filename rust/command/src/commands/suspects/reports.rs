@@ -3,7 +3,7 @@ use crate::files::{self, unreadable, why};
 use crate::lists::{is_blank, lines, place, words};
 use crate::problem::{shown, Problem};
 use crate::words::cited;
-use std::io::{self, BufRead, BufReader, Read};
+use std::io::{self, BufRead, BufReader, IsTerminal, Read, Write};
 use std::path::{Path, PathBuf};
 
 /// The most bytes of a line.
@@ -23,7 +23,7 @@ impl Report {
         let Some((at, number)) = words.next() else { return Ok(None) };
         let pattern = numbered(number, patterns).map_err(|says| (at, says))?;
         let end = line.trim_end_matches(is_blank).len();
-        let (at, word) = words.next().ok_or_else(|| (end, format!("after the number {number} there must be fail or pass")))?;
+        let (at, word) = words.next().ok_or_else(|| (end, format!("after {} there must be fail or pass", cited(number))))?;
         let failed = has_failed(word).ok_or_else(|| (at, format!("{} is neither fail nor pass", cited(word))))?;
         match words.next() {
             None => Ok(Some(Report { pattern, failed })),
@@ -65,6 +65,13 @@ impl Lines {
             None => Box::new(io::stdin().lock()),
         };
         Ok(Lines { from, file: file.map(Path::to_path_buf), number: 0 })
+    }
+
+    /// Says to whoever sits at a terminal what is waited for. That it can't be said loses nothing.
+    pub fn invite(&self) {
+        if self.file.is_none() && io::stdin().is_terminal() {
+            let _ = writeln!(io::stderr(), "type 0 fail or 0 pass as the tester reports pattern 0, and so on; Ctrl-D ends");
+        }
     }
 
     /// The next one, without its comment.

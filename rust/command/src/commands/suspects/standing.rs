@@ -12,6 +12,8 @@ const COLUMNS: [&str; 8] = ["pattern", "report", "remaining", "faults", "next", 
 pub struct Standing {
     /// What was reported last.
     pub report: Option<Report>,
+    /// Whether any pattern was reported failed.
+    pub any_failed: bool,
     pub remaining: usize,
     /// The faults that remain, by name.
     pub faults: Vec<String>,
@@ -99,13 +101,21 @@ impl Standing {
                 let remain = if *if_failed == 1 { "remains" } else { "remain" };
                 format!("try pattern {pattern}, {values}: {if_failed} {remain} if it fails, {if_passed} if it passes")
             }
-            (None, 0) => {
-                "no fault of the list fits all reports: two of them contradict each other, or the fault is not in the list, or there are \
-                          several at once"
-                    .to_string()
-            }
+            (None, 0) => self.none_fits().to_string(),
             (None, 1) => "nothing is left to tell apart".to_string(),
             (None, _) => "no kept pattern tells these apart".to_string(),
+        }
+    }
+
+    /// What it may mean that no fault remains.
+    fn none_fits(&self) -> &'static str {
+        match self.any_failed {
+            true => {
+                "no fault of the list fits all reports: some contradict each other, or the fault is not in the list, or there are several"
+            }
+            false => {
+                "no fault of the list passes all of these: there is none, or one that is not in the list, or several that hide each other"
+            }
         }
     }
 }
