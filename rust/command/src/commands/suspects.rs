@@ -31,7 +31,8 @@ may come in any order and again, and all of them count: a fault that is struck n
 The pattern to try is one that compact keeps: the one that leaves the fewest faults in the worse of its two cases, and of equals the first. It is shown with
 its values, and with how many faults remain in either case. Any other pattern may be reported as well.
 
-A line that is not understood is told with its number on standard error and changes nothing. The session goes on, and at its end the status is 2.
+A line that is not understood is told with its number on standard error and changes nothing. The session goes on, and at its end the status is 2. With
+--csv and --json each answer is one line.
 
 At most 256 faults and 256 patterns.",
     example: "ullimaqsu suspects examples/c17/circuit.rec examples/c17/faults.rec examples/c17/patterns.rec",
