@@ -134,7 +134,7 @@ fn reports_are_typed() {
     let [c17, faults, patterns] = [&example("c17"), &files[0], &files[1]].map(|path| path.display().to_string());
     let words = ["suspects", &c17, &faults, &patterns];
     let written = written(&words, "0 fail\n\u{4}");
-    let invited = "type 0 fail or 0 pass as the tester reports pattern 0, and so on; Ctrl-D ends\r\n";
+    let invited = "type the number of a pattern and fail or pass, as in 0 fail; Ctrl-D ends\r\n";
     assert!(written.contains(invited), "{written:?}");
     assert!(written.contains("pattern 0 failed, 1 fault remains: 22/0\r\nnothing is left to tell apart\r\n"), "{written:?}");
     // where they come from a file nobody is asked

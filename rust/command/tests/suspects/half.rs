@@ -37,10 +37,10 @@ impl Half {
 /// Before the first report.
 pub const BEGIN: &str = "\
 8 faults remain: a/0 a/1 b/0 b/1 sum/0 sum/1 carry/0 carry/1
-try pattern 0, 10: 4 remain if it fails, 4 if it passes
+try pattern 0 (10): 4 remain if it fails, 4 if it passes
 ";
 
 pub const FAILED_0: &str = "\
 pattern 0 failed, 4 faults remain: a/0 b/1 sum/0 carry/1
-try pattern 1, 00: 2 remain if it fails, 2 if it passes
+try pattern 1 (00): 2 remain if it fails, 2 if it passes
 ";

@@ -20,7 +20,7 @@ fn by_hand() {
     assert_eq!(half.printed(""), BEGIN);
     let rest = "\
 pattern 1 failed, 2 faults remain: b/1 carry/1
-try pattern 2, 01: 1 remains if it fails, 1 if it passes
+try pattern 2 (01): 1 remains if it fails, 1 if it passes
 pattern 2 passed, 1 fault remains: b/1
 nothing is left to tell apart
 pattern 2 passed, 1 fault remains: b/1
@@ -41,12 +41,12 @@ fn unknown() {
     // of 0X the sum is X and masked, and of a/1 the carry is X
     let failed = "\
 pattern 5 failed, 2 faults remain: a/1 carry/1
-try pattern 0, 10: 1 remains if it fails, 1 if it passes
+try pattern 0 (10): 1 remains if it fails, 1 if it passes
 ";
     assert_eq!(half.printed("5 fail\n"), [BEGIN, failed].concat());
     let passed = "\
 pattern 5 passed, 7 faults remain: a/0 a/1 b/0 b/1 sum/0 sum/1 carry/0
-try pattern 0, 10: 3 remain if it fails, 4 if it passes
+try pattern 0 (10): 3 remain if it fails, 4 if it passes
 ";
     assert_eq!(half.printed("5 pass\n"), [BEGIN, passed].concat());
     let both = "pattern 5 passed, 1 fault remains: a/1\nnothing is left to tell apart\n";
@@ -56,7 +56,7 @@ try pattern 0, 10: 3 remain if it fails, 4 if it passes
     half.directory.write("faults", "sum/0\nsum/0\ncarry/0\n");
     let alike = "\
 3 faults remain: sum/0 sum/0 carry/0
-try pattern 0, 10: 2 remain if it fails, 1 if it passes
+try pattern 0 (10): 2 remain if it fails, 1 if it passes
 pattern 2 failed, 2 faults remain: sum/0 sum/0
 no kept pattern tells these apart
 ";

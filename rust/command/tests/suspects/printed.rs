@@ -89,7 +89,7 @@ fn line(answer: &[Json; 8]) -> String {
     match next.is_empty() {
         true => first,
         false => {
-            format!("{first}\ntry pattern {next}, {values}: {if_failed} remain{} if it fails, {if_passed} if it passes", one(&if_failed))
+            format!("{first}\ntry pattern {next} ({values}): {if_failed} remain{} if it fails, {if_passed} if it passes", one(&if_failed))
         }
     }
 }

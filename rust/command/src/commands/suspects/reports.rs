@@ -70,7 +70,7 @@ impl Lines {
     /// Says to whoever sits at a terminal what is waited for. That it can't be said loses nothing.
     pub fn invite(&self) {
         if self.file.is_none() && io::stdin().is_terminal() {
-            let _ = writeln!(io::stderr(), "type 0 fail or 0 pass as the tester reports pattern 0, and so on; Ctrl-D ends");
+            let _ = writeln!(io::stderr(), "type the number of a pattern and fail or pass, as in 0 fail; Ctrl-D ends");
         }
     }
 

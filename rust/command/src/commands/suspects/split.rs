@@ -52,7 +52,7 @@ mod tests {
         after(true).max(after(false))
     }
 
-    /// Every table of three faults and two patterns, or three of any two of all rows, with all marks.
+    /// Any two rows of three faults, the first of them once more behind the second, and any of the faults remaining.
     #[test]
     fn the_fewest_at_worst() {
         let (rows, marks) = (all(FAULTS, 3), all(FAULTS, 2));

@@ -99,7 +99,7 @@ impl Standing {
         match (&self.next, self.remaining) {
             (Some((Split { pattern, if_failed, if_passed }, values)), _) => {
                 let remain = if *if_failed == 1 { "remains" } else { "remain" };
-                format!("try pattern {pattern}, {values}: {if_failed} {remain} if it fails, {if_passed} if it passes")
+                format!("try pattern {pattern} ({values}): {if_failed} {remain} if it fails, {if_passed} if it passes")
             }
             (None, 0) => self.none_fits().to_string(),
             (None, 1) => "nothing is left to tell apart".to_string(),
