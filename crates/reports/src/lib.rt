@@ -18,20 +18,14 @@ ghost use Rattle.reports.specs.Owed.{narrowed};
 pub fn entry_against(failed: bool) -> u8
     ensures { λ r. ⌜ r ≡ against failed ⌝ }
 {
-    if failed {
-        return PASS;
-    }
-    FAIL
+    if failed { PASS } else { FAIL }
 }
 
 // A mark after a report: cleared where the report speaks against the fault.
 fn mark_after(mark: u8, entry: u8, bad: u8) -> u8
     ensures { λ r. ⌜ r ≡ choose (eqb entry bad) 0 mark ⌝ }
 {
-    if entry == bad {
-        return 0;
-    }
-    mark
+    if entry == bad { 0 } else { mark }
 }
 
 // The marks after a report, into memory that is all 0: those before it, without the faults whose entry in the row is the bad one.

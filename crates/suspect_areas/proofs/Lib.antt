@@ -2,3 +2,4 @@ pub mod Bytes
 pub mod Held
 pub mod Says
 pub mod Promise
+pub mod Sessions

@@ -15,6 +15,7 @@ use Rattle.reports.specs.Reports.{Report}
 use Rattle.suspects.specs.declared.Suspects.{Suspects}
 use Rattle.suspects.specs.declared.Narrowed.{Narrowed}
 use Rattle.suspects.specs.Promise.{Becomes, openState, narrowedState, reportRules}
+use Rattle.suspects.specs.Sessions.{Course, Begun}
 use Rattle.suspect_areas.specs.declared.Marked.{Marked}
 use Rattle.suspect_areas.specs.declared.Marked.the-variants.{Marks, Refused}
 use Rattle.suspect_areas.specs.Bytes.{bytesOf, stateIn, heldOk, Held}
@@ -63,3 +64,8 @@ pub record ReadsMarks (a m : List ℕ) (r : Marked) (m′ : List ℕ) : Type 0 w
   pub answer : r ≡ answered Refused (refusal (marksAreaRules a m)) (Marks (stateIn a .remaining) (stateIn a .faults) (stateIn a .patterns))
   pub numbers : markedNumbers r ≡ told (refusal (marksAreaRules a m)) (success (stateIn a .remaining) (stateIn a .faults) (stateIn a .patterns))
   pub marks : m′ ≡ unless (refusal (marksAreaRules a m)) m (take (stateIn a .faults) (stateIn a .marks))
+
+-- ---- a whole session in an area, of F faults and P patterns
+
+abbrev pub AreaSession : ℕ → ℕ → List Report → List ℕ → Type 0
+AreaSession F P = Course (Begun (OpensArea F P)) ReportsArea

@@ -1,13 +1,13 @@
 -- The refusals of an opening and of a report in the paper's words.
 -- Assumes nothing.
-use mathlib.Core.Path.{_≡_, refl}
+use mathlib.Core.Path.{_≡_, refl, _∙_}
 use mathlib.Core.List.{List}
 use Prim.Native.Nat.{ℕ, _<_}
 use lib.ListN.{length}
 use Rattle.answers.specs.declared.Ruling.{Ruling}
 use Rattle.answers.specs.declared.Ruling.the-variants.{Fine}
 use Rattle.answers.specs.Rules.{Rule, refusal, Applies, AllSay, AllHold}
-use Rattle.answers.proofs.Rules.{all-hold, both-fine, both-say}
+use Rattle.answers.proofs.Rules.{all-hold, fine, after-fine, both-fine, both-say}
 use Rattle.answers.proofs.Same.{lt-same, eq-same, and-same}
 use Rattle.answers.proofs.Answer as answer
 use Rattle.answers.proofs.Answer.{Ruled}
@@ -69,3 +69,14 @@ taken s F P t p e =
     let h = all-hold (heldRules s F P) (held-say s F P) (w .0) in
     let i = all-hold (patternRules P p) (pattern-says P p) (v .1) in
     record { opened = h .0; faults = h .1 .0 .0; patterns = h .1 .0 .1; sized = fine-sized F P t (v .0); inside = i .0 }
+
+-- and back: an opened state, its own counts, a table that keeps its rules and a pattern that there is
+pub taken-fine : (s : Suspects) (t : List ℕ) (p : ℕ) → Opened s → refusal (tableRules (s .faults) (s .patterns) t) ≡ Fine → p < s .patterns
+    → refusal (reportRules s (s .faults) (s .patterns) t p) ≡ Fine
+unfolding heldRules patternRules AllHold
+taken-fine s t p o e l =
+    let F = s .faults in
+    let P = s .patterns in
+    after-fine (heldRules s F P) (givenRules F P t p) (fine (heldRules s F P) (held-say s F P) (o, ((refl, refl), tt)))
+    ∙ after-fine (tableRules F P t) (patternRules P p) e
+    ∙ fine (patternRules P p) (pattern-says P p) (l, tt)

@@ -22,12 +22,12 @@ use Rattle.suspects.specs.declared.Narrowed.the-variants.{Remaining, Ref
 use Rattle.suspects.specs.State.{stateOf, remainsIn, Opened}
 use Rattle.suspects.specs.Promise.{Becomes, narrowedState}
 use Rattle.suspects.specs.Sessions.{Session}
-use Rattle.suspects.specs.Sessions.Session.{begun, took, refused}
+use Rattle.suspects.specs.Sessions.Course.{begun, took, refused}
 use Rattle.suspects.proofs.State.{state-opened, same-state}
 use Rattle.suspects.proofs.Says.{ruled, rulingOf}
 
 -- what an answer says was ruled
-module _ {rules : List Rule} {s new s′ : Suspects} {n : ℕ} {r : Narrowed} (p : Becomes rules s new n r s′) where
+module _ {M : Type 0} {rules : List Rule} {s new s′ : M} {n : ℕ} {r : Narrowed} (p : Becomes rules s new n r s′) where
   pub was-taken : {k : ℕ} → r ≡ Remaining k → (refusal rules ≡ Ruling.Fine) × (s′ ≡ new)
   was-taken {k} e =
       let fine = was-ruled (ruled n) (p .answer) (ap rulingOf e) in
@@ -39,20 +39,20 @@ module _ {rules : List Rule} {s new s′ : Suspects} {n : ℕ} {r : Narrowed} (p
       p .state ∙ ap (λ (v : Ruling). unless v s new) is
 
 -- one report more, to the state that those before it left
-more : (F P : ℕ) (rs : List Report) (q : Report) → narrowedState (stateOf F P (remains rs)) q ≡ stateOf F P (remains (rs ++ (q ∷ [])))
+pub more : (F P : ℕ) (rs : List Report) (q : Report) → narrowedState (stateOf F P (remains rs)) q ≡ stateOf F P (remains (rs ++ (q ∷ [])))
 more F P rs q =
     same-state F P _ _ (λ f l. ap (λ (b : Bool). b && not (strikes q f)) (is-marked F (remains rs) f l) ∙ sym (remains-more rs q f))
 
 -- the state is that of the faults that remain by definition
 pub session-state : {F P : ℕ} {rs : List Report} {s : Suspects} → Session F P rs s → s ≡ stateOf F P (remains rs)
 unfolding remains
-session-state (begun t p e) = was-taken p e .1
+session-state (begun b) = was-taken (b .opens) (b .not-refused) .1
 session-state {F} {P} (took {rs = rs} q so p e) = was-taken p e .1 ∙ ap (λ (x : Suspects). narrowedState x q) (session-state so) ∙ more F P rs q
 session-state (refused q so p e) = was-refused p e ∙ session-state so
 
 -- its counts are in range
 pub session-sized : {F P : ℕ} {rs : List Report} {s : Suspects} → Session F P rs s → (1 ≤ F) × (F ≤ 256) × (1 ≤ P) × (P ≤ 256)
-session-sized {F} {P} (begun t p e) = let z = fine-sized F P t (was-taken p e .0) in (z .some-fault, z .few-faults, z .some-pattern, z .few-patterns)
+session-sized {F} {P} (begun b) = let z = fine-sized F P (b .table) (was-taken (b .opens) (b .not-refused) .0) in (z .some-fault, z .few-faults, z .some-pattern, z .few-patterns)
 session-sized (took q so p e) = session-sized so
 session-sized (refused q so p e) = session-sized so
 

@@ -8,16 +8,17 @@ use Prim.Native.Nat.{ℕ, _≤_, _<_}
 use native.Mathlib.Omega.{arith}
 use lib.Dec.{eqb, leb, ltb}
 use lib.ListN.{length, getD}
+use lib.Seq.{ext-getD}
 use borrow.Author.Tests.{le-leb, eq-eqb, eqb-true, lt-ltb, le-ltb, not-true}
 use Rattle.ground.specs.Choose.{one}
 use Rattle.ground.specs.Below.{anyBelow, countBelow}
-use Rattle.ground.proofs.Tests.{either, both, and-both, one-most}
+use Rattle.ground.proofs.Tests.{either, both, and-both, one-most, bit-one}
 use Rattle.ground.proofs.Counting.{count-same}
 use Rattle.answers.specs.Rules.{Same}
 use Rattle.tables.specs.Table.{inRange}
 use Rattle.tables.proofs.Says.{in-range}
 use Rattle.reports.specs.Marks.{marksOf, noMark}
-use Rattle.reports.proofs.Marks.{mark-at, mark-rest, count-marked, same-marks, all-marks, marks-all}
+use Rattle.reports.proofs.Marks.{marks-length, mark-at, mark-rest, count-marked, same-marks, all-marks, marks-all}
 use Rattle.suspects.specs.declared.Suspects.{Suspects}
 use Rattle.suspects.specs.State.{stateOf, remainsIn, openedOk, Opened}
 
@@ -80,3 +81,14 @@ made {F = F} {P = P} K marks number i = record { marks = marks i; faults = F; pa
 -- by the faults that there are alone
 pub same-state : (F P : ℕ) (K L : ℕ → Bool) → ((f : ℕ) → f < F → K f ≡ L f) → stateOf F P K ≡ stateOf F P L
 same-state F P K L same = made L (same-marks F K L same) (count-same F K L same)
+
+-- an opened state is that of the faults that remain in it
+pub opened-is : (s : Suspects) → Opened s → length (s .marks) ≡ 256 → s ≡ stateOf (s .faults) (s .patterns) (remainsIn s)
+opened-is s o long = made (remainsIn s) (ext-getD 0 (s .marks) (marksOf (s .faults) (remainsIn s)) (long ∙ sym (marks-length (s .faults) (remainsIn s) (o .few-faults))) same) (o .number)
+  where
+    same : (f : ℕ) → f < length (s .marks) → getD (s .marks) f 0 ≡ getD (marksOf (s .faults) (remainsIn s)) f 0
+    same f l =
+        ⊎-elim
+        (λ h. bit-one (getD (s .marks) f 0) (o .marks-are f h) ∙ sym (mark-at (s .faults) (remainsIn s) f h))
+        (λ h. o .rest f h ∙ sym (mark-rest (s .faults) (remainsIn s) f h))
+        (either f (s .faults))

@@ -9,9 +9,24 @@ use Rattle.suspects.specs.declared.Narrowed.{Narrowed}
 use Rattle.suspects.specs.declared.Narrowed.the-variants.{Remaining, Refused}
 use Rattle.suspects.specs.Promise.{Opens, Reports}
 
--- a session of F faults and P patterns has come to the state s, and took the reports rs, each with the table that was lent with it
-pub data Session (F P : ℕ) : List Report → Suspects → Type 0 where
-  begun : (t : List ℕ) {s s′ : Suspects} {r : Narrowed} {n : ℕ} → Opens F P t s r s′ → r ≡ Remaining n → Session F P [] s′
-  took : {rs : List Report} {s s′ : Suspects} (q : Report) {r : Narrowed} {n : ℕ} → Session F P rs s → Reports s q r s′ → r ≡ Remaining n → Session F P (rs ++ (q ∷ [])) s′
-  refused : {rs : List Report} {s s′ : Suspects} (q : Report) {r : Narrowed} {number place : ℕ}
-      → Session F P rs s → Reports s q r s′ → r ≡ Refused number place → Session F P rs s′
+-- of memory that holds a state, by what an opening leaves and what a report does: it has come to m, and took the reports rs, each with the table
+-- that was lent with it
+pub data Course {M : Type 0} (Begins : M → Type 0) (Tells : M → Report → Narrowed → M → Type 0) : List Report → M → Type 0 where
+  begun : {m : M} → Begins m → Course Begins Tells [] m
+  took : {rs : List Report} {m m′ : M} (q : Report) {r : Narrowed} {n : ℕ}
+      → Course Begins Tells rs m → Tells m q r m′ → r ≡ Remaining n → Course Begins Tells (rs ++ (q ∷ [])) m′
+  refused : {rs : List Report} {m m′ : M} (q : Report) {r : Narrowed} {number place : ℕ}
+      → Course Begins Tells rs m → Tells m q r m′ → r ≡ Refused number place → Course Begins Tells rs m′
+
+-- opened with some table, whatever was held before
+pub record Begun {M : Type 0} (Opening : List ℕ → M → Narrowed → M → Type 0) (m : M) : Type 0 where
+  pub table : List ℕ
+  pub before : M
+  pub answer : Narrowed
+  pub remaining : ℕ
+  pub opens : Opening table before answer m
+  pub not-refused : answer ≡ Remaining remaining
+
+-- a session of F faults and P patterns
+abbrev pub Session : ℕ → ℕ → List Report → Suspects → Type 0
+Session F P = Course (Begun (Opens F P)) Reports
