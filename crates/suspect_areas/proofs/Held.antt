@@ -26,31 +26,44 @@ use Rattle.suspect_areas.proofs.Bytes.{read-state}
 
 -- ---- what is written is read
 
--- a small number behind p
-number-at : (p rest : List ℕ) (at w : ℕ) → length p ≡ at → w < 65536 → pairAt (p ++ (le 8 w ++ rest)) at ≡ w
+-- the two lowest bytes of a number behind p
+low-at : (p rest : List ℕ) (at w : ℕ) → length p ≡ at → pairAt (p ++ (le 8 w ++ rest)) at ≡ pairAt (le 2 w) 0
 unfolding pairAt le
-number-at p rest at w e l =
+low-at p rest at w e =
     let low : getD (p ++ (le 8 w ++ rest)) at 0 ≡ w % 256 = ap (λ (k : ℕ). getD (p ++ (le 8 w ++ rest)) k 0) (sym e ∙ sym (add-zero (length p))) ∙ getD-append-add p (le 8 w ++ rest) 0 0 in
     let high : getD (p ++ (le 8 w ++ rest)) (at + 1) 0 ≡ w / 256 % 256 = ap (λ (k : ℕ). getD (p ++ (le 8 w ++ rest)) (k + 1) 0) (sym e) ∙ getD-append-add p (le 8 w ++ rest) 1 0 in
-    rw (low, high) (read-back w l)
+    rw (low, high)
 
-marks-behind : (s : Suspects) → drop 32 (bytesOf s) ≡ s .marks
+-- they say a small number
+number-at : (p rest : List ℕ) (at w : ℕ) → length p ≡ at → w < 65536 → pairAt (p ++ (le 8 w ++ rest)) at ≡ w
+number-at p rest at w e l = low-at p rest at w e ∙ read-back w l
+
+pub marks-behind : (s : Suspects) → drop 32 (bytesOf s) ≡ s .marks
 unfolding bytesOf
 marks-behind s = drop-at (areaOf (numbersOf s)) (s .marks) 32 (area-length (numbersOf s))
+
+-- the size of the table, as far as its two lowest bytes say it
+pub product-read : (s : Suspects) → pairAt (bytesOf s) 16 ≡ pairAt (le 2 (s .faults * s .patterns)) 0
+unfolding bytesOf areaOf
+product-read s =
+    let front = le 8 (s .faults) ++ le 8 (s .patterns) in
+    let size = le 8 (s .faults * s .patterns) in
+    rw (append-assoc (front ++ size) (le 8 (s .remaining)) (s .marks), append-assoc front size)
+    (low-at front _ 16 (s .faults * s .patterns) (simp (length-append, le-length)))
 
 module _ (s : Suspects) (o : Opened s) where
   small : {n : ℕ} → n ≤ 256 → n < 65536
   small l = omega (arith, l)
 
-  faults-read : pairAt (bytesOf s) 0 ≡ s .faults
+  pub faults-read : pairAt (bytesOf s) 0 ≡ s .faults
   unfolding bytesOf areaOf
   faults-read = simp append-assoc (number-at [] _ 0 (s .faults) refl (small (o .few-faults)))
 
-  patterns-read : pairAt (bytesOf s) 8 ≡ s .patterns
+  pub patterns-read : pairAt (bytesOf s) 8 ≡ s .patterns
   unfolding bytesOf areaOf
   patterns-read = simp append-assoc (number-at (le 8 (s .faults)) _ 8 (s .patterns) (le-length 8 (s .faults)) (small (o .few-patterns)))
 
-  remaining-read : pairAt (bytesOf s) 24 ≡ s .remaining
+  pub remaining-read : pairAt (bytesOf s) 24 ≡ s .remaining
   unfolding bytesOf areaOf
   remaining-read =
       let front = le 8 (s .faults) ++ le 8 (s .patterns) ++ le 8 (s .faults * s .patterns) in
