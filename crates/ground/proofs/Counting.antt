@@ -1,6 +1,6 @@
 -- At how many of the numbers below n a test holds.
 -- Assumes nothing.
-use mathlib.Core.Path.{_≡_, refl, ap, _∙_}
+use mathlib.Core.Path.{_≡_, refl, sym, ap, _∙_}
 use mathlib.Core.Logic.{⊎-elim}
 use mathlib.Core.Bool.{Bool, true, false, not, _&&_, _||_}
 use Prim.Native.Nat.{ℕ, zero, suc, _+_, _≤_, _<_}
@@ -70,6 +70,16 @@ count-more (suc n) t u k l e same = go (ℕ-discrete n k) (λ m. count-more n t 
         let below : countBelow n t ≡ countBelow n u = count-same n t u (λ j l. same j (omega arith) (omega arith)) in
         rw (here, below, q) (omega arith)
     go (no d) ih = rw (same n (omega arith) d) (omega (arith, ih (omega arith)))
+
+-- two tests that hold equally often below n, and agree there but perhaps at k, agree at k
+pub one-test : (n : ℕ) (t u : ℕ → Bool) (k : ℕ) → k < n → ((q : ℕ) → q < n → (q ≡ k → ⊥) → t q ≡ u q) → countBelow n t ≡ countBelow n u → t k ≡ u k
+one-test n t u k l same e = go (t k) (u k) refl refl
+  where
+    go : (x y : Bool) → t k ≡ x → u k ≡ y → x ≡ y
+    go true true p q = refl
+    go true false p q = absurd (omega (arith, rw p at (count-more n u t k l q (λ j m d. sym (same j m d)))))
+    go false true p q = absurd (omega (arith, rw q at (count-more n t u k l p same)))
+    go false false p q = refl
 
 -- where never both hold, those at which either does are those of the one and those of the other
 pub count-either : (n : ℕ) (t u : ℕ → Bool) → ((k : ℕ) → (t k && u k) ≡ false) → countBelow n (λ k. t k || u k) ≡ countBelow n t + countBelow n u

@@ -1,6 +1,6 @@
 -- The marks of a set of faults: what stands where, that they are marks, and that what is laid over zeros are these.
 -- Assumes nothing.
-use mathlib.Core.Path.{_≡_, refl, sym, ap, _∙_}
+use mathlib.Core.Path.{_≡_, ap, _∙_}
 use mathlib.Core.Logic.{⊎-elim}
 use mathlib.Core.Bool.{Bool, true, false, not, _&&_, and-false, and-true}
 use mathlib.Core.List.{List, _++_}
@@ -9,12 +9,12 @@ use native.Mathlib.Omega.{arith}
 use lib.Dec.{eqb, ltb}
 use lib.ListN.{length, getD, replicate, length-append, List·getD-append, List·getD-eq-default}
 use lib.Seq.{getD-append-add}
-use borrow.Author.Tests.{lt-ltb, le-ltb, ltb-false}
+use borrow.Author.Tests.{le-ltb, ltb-false}
 use Rattle.ground.specs.Choose.{choose, one}
 use Rattle.ground.specs.Below.{anyBelow, countBelow}
 use Rattle.ground.specs.Lists.{table}
 use Rattle.ground.specs.Put.{laidOn}
-use Rattle.ground.proofs.Tests.{either, one-most, one-is, bit-one}
+use Rattle.ground.proofs.Tests.{either, one-is, bit-one}
 use Rattle.ground.proofs.Below.{none-any, not-any}
 use Rattle.ground.proofs.Counting.{count-same}
 use Rattle.ground.proofs.Filled.{drop-replicate, filled-length, filled-at}

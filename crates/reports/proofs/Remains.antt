@@ -5,12 +5,10 @@ use mathlib.Core.Logic.{inl, inr}
 use mathlib.Core.Bool.{Bool, true, false, not, _&&_, true≢false}
 use mathlib.Core.List.{List, [], _∷_, _++_}
 use Prim.Native.Nat.{ℕ}
-use lib.Dec.{eqb}
 use borrow.Author.Tests.{eq-eqb, eqb-true, not-true}
 use Rattle.ground.proofs.Tests.{both, and-both, same-test}
 use Rattle.answers.specs.Rules.{Same}
-use Rattle.tables.specs.Entries.{pass, fail}
-use Rattle.reports.specs.Reports.{Report, entryIn, against, strikes, remains}
+use Rattle.reports.specs.Reports.{Report, strikes, remains}
 use Rattle.reports.specs.Words.{Among, Remains}
 
 -- ---- the test goes by each report

@@ -1,7 +1,7 @@
 -- Bytes of an opened state: what is written is read, and the test says the words.
 -- Assumes nothing.
 use mathlib.Core.Path.{_≡_, refl, sym, ap, _∙_}
-use mathlib.Core.Bool.{Bool, true, false, not, _&&_}
+use mathlib.Core.Bool.{Bool, true, false, not}
 use mathlib.Core.List.{List, [], _++_, append-assoc}
 use Prim.Native.Nat.{ℕ, _+_, _*_, _/_, _%_, _≤_, _<_}
 use native.Mathlib.Nat.{add-zero}
@@ -16,7 +16,7 @@ use Rattle.ground.proofs.Counting.{count-most}
 use Rattle.little.specs.Little.{le, pairAt}
 use Rattle.little.proofs.Little.{le-length, read-back}
 use Rattle.answers.specs.Rules.{Same}
-use Rattle.answers.specs.Area.{Four, areaOf}
+use Rattle.answers.specs.Area.{areaOf}
 use Rattle.answers.proofs.Area.{area-length}
 use Rattle.suspects.specs.declared.Suspects.{Suspects}
 use Rattle.suspects.specs.State.{remainsIn, openedOk, Opened}

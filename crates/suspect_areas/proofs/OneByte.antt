@@ -1,8 +1,7 @@
 -- A single changed byte is noticed: of the bytes of an opened state, changing any one gives bytes of no opened state.
 -- Assumes nothing.
-use mathlib.Core.Path.{_≡_, refl, sym, ap, ap₂, _∙_}
+use mathlib.Core.Path.{_≡_, sym, ap, ap₂, _∙_}
 use mathlib.Core.Logic.{⊎-elim}
-use mathlib.Core.Bool.{Bool, true, false}
 use mathlib.Core.List.{List}
 use Prim.Native.Nat.{ℕ, _+_, _*_, _/_, _%_, _≤_, _<_}
 use native.Mathlib.Decide.{ℕ-discrete}
@@ -11,25 +10,14 @@ use native.Mathlib.Omega.{arith}
 use lib.Dec.{eqb}
 use lib.ListN.{length, getD}
 use lib.Seq.{getD-drop}
-use Rattle.ground.specs.Below.{countBelow}
 use Rattle.ground.proofs.Tests.{either}
-use Rattle.ground.proofs.Counting.{count-more}
+use Rattle.ground.proofs.Counting.{one-test}
 use Rattle.little.specs.Little.{le, pairAt}
 use Rattle.suspects.specs.declared.Suspects.{Suspects}
 use Rattle.suspects.specs.State.{stateOf, remainsIn, Opened}
 use Rattle.suspects.proofs.State.{same-state, opened-is}
 use Rattle.suspect_areas.specs.Bytes.{bytesOf, Held}
 use Rattle.suspect_areas.proofs.Held.{marks-behind, faults-read, patterns-read, product-read, remaining-read}
-
--- two tests that hold equally often below n, and agree there but perhaps at k, agree at k
-one-test : (n : ℕ) (t u : ℕ → Bool) (k : ℕ) → k < n → ((q : ℕ) → q < n → (q ≡ k → ⊥) → t q ≡ u q) → countBelow n t ≡ countBelow n u → t k ≡ u k
-one-test n t u k l same e = go (t k) (u k) refl refl
-  where
-    go : (x y : Bool) → t k ≡ x → u k ≡ y → x ≡ y
-    go true true p q = refl
-    go true false p q = absurd (omega (arith, rw p at (count-more n u t k l q (λ j m d. sym (same j m d)))))
-    go false true p q = absurd (omega (arith, rw q at (count-more n t u k l p same)))
-    go false false p q = refl
 
 -- their two lowest bytes tell the numbers from 1 to 65,536 apart
 low-tells : (w v : ℕ) → 1 ≤ w → w ≤ 65536 → 1 ≤ v → v ≤ 65536 → pairAt (le 2 w) 0 ≡ pairAt (le 2 v) 0 → w ≡ v

@@ -15,7 +15,7 @@ use Rattle.suspects.specs.declared.Suspects.{Suspects}
 use Rattle.suspects.specs.declared.Narrowed.{Narrowed}
 use Rattle.suspects.specs.declared.Narrowed.the-variants.{Remaining, Refused}
 use Rattle.suspects.specs.State.{Opened}
-use Rattle.suspects.specs.Promise.{Becomes, Reports, narrowedState, reportRules}
+use Rattle.suspects.specs.Promise.{Reports, narrowedState, reportRules}
 use Rattle.suspects.proofs.State.{state-opened}
 use Rattle.suspects.proofs.Promise.{is-refused, told-so}
 use Rattle.suspect_areas.specs.Bytes.{bytesOf, stateIn}

@@ -15,7 +15,7 @@ use Rattle.suspects.specs.declared.Suspects.{Suspects}
 use Rattle.suspects.specs.State.{Opened}
 use Rattle.suspects.specs.Promise.{reportRules}
 use Rattle.suspects.proofs.Says.{report-says}
-use Rattle.suspect_areas.specs.Bytes.{bytesOf, stateIn, Held}
+use Rattle.suspect_areas.specs.Bytes.{bytesOf, stateIn}
 use Rattle.suspect_areas.specs.Promise.{sizeRules, heldAreaRules, areaRules, openAreaRules, reportAreaRules, roomRules, marksAreaRules}
 use Rattle.suspect_areas.proofs.Held.{held-same, read-bytes}
 

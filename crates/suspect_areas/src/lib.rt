@@ -17,7 +17,7 @@ ghost use Rattle.answers.specs.Area.{areaOf};
 ghost use Rattle.reports.specs.Reports.{reportOf};
 ghost use Rattle.suspects.specs.State.{Opened};
 ghost use Rattle.suspect_areas.specs.Bytes.{numbersOf, bytesOf, stateIn, beginsWith, heldOk};
-ghost use Rattle.suspect_areas.specs.Promise.{sizeRules, heldAreaRules, areaRules, openAreaRules, roomRules, marksAreaRules, OpensArea, ReportsArea, ReadsMarks};
+ghost use Rattle.suspect_areas.specs.Promise.{sizeRules, areaRules, openAreaRules, roomRules, marksAreaRules, OpensArea, ReportsArea, ReadsMarks};
 
 // How many bytes a state has.
 pub const SIZE: usize = 288;

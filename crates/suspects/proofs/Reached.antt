@@ -15,7 +15,7 @@ use Rattle.answers.specs.declared.Ruling.the-variants.{Fine}
 use Rattle.answers.specs.Rules.{refusal, AllHold}
 use Rattle.answers.proofs.Rules.{fine}
 use Rattle.tables.specs.Entries.{pass, unknown}
-use Rattle.tables.specs.Table.{Sized, tableRules}
+use Rattle.tables.specs.Table.{tableRules}
 use Rattle.tables.proofs.Says.{table-says}
 use Rattle.reports.specs.Reports.{Report, reportOf, strikes}
 use Rattle.reports.proofs.Marks.{is-marked}

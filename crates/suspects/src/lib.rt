@@ -13,7 +13,7 @@ ghost use lib.ListN.{length};
 ghost use Rattle.answers.specs.Rules.{refusal};
 ghost use Rattle.tables.specs.Table.{Sized};
 ghost use Rattle.reports.specs.Reports.{reportOf};
-ghost use Rattle.suspects.specs.State.{stateOf, openedOk, Opened};
+ghost use Rattle.suspects.specs.State.{openedOk, Opened};
 ghost use Rattle.suspects.specs.Promise.{openState, narrowedState, patternRules, heldRules, givenRules, reportRules, Opens, Reports};
 
 // The state: a mark for each fault, 1 where it remains, the counts as at opening, and how many remain.

@@ -1,7 +1,5 @@
 -- `suspect_areas::state_in` meets its contract: the marks are copied, the numbers read.
 -- Assumes nothing.
-use mathlib.Core.Path.{sym}
-use native.Mathlib.Omega.{arith}
 use borrow.Author.Needs.{needs}
 use Rattle.ground.proofs.Filled.{filled-length}
 use Rattle.suspect_areas.proofs.Bytes.{read-state, marks-read}

@@ -1,6 +1,6 @@
 -- `suspects::all_remain` meets its contract: the marks are laid over zeros, and all are counted.
 -- Assumes nothing.
-use mathlib.Core.Path.{_≡_, sym, _∙_, refl}
+use mathlib.Core.Path.{sym, _∙_, refl}
 use mathlib.Core.Bool.{true}
 use borrow.Author.Needs.{needs}
 use Rattle.ground.proofs.Counting.{count-all}
