@@ -11,7 +11,7 @@ use lib.ListN.{length}
 use mir.Syntax.{named, w64}
 use mir.Val.{Val, vbool, vint, vptr}
 use base.Logic.{SProp, ent, emp, via, fst∗, snd∗, exE, id⊢}
-use base.Fml.{GName, Lft, Share, Fml, ftrue, fat, flft, fobs, fbor}
+use base.Fml.{GName, Lft, Share, Fml, ftrue, fat, flft}
 use prog.Memory.{Memory}
 use prog.Routine.{Routine}
 use prog.Wp.{Heap, Calls, Loops, WpFn, Tables}
@@ -22,11 +22,9 @@ use contract.Running.{givenOf, tables, tablesOf}
 use types.Kit.{Given, ‵, raw, _⊛_, some, later, _$_, _∵_, !, qed, by, move, keep, drop, use1, use3, ⋆, split, join, pick, rewrite, fsplit, fsplit3, fjoin, fjoin3, feqI, suffices, frame, await, done}
 use types.Run.{look, look-raw, store-raw, init, forget, stop, hop, fld, from, load, of-opd, and-then, no-more, assigns, land, returns, enter, alloc1, alloc0, params1, pass1, pass0, free1, free0}
 use types.Part.{whole, sub, look-in}
-use types.SemTy.{Body}
 use sound.WpLaws.{FmC, fmOf, WpFn-mono}
 use denote.RattleType.{owns}
 use denote.Laws.{Is, shows}
-use denote.Memory.{mem}
 use denote.Plain.{uint-vals, uint-tells, uint-makes, bool-vals, bool-tells, bool-makes}
 use denote.Builtin.{u8, u64, bool}
 use denote.Slice.{sliceVal, ShrSlice, slice-vals, shr-slice-tells, shr-slice-copy, shr-slice-lawful}
@@ -54,7 +52,7 @@ use Rattle.suspects.proofs.Narrowed as N
 use Rattle.suspects.proofs.Narrowed.Laws as N′
 use Rattle.suspects.proofs.After as R
 use Rattle.suspects.proofs.After.Laws as R′
-use Rattle.suspects.proofs.Lent.{vals, answer-val, is-state, is-answer}
+use Rattle.suspects.proofs.Lent.{vals, answer-val, is-state, is-answer, left}
 use Rattle.suspects.proofs.reported as callee
 use Rattle.suspects.proofs.reported.Symbol as callee-def
 use Rattle.suspects.proofs.reported.Symbol.{name as #callee}
@@ -97,11 +95,9 @@ module _ {M : Type 1} (𝓤 : URA M) (H : Heap 𝓤) (A : Atoms 𝓤) (W : Given
   abbrev Post : Val → SProp 𝓤
   Post = walkOf 𝓤 H A own.ended stayed (own.clauses 𝓤 H A at-mem run) .post (((κ, (κ′, tt)), (q, (q′, tt)), bounds, x, at), tt)
 
-  exits : (r : After) → Says r → Is N.the-row (r .answer) (answer-val (r .answer) ∷ [])
-      → ent 𝓤 (⋆ 𝓤 H A (‵ (fobs γ (S.the-row .coded .code (r .state))) ∷ ‵ (fbor κ (Body (mem S.the-row) b o γ)) ∷ ‵ (flft κ q) ∷ (‵ (flft κ′ q′) ⊛ ‵ ftrue) ∷ ‵ Own ∷ []))
-      (Post (answer-val (r .answer)))
+  exits : (r : After) → Says r → Is N.the-row (r .answer) (answer-val (r .answer) ∷ []) → ent 𝓤 (⋆ 𝓤 H A (left 𝓤 κ q κ′ q′ b o γ Own (r .state))) (Post (answer-val (r .answer)))
   exits r e is =
-      qed W (‵ (fobs γ (S.the-row .coded .code (r .state))) ∷ ‵ (fbor κ (Body (mem S.the-row) b o γ)) ∷ ‵ (flft κ q) ∷ (‵ (flft κ′ q′) ⊛ ‵ ftrue) ∷ ‵ Own ∷ []) ∵
+      qed W (left 𝓤 κ q κ′ q′ b o γ Own (r .state)) ∵
       suffices ! _
       (ends-at 𝓤 H A own.ended stayed (own.clauses 𝓤 H A at-mem run) W (((κ, (κ′, tt)), (q, (q′, tt)), bounds, x, at), tt)
       (answer-val (r .answer)) (r .answer) (r .state, (tt, (tt, (tt, (tt, (tt, tt)))))) (tt, (tt, (tt, (tt, (tt, (tt, tt))))))) $
