@@ -11,3 +11,4 @@ pub mod Gather
 pub mod Collect
 pub mod Elem
 pub mod Related
+pub mod Laid

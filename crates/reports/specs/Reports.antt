@@ -27,10 +27,10 @@ abbrev pub against : Bool → ℕ
 against failed = choose failed pass fail
 
 -- the report speaks against fault f
-unfoldable pub strikes : Report → ℕ → Bool
-strikes r f = eqb (entryIn r f) (against (r .failed))
+unfoldable pub speaksAgainst : Report → ℕ → Bool
+speaksAgainst r f = eqb (entryIn r f) (against (r .failed))
 
 -- fault f remains after the reports: none of them speaks against it
 unfoldable pub remains : List Report → ℕ → Bool
 remains [] f = true
-remains (r ∷ rs) f = remains rs f && not (strikes r f)
+remains (r ∷ rs) f = remains rs f && not (speaksAgainst r f)

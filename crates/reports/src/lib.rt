@@ -28,7 +28,7 @@ fn mark_after(mark: u8, entry: u8, bad: u8) -> u8
     if entry == bad { 0 } else { mark }
 }
 
-// The marks after a report, into memory that is all 0: those before it, without the faults whose entry in the row is the bad one.
+// The marks after a report, over the front of `after`: those before it, without the faults whose entry in the row is the bad one.
 pub fn narrow(marks: &[u8], row: &[u8], bad: u8, after: &mut [u8])
     requires { ⌜ (length (now row) ≤ length (now marks)) × (length (now row) ≤ length (now after)) ⌝ }
     ensures { λ _. ⌜ now (after .exit) ≡ laidOn (now (after .entry)) (narrowed (now (marks .entry)) (now (row .entry)) bad) ⌝ }

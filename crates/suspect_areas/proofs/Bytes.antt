@@ -1,18 +1,17 @@
--- A state and its bytes: how they are laid, that they are read back, and that the test says the words.
+-- The bytes of a state are laid: its front, and the marks behind it.
 -- Assumes nothing.
 use mathlib.Core.Path.{_≡_, sym, ap, _∙_}
 use mathlib.Core.List.{List, [], _++_, append-nil}
 use Prim.Native.Nat.{ℕ, _+_, _-_}
 use native.Mathlib.Omega.{arith}
-use lib.ListN.{length, take, drop, length-append, length-drop}
-use lib.Seq.{length-take-le, take-all, take-at, drop-at, drop-length}
+use lib.ListN.{length, take, drop, length-append}
+use lib.Seq.{length-take-le, take-at, drop-at, drop-length}
 use borrow.Rule.Slice.PartMut.{putMid, midOf, postOf, post-is}
 use Rattle.ground.proofs.Put.{copied}
-use Rattle.little.specs.Little.{pairAt}
 use Rattle.answers.specs.Area.{areaOf}
 use Rattle.answers.proofs.Area.{area-length}
 use Rattle.suspects.specs.declared.Suspects.{Suspects}
-use Rattle.suspect_areas.specs.Bytes.{numbersOf, bytesOf, stateIn}
+use Rattle.suspect_areas.specs.Bytes.{numbersOf, bytesOf}
 
 -- the part behind the front
 pub part-length : (front rest : List ℕ) → length front ≡ 32 → length rest ≡ 256 → length (midOf 32 (length (front ++ rest) - 32) (front ++ rest)) ≡ 256
@@ -36,19 +35,3 @@ pub laid-state : (s : Suspects) (front rest : List ℕ) {now : List ℕ} → fro
     → putMid 32 (length (front ++ rest) - 32) (front ++ rest) now ≡ bytesOf s
 unfolding bytesOf
 laid-state s front rest {now} e r m is = marks-laid front rest (s .marks) (rw e (area-length (numbersOf s))) r m is ∙ ap (λ (v : List ℕ). v ++ s .marks) e
-
--- ---- read back
-
--- as the code reads it
-pub read-state : {m : List ℕ} {x y z : ℕ} (a : List ℕ) → m ≡ drop 32 a → x ≡ pairAt a 0 → y ≡ pairAt a 8 → z ≡ pairAt a 24
-    → record { marks = m; faults = x; patterns = y; remaining = z } ≡ stateIn a
-unfolding stateIn
-read-state a e f g h i = record { marks = e i; faults = f i; patterns = g i; remaining = h i }
-
--- the marks are copied out of the part behind the front
-pub marks-read : (a zeros : List ℕ) {now : List ℕ} → length a ≡ 288 → length zeros ≡ 256
-    → now ≡ take (length (take (length a - 32) (drop 32 a))) (take (length a - 32) (drop 32 a)) ++ drop (length (take (length a - 32) (drop 32 a))) zeros
-    → now ≡ drop 32 a
-marks-read a zeros {now} size z is =
-    let all : take (length a - 32) (drop 32 a) ≡ drop 32 a = take-all (length a - 32) (drop 32 a) (rw length-drop (omega arith)) in
-    (rw all at is) ∙ copied (drop 32 a) zeros (rw length-drop (omega (arith, size, z)))

@@ -17,7 +17,7 @@ use Rattle.suspects.specs.declared.Suspects.{Suspects}
 use Rattle.suspects.specs.State.{stateOf, remainsIn, Opened}
 use Rattle.suspects.proofs.State.{same-state, opened-is}
 use Rattle.suspect_areas.specs.Bytes.{bytesOf, Held}
-use Rattle.suspect_areas.proofs.Held.{marks-behind, faults-read, patterns-read, product-read, remaining-read}
+use Rattle.suspect_areas.proofs.Read.{marks-behind, faults-read, patterns-read, product-read, remaining-read}
 
 -- their two lowest bytes tell the numbers from 1 to 65,536 apart
 low-tells : (w v : ℕ) → 1 ≤ w → w ≤ 65536 → 1 ≤ v → v ≤ 65536 → pairAt (le 2 w) 0 ≡ pairAt (le 2 v) 0 → w ≡ v

@@ -6,7 +6,7 @@ use Prim.Native.Nat.{ℕ}
 use lib.ListN.{length}
 use Rattle.answers.specs.declared.Ruling.the-variants.{Fine}
 use Rattle.answers.specs.Rules.{refusal, AllSay, AllHold}
-use Rattle.answers.proofs.Rules.{all-hold, both-fine, both-say}
+use Rattle.answers.proofs.Rules.{all-hold, fine, after-fine, both-fine, both-say}
 use Rattle.answers.proofs.Same.{eq-same}
 use Rattle.tables.specs.Table.{Sized, tableRules}
 use Rattle.tables.proofs.Says.{table-says, fine-sized}
@@ -15,9 +15,10 @@ use Rattle.suspects.specs.declared.Suspects.{Suspects}
 use Rattle.suspects.specs.State.{Opened}
 use Rattle.suspects.specs.Promise.{reportRules}
 use Rattle.suspects.proofs.Says.{report-says}
-use Rattle.suspect_areas.specs.Bytes.{bytesOf, stateIn}
+use Rattle.suspect_areas.specs.Bytes.{bytesOf, stateIn, Held}
 use Rattle.suspect_areas.specs.Promise.{sizeRules, heldAreaRules, areaRules, openAreaRules, reportAreaRules, roomRules, marksAreaRules}
-use Rattle.suspect_areas.proofs.Held.{held-same, read-bytes}
+use Rattle.suspect_areas.proofs.Read.{bytes-length}
+use Rattle.suspect_areas.proofs.Held.{held-same, held-state}
 
 size-says : (a : List ℕ) → AllSay (sizeRules a)
 unfolding sizeRules AllSay
@@ -47,7 +48,7 @@ marks-area-says a m = both-say (areaRules a) (roomRules (stateIn a) m) (area-say
 
 -- ---- what is not refused
 
-fine-size : (a : List ℕ) → refusal (sizeRules a) ≡ Fine → length a ≡ 288
+pub fine-size : (a : List ℕ) → refusal (sizeRules a) ≡ Fine → length a ≡ 288
 unfolding sizeRules AllHold
 fine-size a e = all-hold (sizeRules a) (size-says a) e .0
 
@@ -56,21 +57,32 @@ pub fine-open : (a : List ℕ) (F P : ℕ) (t : List ℕ) → refusal (openAreaR
 fine-open a F P t e = let w = both-fine (sizeRules a) (tableRules F P t) e in (fine-size a (w .0), fine-sized F P t (w .1))
 
 -- the area has its size and holds the bytes of an opened state
-pub record Filled (a : List ℕ) : Type 0 where
+pub record HoldsState (a : List ℕ) : Type 0 where
   pub size : length a ≡ 288
   pub opened : Opened (stateIn a)
   pub bytes : a ≡ bytesOf (stateIn a)
 
-pub fine-area : (a : List ℕ) → refusal (areaRules a) ≡ Fine → Filled a
+pub fine-area : (a : List ℕ) → refusal (areaRules a) ≡ Fine → HoldsState a
 unfolding heldAreaRules AllHold
 fine-area a e =
     let w = both-fine (sizeRules a) (heldAreaRules a) e in
     let h = all-hold (heldAreaRules a) (held-says a) (w .1) .0 in
-    let is : stateIn a ≡ h .state = ap stateIn (h .bytes) ∙ read-bytes (h .state) (h .opened) in
+    let is = held-state h in
     record { size = fine-size a (w .0); opened = rw is (h .opened); bytes = h .bytes ∙ ap bytesOf (sym is) }
 
+-- and back
+pub size-fine : (a : List ℕ) → length a ≡ 288 → refusal (sizeRules a) ≡ Fine
+unfolding sizeRules AllHold
+size-fine a e = fine (sizeRules a) (size-says a) (e, tt)
+
+pub held-fine : (a : List ℕ) → Held a → refusal (areaRules a) ≡ Fine
+unfolding heldAreaRules AllHold
+held-fine a h =
+    after-fine (sizeRules a) (heldAreaRules a) (size-fine a (ap length (h .bytes) ∙ bytes-length (h .state) (h .marks)))
+    ∙ fine (heldAreaRules a) (held-says a) (h, tt)
+
 -- and there is room for the marks
-pub fine-marks : (a m : List ℕ) → refusal (marksAreaRules a m) ≡ Fine → Filled a × (length m ≡ stateIn a .faults)
+pub fine-marks : (a m : List ℕ) → refusal (marksAreaRules a m) ≡ Fine → HoldsState a × (length m ≡ stateIn a .faults)
 unfolding roomRules AllHold
 fine-marks a m e =
     let w = both-fine (areaRules a) (roomRules (stateIn a) m) e in

@@ -17,7 +17,7 @@ ghost use Rattle.answers.specs.Area.{areaOf};
 ghost use Rattle.reports.specs.Reports.{reportOf};
 ghost use Rattle.suspects.specs.State.{Opened};
 ghost use Rattle.suspect_areas.specs.Bytes.{numbersOf, bytesOf, stateIn, beginsWith, heldOk};
-ghost use Rattle.suspect_areas.specs.Promise.{sizeRules, areaRules, openAreaRules, roomRules, marksAreaRules, OpensArea, ReportsArea, ReadsMarks};
+ghost use Rattle.suspect_areas.specs.Promise.{sizeRules, heldAreaRules, areaRules, openAreaRules, roomRules, marksAreaRules, OpensArea, ReportsArea, ReadsMarks};
 
 // How many bytes a state has.
 pub const SIZE: usize = 288;
@@ -122,17 +122,25 @@ fn check_opening(fault_count: u64, pattern_count: u64, table: &[u8], area: &[u8]
     }
 }
 
-// Refusal 10, and 22 where it holds no opened state.
+// Refusal 22, of an area of its size: it holds an opened state.
+fn check_held(area: &[u8]) -> Ruling
+    requires { ⌜ length (now area) ≡ 288 ⌝ }
+    ensures { λ r. ⌜ r ≡ refusal (heldAreaRules (now (area .entry))) ⌝ }
+{
+    if holds_state(area) {
+        return Ruling::Fine;
+    }
+    Ruling::Refused(22, 0)
+}
+
+// Refusal 10, then 22.
 fn check_area(area: &[u8]) -> Ruling
     ensures { λ r. ⌜ r ≡ refusal (areaRules (now (area .entry))) ⌝ }
 {
-    if area.len() != SIZE {
-        return Ruling::Refused(10, 0);
+    match check_size(area) {
+        Ruling::Refused(number, place) => Ruling::Refused(number, place),
+        Ruling::Fine => check_held(area),
     }
-    if !holds_state(area) {
-        return Ruling::Refused(22, 0);
-    }
-    Ruling::Fine
 }
 
 // Refusal 10: one mark a fault.

@@ -15,7 +15,7 @@ use Rattle.ground.specs.Put.{laidOn}
 use Rattle.ground.proofs.Grow.{grow-same}
 use Rattle.tables.specs.Table.{Sized}
 use Rattle.tables.proofs.Rows.{row-fits, row-entry}
-use Rattle.reports.specs.Reports.{reportOf, against, strikes}
+use Rattle.reports.specs.Reports.{reportOf, against, speaksAgainst}
 use Rattle.reports.specs.Marks.{marked, marksOf}
 use Rattle.reports.specs.Owed.{narrowed}
 use Rattle.reports.proofs.Marks.{laid-marks, count-marked, narrowed-is}
@@ -37,12 +37,12 @@ row-at F p t f l = let size : p * F + F - p * F ≡ F = omega arith in rw size (
 
 -- the faults that remained and that the report does not speak against
 abbrev left : Suspects → List ℕ → ℕ → Bool → ℕ → Bool
-left s t p failed f = remainsIn s f && not (strikes (reportOf (s .faults) (s .patterns) t p failed) f)
+left s t p failed f = remainsIn s f && not (speaksAgainst (reportOf (s .faults) (s .patterns) t p failed) f)
 
 module _ (s : Suspects) (t : List ℕ) (p : ℕ) (failed : Bool) where
   pub left-marks : {bad : ℕ} → Opened s → Sized (s .faults) (s .patterns) (length t) → p < s .patterns → bad ≡ against failed
       → laidOn (replicate 256 0) (narrowed (s .marks) (row (s .faults) p t) bad) ≡ marksOf (s .faults) (left s t p failed)
-  unfolding strikes
+  unfolding speaksAgainst
   left-marks {bad} o sized inside is =
       let long = row-length t sized inside in
       let marks : narrowed (s .marks) (row (s .faults) p t) bad ≡ table (λ f. one (left s t p failed f)) (s .faults) =

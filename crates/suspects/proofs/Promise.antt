@@ -33,11 +33,11 @@ module _ {M : Type 0} {rules : List Rule} {m new : M} {n : ℕ} where
   told-so says is = record { answer = says; numbers = ap narrowedNumbers says ∙ numbers-told narrowedNumbers (λ k p. refl) (refusal rules) (Remaining n); state = is }
 
 -- of a state by value, with how many remain in it
-pub is-state : {rules : List Rule} {s new s′ x : Suspects} {n : ℕ} {r : Narrowed}
+pub state-taken : {rules : List Rule} {s new s′ x : Suspects} {n : ℕ} {r : Narrowed}
     → refusal rules ≡ Ruling.Fine
     → s′ ≡ x
     → r ≡ Remaining (x .remaining)
     → x ≡ new
     → new .remaining ≡ n
     → Becomes rules s new n r s′
-is-state e is says new-is number = is-taken e (says ∙ ap (λ (z : Suspects). Remaining (z .remaining)) new-is ∙ ap Remaining number) (is ∙ new-is)
+state-taken e is says new-is number = is-taken e (says ∙ ap (λ (z : Suspects). Remaining (z .remaining)) new-is ∙ ap Remaining number) (is ∙ new-is)

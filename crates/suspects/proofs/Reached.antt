@@ -17,7 +17,7 @@ use Rattle.answers.proofs.Rules.{fine}
 use Rattle.tables.specs.Entries.{pass, unknown}
 use Rattle.tables.specs.Table.{tableRules}
 use Rattle.tables.proofs.Says.{table-says}
-use Rattle.reports.specs.Reports.{Report, reportOf, strikes}
+use Rattle.reports.specs.Reports.{Report, reportOf, speaksAgainst}
 use Rattle.reports.proofs.Marks.{is-marked}
 use Rattle.suspects.specs.declared.Suspects.{Suspects}
 use Rattle.suspects.specs.declared.Narrowed.the-variants.{Remaining}
@@ -30,7 +30,7 @@ use Rattle.suspects.proofs.Says.{taken-fine}
 use Rattle.suspects.proofs.Promise.{is-taken}
 
 -- an entry that speaks against a fault, if pattern 0 fails, exactly if the fault is to go
-abbrev entry : Bool → ℕ
+abbrev pub entry : Bool → ℕ
 entry b = choose b unknown pass
 
 entry-small : (b : Bool) → entry b ≤ 2
@@ -43,10 +43,10 @@ entry-left false = refl
 
 module _ (s : Suspects) (o : Opened s) (long : length (s .marks) ≡ 256) where
   -- a table in whose first row the faults that are to go have pass
-  abbrev lent : List ℕ
+  abbrev pub lent : List ℕ
   lent = table (λ i. entry (remainsIn s i)) (s .faults * s .patterns)
 
-  abbrev once : Report
+  abbrev pub once : Report
   once = reportOf (s .faults) (s .patterns) lent 0 true
 
   lent-fine : refusal (tableRules (s .faults) (s .patterns) lent) ≡ Fine
@@ -60,10 +60,10 @@ module _ (s : Suspects) (o : Opened s) (long : length (s .marks) ≡ 256) where
 
   -- it leaves what remains in s
   leaves : narrowedState (openState (s .faults) (s .patterns)) once ≡ s
-  unfolding strikes
+  unfolding speaksAgainst
   leaves = same-state (s .faults) (s .patterns) _ (remainsIn s) each ∙ sym (opened-is s o long)
     where
-      each : (f : ℕ) → f < s .faults → (remainsIn (openState (s .faults) (s .patterns)) f && not (strikes once f)) ≡ remainsIn s f
+      each : (f : ℕ) → f < s .faults → (remainsIn (openState (s .faults) (s .patterns)) f && not (speaksAgainst once f)) ≡ remainsIn s f
       each f l =
           let row : s .faults * 1 ≤ s .faults * s .patterns = mul-le-mul (le-refl (s .faults)) (o .some-pattern) in
           let at : getD lent (0 * s .faults + f) 0 ≡ entry (remainsIn s f) =

@@ -1,21 +1,20 @@
 -- What a session comes to: the marks are those of the definition over the reports that were taken; neither their order nor repetition matters.
 -- Assumes nothing.
-use mathlib.Core.Path.{_≡_, sym, ap, _∙_}
+use mathlib.Core.Path.{_≡_, sym, ap, subst, _∙_}
 use mathlib.Core.Logic.{_↔_}
 use mathlib.Core.Bool.{Bool, not, _&&_}
 use mathlib.Core.List.{List, [], _∷_, _++_}
 use Prim.Native.Nat.{ℕ, _≤_, _<_}
 use lib.ListN.{getD}
-use borrow.Author.Tests.{eq-eqb, eqb-true}
 use Rattle.ground.specs.Below.{countBelow}
 use Rattle.answers.specs.declared.Ruling.{Ruling}
 use Rattle.answers.specs.Rules.{Rule, refusal, unless}
 use Rattle.answers.proofs.Answer.{was-ruled}
 use Rattle.tables.proofs.Says.{fine-sized}
-use Rattle.reports.specs.Reports.{Report, strikes, remains}
+use Rattle.reports.specs.Reports.{Report, speaksAgainst, remains}
 use Rattle.reports.specs.Words.{Among, Remains}
 use Rattle.reports.proofs.Marks.{is-marked}
-use Rattle.reports.proofs.Remains.{remains-more, same-remain, remains-same}
+use Rattle.reports.proofs.Remains.{remains-more, same-remain, marks-words}
 use Rattle.suspects.specs.declared.Suspects.{Suspects}
 use Rattle.suspects.specs.declared.Narrowed.{Narrowed}
 use Rattle.suspects.specs.declared.Narrowed.the-variants.{Remaining, Refused}
@@ -41,7 +40,7 @@ module _ {M : Type 0} {rules : List Rule} {s new s′ : M} {n : ℕ} {r : Narrow
 -- one report more, to the state that those before it left
 pub more : (F P : ℕ) (rs : List Report) (q : Report) → narrowedState (stateOf F P (remains rs)) q ≡ stateOf F P (remains (rs ++ (q ∷ [])))
 more F P rs q =
-    same-state F P _ _ (λ f l. ap (λ (b : Bool). b && not (strikes q f)) (is-marked F (remains rs) f l) ∙ sym (remains-more rs q f))
+    same-state F P _ _ (λ f l. ap (λ (b : Bool). b && not (speaksAgainst q f)) (is-marked F (remains rs) f l) ∙ sym (remains-more rs q f))
 
 -- the state is that of the faults that remain by definition
 pub session-state : {F P : ℕ} {rs : List Report} {s : Suspects} → Session F P rs s → s ≡ stateOf F P (remains rs)
@@ -63,11 +62,7 @@ module _ {F P : ℕ} {rs : List Report} {s : Suspects} (so : Session F P rs s) w
 
   -- a fault is marked exactly if no pattern reported failed has its entry pass and none reported passed has it fail
   pub session-words : (f : ℕ) → f < F → (getD (s .marks) f 0 ≡ 1) ↔ Remains rs f
-  session-words f l =
-      let is : remainsIn s f ≡ remains rs f = ap (λ (x : Suspects). remainsIn x f) (session-state so) ∙ is-marked F (remains rs) f l in (
-        λ e. remains-same rs f .holds (sym is ∙ eq-eqb _ _ e),
-        λ w. eqb-true _ _ (is ∙ remains-same rs f .tests w),
-      )
+  session-words f l = subst (λ (x : Suspects). (getD (x .marks) f 0 ≡ 1) ↔ Remains rs f) (sym (session-state so)) (marks-words F rs f l)
 
   -- and the number remaining is that of the marks set
   pub session-number : s .remaining ≡ countBelow F (remainsIn s)

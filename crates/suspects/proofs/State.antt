@@ -9,21 +9,18 @@ use native.Mathlib.Omega.{arith}
 use lib.Dec.{ltb}
 use lib.ListN.{length, getD}
 use lib.Seq.{ext-getD}
-use borrow.Author.Tests.{le-leb, eq-eqb, eqb-true, lt-ltb, le-ltb, not-true}
+use borrow.Author.Tests.{eq-eqb, eqb-true, lt-ltb, le-ltb, not-true}
 use Rattle.ground.specs.Choose.{one}
 use Rattle.ground.specs.Below.{anyBelow, countBelow}
 use Rattle.ground.proofs.Tests.{either, both, and-both, one-most, bit-one}
 use Rattle.ground.proofs.Counting.{count-same}
 use Rattle.answers.specs.Rules.{Same}
 use Rattle.tables.specs.Table.{inRange}
-use Rattle.tables.proofs.Says.{in-range}
+use Rattle.tables.proofs.Says.{in-range, range-ok}
 use Rattle.reports.specs.Marks.{marksOf, noMark}
 use Rattle.reports.proofs.Marks.{marks-length, mark-at, mark-rest, count-marked, same-marks, all-marks, marks-all}
 use Rattle.suspects.specs.declared.Suspects.{Suspects}
 use Rattle.suspects.specs.State.{stateOf, remainsIn, openedOk, Opened}
-
-range-ok : (n : ℕ) → 1 ≤ n → n ≤ 256 → inRange n ≡ true
-range-ok n a b = and-both (le-leb 1 n a) (le-leb n 256 b)
 
 module _ (s : Suspects) where
   is-opened : openedOk s ≡ true → Opened s

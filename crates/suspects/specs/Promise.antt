@@ -10,7 +10,7 @@ use Rattle.answers.specs.Rules.Rule.{whole}
 use Rattle.answers.specs.Answer.{answered}
 use Rattle.answers.specs.Area.{Numbers, success, refusedAt, told}
 use Rattle.tables.specs.Table.{tableRules}
-use Rattle.reports.specs.Reports.{Report, strikes}
+use Rattle.reports.specs.Reports.{Report, speaksAgainst}
 use Rattle.suspects.specs.declared.Suspects.{Suspects}
 use Rattle.suspects.specs.declared.Narrowed.{Narrowed}
 use Rattle.suspects.specs.declared.Narrowed.the-variants.{Remaining, Refused}
@@ -61,7 +61,7 @@ reportRules s F P t p = heldRules s F P ++ givenRules F P t p
 
 -- the faults that remained, without those that the report speaks against
 abbrev pub narrowedState : Suspects → Report → Suspects
-narrowedState s q = stateOf (s .faults) (s .patterns) (λ f. remainsIn s f && not (strikes q f))
+narrowedState s q = stateOf (s .faults) (s .patterns) (λ f. remainsIn s f && not (speaksAgainst q f))
 
 abbrev pub Reports : Suspects → Report → Narrowed → Suspects → Type 0
 Reports s q = Becomes (reportRules s (q .faults) (q .patterns) (q .table) (q .pattern)) s (narrowedState s q) (narrowedState s q .remaining)

@@ -38,7 +38,7 @@ pub struct After {
 }
 
 // Where nothing is refused, how many remain is the answer.
-fn answered(state: Suspects) -> After
+fn with_answer(state: Suspects) -> After
     ensures { λ r. ⌜ (r .state ≡ state) × (r .answer ≡ Narrowed.Remaining (state .remaining)) ⌝ }
 {
     After {
@@ -73,7 +73,7 @@ pub fn opened(state: Suspects, fault_count: u64, pattern_count: u64, table: &[u8
             state,
             answer: Narrowed::Refused(number, place),
         },
-        Ruling::Fine => answered(all_remain(fault_count, pattern_count)),
+        Ruling::Fine => with_answer(all_remain(fault_count, pattern_count)),
     }
 }
 
@@ -184,7 +184,7 @@ pub fn reported(
             state,
             answer: Narrowed::Refused(number, place),
         },
-        Ruling::Fine => answered(narrow_state(state, table, pattern, failed)),
+        Ruling::Fine => with_answer(narrow_state(state, table, pattern, failed)),
     }
 }
 

@@ -18,6 +18,9 @@ use Rattle.tables.specs.Marks.{marksRules, keptRules}
 pub in-range : (n : ℕ) → inRange n ≡ true → (1 ≤ n) × (n ≤ 256)
 in-range n e = let w = both (leb 1 n) (leb n 256) e in (leb-true 1 n (w .0), leb-true n 256 (w .1))
 
+pub range-ok : (n : ℕ) → 1 ≤ n → n ≤ 256 → inRange n ≡ true
+range-ok n a b = and-both (le-leb 1 n a) (le-leb n 256 b)
+
 module _ (F P bytes : ℕ) where
   is-sized : sizesOk F P bytes ≡ true → Sized F P bytes
   unfolding sizesOk
@@ -31,8 +34,7 @@ module _ (F P bytes : ℕ) where
   sized-ok : Sized F P bytes → sizesOk F P bytes ≡ true
   unfolding sizesOk
   sized-ok s =
-      and-both (and-both (le-leb 1 F (s .some-fault)) (le-leb F 256 (s .few-faults)))
-      (and-both (and-both (le-leb 1 P (s .some-pattern)) (le-leb P 256 (s .few-patterns))) (eq-eqb bytes (F * P) (s .product)))
+      and-both (range-ok F (s .some-fault) (s .few-faults)) (and-both (range-ok P (s .some-pattern) (s .few-patterns)) (eq-eqb bytes (F * P) (s .product)))
 
   sized-same : Same (sizesOk F P bytes) (Sized F P bytes)
   sized-same = record { holds = is-sized; tests = sized-ok }

@@ -4,7 +4,7 @@ use mathlib.Core.Path.{refl}
 use Prim.Native.Nat.{_-_}
 use native.Mathlib.Omega.{arith}
 use borrow.Author.Needs.{needs}
-use Rattle.reports.proofs.Laid.{Laying, laying-none, laying-more, laying-all}
+use Rattle.ground.proofs.Laid.{Laying, laying-none, laying-more, laying-all}
 use Rattle.reports.proofs.mark_all.Statement.{statement}
 use Rattle.reports.proofs.mark_all.Tie as tie
 

@@ -6,7 +6,7 @@ use lib.Dec.{eqb}
 use lib.ListN.{length, getD}
 use borrow.Author.Needs.{needs}
 use Rattle.ground.specs.Choose.{choose}
-use Rattle.reports.proofs.Laid.{Laying, laying-none, laying-more, laying-all}
+use Rattle.ground.proofs.Laid.{Laying, laying-none, laying-more, laying-all}
 use Rattle.reports.proofs.narrow.Statement.{statement}
 use Rattle.reports.proofs.narrow.Tie as tie
 

@@ -2,7 +2,7 @@
 -- Assumes nothing.
 use borrow.Author.Needs.{needs}
 use Rattle.ground.proofs.Filled.{filled-length}
-use Rattle.suspect_areas.proofs.Bytes.{read-state, marks-read}
+use Rattle.suspect_areas.proofs.Read.{read-state, marks-read}
 use Rattle.suspect_areas.proofs.state_in.Statement.{statement}
 use Rattle.suspect_areas.proofs.state_in.Tie as tie
 

@@ -5,7 +5,7 @@ use native.Mathlib.Omega.{arith}
 use borrow.Author.Needs.{needs}
 use Rattle.ground.proofs.Counting.{count-all}
 use Rattle.tables.proofs.Says.{fine-sized}
-use Rattle.suspects.proofs.Promise.{is-refused, is-state}
+use Rattle.suspects.proofs.Promise.{is-refused, state-taken}
 use Rattle.suspects.proofs.opened.Statement.{statement}
 use Rattle.suspects.proofs.opened.Tie as tie
 
@@ -19,9 +19,9 @@ returns-2 : tie.Need-returns-2
 returns-2 c =
     let begun = c .before in
     let told = begun .before in
-    let done = c .answered .ensures in
+    let done = c .with-answer .ensures in
     let kept = sym (told .before .before .check-table .ensures) ∙ told .enum-told .given .1 in
-    is-state kept (done .0) (done .1) (begun .all-remain .ensures) (count-all _ _ (λ f l. refl))
+    state-taken kept (done .0) (done .1) (begun .all-remain .ensures) (count-all _ _ (λ f l. refl))
 
 pub opened-spec : {M : Type 1} → statement M
 opened-spec =

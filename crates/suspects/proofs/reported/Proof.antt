@@ -3,7 +3,7 @@
 use mathlib.Core.Path.{refl, sym, _∙_}
 use borrow.Author.Needs.{needs}
 use Rattle.suspects.proofs.Says.{taken}
-use Rattle.suspects.proofs.Promise.{is-refused, is-state}
+use Rattle.suspects.proofs.Promise.{is-refused, state-taken}
 use Rattle.suspects.proofs.reported.Statement.{statement}
 use Rattle.suspects.proofs.reported.Tie as tie
 
@@ -19,10 +19,10 @@ returns-2 : tie.Need-returns-2
 returns-2 c =
     let narrowed = c .before in
     let told = narrowed .before in
-    let done = c .answered .ensures in
+    let done = c .with-answer .ensures in
     let kept = sym (told .before .before .check-report .ensures) ∙ told .enum-told .given .1 in
     let w = taken _ _ _ _ _ kept in
-    is-state kept (done .0) (done .1) (narrowed .narrow-state .ensures ∙ rw (w .faults, w .patterns)) refl
+    state-taken kept (done .0) (done .1) (narrowed .narrow-state .ensures ∙ rw (w .faults, w .patterns)) refl
 
 pub reported-spec : {M : Type 1} → statement M
 reported-spec =
