@@ -93,7 +93,7 @@ typedef __UINT64_TYPE__ uint64_t;
     each(ULLIMAQSU_PATTERN_BYTE,    9, "a pattern byte is above 2", "byte") \
     each(ULLIMAQSU_BUFFER_SIZE,    10, "a lent buffer has not its exact size", "") \
     each(ULLIMAQSU_NO_ROOM,        11, "the clauses do not fit the lent words", "words needed:") \
-    each(ULLIMAQSU_TABLE_SIZE,     12, "a count of faults or patterns is outside 1 to 256 or other than at opening, or the table is not of their product", "") \
+    each(ULLIMAQSU_TABLE_SIZE,     12, "a count of faults or patterns is outside 1 to 256, or the table is not of their product (report to suspects: or a count is other than at opening)", "") \
     each(ULLIMAQSU_TABLE_BYTE,     13, "a table byte is above 2", "byte") \
     each(ULLIMAQSU_BENCH_SYNTAX,   14, "the text goes on or ends as no text in the bench notation does", "byte") \
     each(ULLIMAQSU_BENCH_NAME,     15, "a name is used and defined nowhere, or defined a second time", "byte") \

@@ -76,7 +76,7 @@ impl Suspects {
     }
 
     /// The suspects of an area, if it is what C holds of any. It does not say what was reported, and need not: what remains could as well have come
-    /// of one report, that a pattern failed under which all others pass and nothing is known of these.
+    /// of one report: that a pattern failed whose entry is unknown for those that remain and pass for all others.
     pub fn read(area: &[u8]) -> Option<Suspects> {
         let mut numbers = area.chunks(8).map(|bytes| bytes.iter().rev().fold(0, |number, &byte| number << 8 | usize::from(byte)));
         let [faults, patterns] = [numbers.next()?, numbers.next()?];
