@@ -29,10 +29,11 @@ A fault remains if the dictionary has pass for it under no pattern that failed, 
 may come in any order and again, and all of them count: a fault that is struck never comes back.
 
 The pattern to try is one that compact keeps: the one that leaves the fewest faults in the worse of its two cases, and of equals the first. It is shown with
-its values, and with how many faults remain in either case. Any other pattern may be reported as well.
+its values, and with how many faults remain in either case. Where no kept pattern tells two that remain apart, the best of the dropped ones is proposed by
+the same rule, and the answer says so; where no pattern at all does, none is. Any other pattern may be reported as well.
 
 A line that is not understood is told with its number on standard error and changes nothing. The session goes on, and at its end the status is 2. With
---csv and --json each answer is one line.
+--csv and --json each answer is one line, and its next is the pattern to try, kept or dropped.
 
 At most 256 faults and 256 patterns.",
     example: "ullimaqsu suspects examples/c17/circuit.rec examples/c17/faults.rec examples/c17/patterns.rec",
@@ -67,15 +68,15 @@ fn run(words: &Words, out: &mut Out) -> Result<(), Problem> {
 /// The library's state, with the table that each report lends again.
 struct Session<'a> {
     listed: &'a Listed,
-    /// The patterns that compaction keeps.
-    kept: Vec<usize>,
+    /// For each pattern whether compaction keeps it.
+    kept: Vec<bool>,
     state: Suspects,
     any_failed: bool,
 }
 
 impl Session<'_> {
     fn open(listed: &Listed) -> Session<'_> {
-        let kept = listed.marks().iter().enumerate().filter(|(_, mark)| **mark == 1).map(|(pattern, _)| pattern).collect();
+        let kept = listed.marks().iter().map(|mark| *mark == 1).collect();
         let state = Suspects::open(listed.faults.len() as u64, listed.patterns.len() as u64, &listed.table)
             .expect("the table of a dictionary is never refused");
         Session { listed, kept, state, any_failed: false }
@@ -93,7 +94,8 @@ impl Session<'_> {
     fn standing(&self, report: Option<Report>) -> Standing {
         let (listed, marks) = (self.listed, self.state.marks());
         let faults = listed.faults.iter().zip(&marks).filter(|(_, mark)| **mark).map(|(fault, _)| fault.named(&listed.circuit)).collect();
-        let next = split::best(self.kept.iter().map(|&pattern| (pattern, listed.row(pattern))), &marks);
+        let patterns = self.kept.iter().enumerate().map(|(pattern, kept)| (*kept, listed.row(pattern)));
+        let next = split::best(patterns, &marks);
         let next = next.map(|split| (split, listed.patterns[split.pattern].letters()));
         Standing { report, any_failed: self.any_failed, remaining: self.state.remaining() as usize, faults, next }
     }

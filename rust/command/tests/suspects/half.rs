@@ -16,6 +16,15 @@ impl Half {
         Half { directory }
     }
 
+    /// An AND gate in its place, with these faults and patterns.
+    pub fn gate(name: &str, faults: &str, patterns: &str) -> Half {
+        let directory = Directory::new(name);
+        directory.write("circuit", "INPUT(x)\nINPUT(y)\nOUTPUT(o)\no = AND(x, y)\n");
+        directory.write("faults", faults);
+        directory.write("patterns", patterns);
+        Half { directory }
+    }
+
     pub fn words(&self, more: &[&str]) -> Vec<PathBuf> {
         let files = ["circuit", "faults", "patterns"].map(|name| self.directory.path(name));
         [PathBuf::from("suspects")].into_iter().chain(files).chain(more.iter().map(PathBuf::from)).collect()

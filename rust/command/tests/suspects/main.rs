@@ -9,8 +9,8 @@ use cases::Random;
 use half::{Half, BEGIN, FAILED_0};
 use harness::case::Case;
 use harness::json::Json;
-use harness::{into_broken, into_full, refused, said, started, stopped, ullimaqsu};
-use printed::{compare, Printed};
+use harness::{fed, into_broken, into_full, refused, said, started, stopped, ullimaqsu};
+use printed::{compare, Printed, Reports};
 use std::io::{BufRead, BufReader, Write};
 use std::path::Path;
 
@@ -52,15 +52,42 @@ try pattern 0 (10): 3 remain if it fails, 4 if it passes
     let both = "pattern 5 passed, 1 fault remains: a/1\nnothing is left to tell apart\n";
     assert_eq!(half.printed("5 fail\n5 pass\n"), [BEGIN, failed, both].concat());
 
-    // two that no kept pattern tells apart: each is the same line
+    // two that no pattern tells apart: each is the same line
     half.directory.write("faults", "sum/0\nsum/0\ncarry/0\n");
     let alike = "\
 3 faults remain: sum/0 sum/0 carry/0
 try pattern 0 (10): 2 remain if it fails, 1 if it passes
 pattern 2 failed, 2 faults remain: sum/0 sum/0
-no kept pattern tells these apart
+no pattern tells these apart
 ";
     assert_eq!(half.printed("2 fail"), alike);
+}
+
+/// Compaction drops a pattern that tells a detected fault from one that is not. It is tried where no kept one will do.
+#[test]
+fn a_dropped_one() {
+    // y/1 is unknown and passes, o/1 fails both
+    let gate = Half::gate("a dropped one", "y/1\no/1\n", "X0\n00\n");
+    let begin = "\
+2 faults remain: y/1 o/1
+no kept pattern tells these apart; try pattern 1 (00): 1 remains if it fails, 1
+  if it passes
+";
+    let failed = "pattern 1 failed, 1 fault remains: o/1\nnothing is left to tell apart\n";
+    assert_eq!(gate.printed("1 fail\n"), [begin, failed].concat());
+    let (_, json, _) = fed(&gate.words(&["--json"]), "");
+    let json = Json::read(&json);
+    assert_eq!((json.at("next"), json.at("values")), (&Json::Number(1), &Json::Text("00".to_string())));
+    // a kept one goes first, though the dropped one would leave two either way; 11 fails x/0 alone
+    let gate = Half::gate("a kept one first", "y/1\no/1\no/1\nx/0\n", "X0\n00\n11\n");
+    let kept_first = "\
+4 faults remain: y/1 o/1 o/1 x/0
+try pattern 0 (X0): 3 remain if it fails, 2 if it passes
+pattern 2 passed, 3 faults remain: y/1 o/1 o/1
+no kept pattern tells these apart; try pattern 1 (00): 2 remain if it fails, 1
+  if it passes
+";
+    assert_eq!(gate.printed("2 pass\n"), kept_first);
 }
 
 /// None remains, for one reason or another, and the session goes on.
@@ -161,33 +188,52 @@ fn as_the_dictionary_says() {
     assert!(none > 5 && several > 5, "{none} of none, {several} of several");
 }
 
-/// Each fault of c17 is looked for as a repairer does, who reads an answer before the next report: it is among those that are left, and by then no kept
-/// pattern tells these apart.
+/// A fault is looked for as a repairer does, who reads an answer before the next report: the reports by which it is found. It is among those that are
+/// left, and by then no pattern tells these apart. A dropped pattern is tried only if no kept one tells apart what remains.
+fn looked_for(case: &Case, printed: &Printed, fault: usize) -> Vec<(usize, bool)> {
+    let mut process = started(&case.words("suspects", &[Path::new("--json")]));
+    let mut writes = process.stdin.take().expect("piped");
+    let mut answers = BufReader::new(process.stdout.take().expect("piped"));
+    let mut answer = || {
+        let mut line = String::new();
+        answers.read_line(&mut line).expect("an answer");
+        Json::read(&line)
+    };
+    let (mut last, mut reports) = (answer(), vec![]);
+    let tells_apart = |pattern: usize, reports: &Reports| printed.tells_apart(pattern, &printed.remaining(reports));
+    while let Json::Number(next) = last.at("next") {
+        let next = *next as usize;
+        assert!(tells_apart(next, &reports), "{next} after {reports:?}");
+        let kept_one = printed.kept.iter().any(|&kept| tells_apart(kept, &reports));
+        assert_eq!(printed.kept.contains(&next), kept_one, "{next} after {reports:?}");
+        // an unknown entry may come either way, and here it passes
+        let failed = printed.rows[fault][next] == "F";
+        writeln!(writes, "{next} {}", if failed { "fail" } else { "pass" }).expect("it reads");
+        reports.push((next, failed));
+        last = answer();
+    }
+    assert!(last.at("faults").texts().contains(&printed.names[fault].as_str()), "{last:?}");
+    assert!(!(0..printed.patterns.len()).any(|pattern| tells_apart(pattern, &reports)), "after {reports:?}");
+    drop(writes);
+    assert_eq!(process.wait().expect("it ends").code(), Some(0));
+    reports
+}
+
 #[test]
 fn one_after_the_other() {
-    let case = Case::c17("one after the other", &mut Random::new(3), [24, 16]);
-    let printed = Printed::of(&case);
-    let mut longest = 0;
-    for fault in 0..printed.names.len() {
-        let mut process = started(&case.words("suspects", &[Path::new("--json")]));
-        let mut reports = process.stdin.take().expect("piped");
-        let mut answers = BufReader::new(process.stdout.take().expect("piped"));
-        let mut answer = || {
-            let mut line = String::new();
-            answers.read_line(&mut line).expect("an answer");
-            Json::read(&line)
-        };
-        let (mut last, mut count) = (answer(), 0);
-        while let Json::Number(next) = last.at("next") {
-            // an unknown entry may come either way, and here it passes
-            let failed = printed.rows[fault][*next as usize] == "F";
-            writeln!(reports, "{next} {}", if failed { "fail" } else { "pass" }).expect("it reads");
-            (last, count) = (answer(), count + 1);
+    let random = &mut Random::new(3);
+    let (mut longest, mut dropped) = (0, 0);
+    for _ in 0..16 {
+        let case = Case::c17("one after the other", random, [24, 16]);
+        let printed = Printed::of(&case);
+        for fault in 0..printed.names.len() {
+            let reports = looked_for(&case, &printed, fault);
+            longest = longest.max(reports.len());
+            if reports.iter().any(|(pattern, _)| !printed.kept.contains(pattern)) {
+                dropped += 1;
+                compare(&printed, &case, &reports);
+            }
         }
-        assert!(last.at("faults").texts().contains(&printed.names[fault].as_str()), "{last:?}");
-        longest = longest.max(count);
-        drop(reports);
-        assert_eq!(process.wait().expect("it ends").code(), Some(0));
     }
-    assert!((2..=printed.kept.len()).contains(&longest), "{longest} reports");
+    assert!(longest > 3 && dropped > 3, "{longest} reports, {dropped} times with a dropped pattern");
 }

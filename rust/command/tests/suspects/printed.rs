@@ -28,10 +28,15 @@ impl Printed {
         Printed { names, rows, patterns: compacted.into_iter().map(|row| row[2].clone()).collect(), kept }
     }
 
-    /// The faults against which no report speaks.
+    /// The faults that no report rules out.
     pub fn remaining(&self, reports: &Reports) -> Vec<usize> {
-        let against = |fault: usize| reports.iter().any(|&(pattern, failed)| self.rows[fault][pattern] == if failed { "P" } else { "F" });
-        (0..self.rows.len()).filter(|&fault| !against(fault)).collect()
+        let ruled_out = |fault: usize| reports.iter().any(|&(pattern, failed)| self.rows[fault][pattern] == if failed { "P" } else { "F" });
+        (0..self.rows.len()).filter(|&fault| !ruled_out(fault)).collect()
+    }
+
+    /// A pattern tells two of these faults apart: it fails one and passes the other.
+    pub fn tells_apart(&self, pattern: usize, faults: &[usize]) -> bool {
+        ["F", "P"].iter().all(|entry| faults.iter().any(|&fault| self.rows[fault][pattern] == *entry))
     }
 
     /// How many remain if a pattern fails then, and if it passes.
@@ -39,12 +44,17 @@ impl Printed {
         [true, false].map(|failed| self.remaining(&[reports, &[(pattern, failed)]].concat()).len())
     }
 
-    /// The pattern to try.
+    /// The pattern to try: of those that are kept, and if none of these will do of all.
     fn next(&self, reports: &Reports) -> Option<usize> {
+        let all: Vec<usize> = (0..self.patterns.len()).collect();
+        self.best(reports, &self.kept).or_else(|| self.best(reports, &all))
+    }
+
+    fn best(&self, reports: &Reports, of: &[usize]) -> Option<usize> {
         let larger = |pattern: &usize| self.split(reports, *pattern).into_iter().max().expect("two numbers");
         // where no fault is detected no pattern is kept
-        let best = self.kept.iter().map(larger).min()?;
-        self.kept.iter().copied().find(|pattern| larger(pattern) == best && best < self.remaining(reports).len())
+        let best = of.iter().map(larger).min()?;
+        of.iter().copied().find(|pattern| larger(pattern) == best && best < self.remaining(reports).len())
     }
 
     /// The answer to the last of these reports, in the order of the columns.
@@ -64,6 +74,20 @@ impl Printed {
             split(1),
         ]
     }
+
+    /// The same answer for people: which faults remain, and the pattern to try if there is one.
+    fn lines(&self, reports: &Reports) -> (String, Option<String>) {
+        let [pattern, report, remaining, faults, _, values, if_failed, if_passed] = self.answer(reports).each_ref().map(field);
+        let one = |number: &str| if number == "1" { "s" } else { "" };
+        let after = if report.is_empty() { String::new() } else { format!("pattern {pattern} {report}ed, ") };
+        let names = if faults.is_empty() { faults } else { format!(": {faults}") };
+        let many = if remaining == "1" { "" } else { "s" };
+        let proposal = self.next(reports).map(|next| {
+            let dropped = if self.kept.contains(&next) { "" } else { "no kept pattern tells these apart; " };
+            format!("{dropped}try pattern {next} ({values}): {if_failed} remain{} if it fails, {if_passed} if it passes", one(&if_failed))
+        });
+        (format!("{after}{remaining} fault{many} remain{}{names}", one(&remaining)), proposal)
+    }
 }
 
 const COLUMNS: [&str; 8] = ["pattern", "report", "remaining", "faults", "next", "values", "if failed", "if passed"];
@@ -75,22 +99,6 @@ fn field(json: &Json) -> String {
         Json::Number(number) => number.to_string(),
         Json::Text(text) => text.clone(),
         other => other.texts().join(" "),
-    }
-}
-
-/// The same answer for people; what it says where no pattern is tried is another test's business.
-fn line(answer: &[Json; 8]) -> String {
-    let [pattern, report, remaining, faults, next, values, if_failed, if_passed] = answer.each_ref().map(field);
-    let one = |number: &str| if number == "1" { "s" } else { "" };
-    let after = if report.is_empty() { String::new() } else { format!("pattern {pattern} {report}ed, ") };
-    let names = if faults.is_empty() { faults } else { format!(": {faults}") };
-    let many = if remaining == "1" { "" } else { "s" };
-    let first = format!("{after}{remaining} fault{many} remain{}{names}", one(&remaining));
-    match next.is_empty() {
-        true => first,
-        false => {
-            format!("{first}\ntry pattern {next} ({values}): {if_failed} remain{} if it fails, {if_passed} if it passes", one(&if_failed))
-        }
     }
 }
 
@@ -114,9 +122,15 @@ pub fn compare(printed: &Printed, case: &Case, reports: &Reports) {
     let table = told(&[]);
     // a line fits a terminal, but for a word that is longer
     assert!(table.lines().all(|line| line.len() <= 80 || !line.trim_start().contains(' ')), "{table}");
-    let without_advice = |line: &&str| !["nothing is left", "no fault of", "no kept"].iter().any(|begin| line.starts_with(begin));
     let whole = table.replace("\n  ", " ");
-    assert_eq!(whole.lines().count(), 2 * answers.len(), "{table}");
-    let lines: Vec<&str> = whole.lines().filter(without_advice).collect();
-    assert_eq!(lines.join("\n"), answers.iter().map(line).collect::<Vec<_>>().join("\n"));
+    let lines: Vec<&str> = whole.lines().collect();
+    assert_eq!(lines.len(), 2 * answers.len(), "{table}");
+    for (count, pair) in lines.chunks(2).enumerate() {
+        let (first, proposal) = printed.lines(&reports[..count]);
+        assert_eq!(pair[0], first);
+        match proposal {
+            Some(proposal) => assert_eq!(pair[1], proposal),
+            None => assert!(!pair[1].contains("try"), "{table}"),
+        }
+    }
 }

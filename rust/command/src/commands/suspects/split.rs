@@ -5,6 +5,8 @@ use crate::entry::Entry;
 #[derive(Clone, Copy, PartialEq, Eq, Debug)]
 pub struct Split {
     pub pattern: usize,
+    /// Whether compaction keeps it.
+    pub kept: bool,
     /// How many remain if it fails.
     pub if_failed: usize,
     /// How many remain if it passes.
@@ -12,10 +14,10 @@ pub struct Split {
 }
 
 impl Split {
-    /// Of a pattern with this row of entries. A failure strikes the faults that pass, a pass those that fail.
-    fn of((pattern, row): (usize, &[u8]), remains: &[bool]) -> Split {
-        let without = |struck: Entry| row.iter().zip(remains).filter(|(&entry, &remains)| remains && Entry::of(entry) != struck).count();
-        Split { pattern, if_failed: without(Entry::Pass), if_passed: without(Entry::Fail) }
+    /// Of a pattern with this row of entries. A failure rules out the faults that pass, a pass those that fail.
+    fn of(pattern: usize, kept: bool, row: &[u8], remains: &[bool]) -> Split {
+        let without = |out: Entry| row.iter().zip(remains).filter(|(&entry, &remains)| remains && Entry::of(entry) != out).count();
+        Split { pattern, kept, if_failed: without(Entry::Pass), if_passed: without(Entry::Fail) }
     }
 
     /// How many remain at worst.
@@ -24,12 +26,13 @@ impl Split {
     }
 }
 
-/// Of patterns with their rows the one that leaves the fewest at worst, the first of equals; none if each may leave all that remain: then none
-/// tells two of them apart.
-pub fn best<'a>(rows: impl IntoIterator<Item = (usize, &'a [u8])>, remains: &[bool]) -> Option<Split> {
+/// Of all patterns in order, each with whether it is kept and with its row, the one that leaves the fewest at worst, the first of equals. One that may
+/// leave all that remain tells no two of them apart, and is not taken. A dropped one is taken only if no kept one will do: compaction cares for
+/// detected faults alone.
+pub fn best<'a>(patterns: impl IntoIterator<Item = (bool, &'a [u8])>, remains: &[bool]) -> Option<Split> {
     let remaining = remains.iter().filter(|remains| **remains).count();
-    let splits = rows.into_iter().map(|row| Split::of(row, remains));
-    splits.filter(|split| split.larger() < remaining).min_by_key(Split::larger)
+    let splits = patterns.into_iter().enumerate().map(|(pattern, (kept, row))| Split::of(pattern, kept, row, remains));
+    splits.filter(|split| split.larger() < remaining).min_by_key(|split| (!split.kept, split.larger()))
 }
 
 #[cfg(test)]
@@ -52,27 +55,35 @@ mod tests {
         after(true).max(after(false))
     }
 
-    /// Any two rows of three faults, the first of them once more behind the second, and any of the faults remaining.
+    /// All choices among three things.
+    fn choices() -> Vec<[bool; 3]> {
+        all(3, 2).iter().map(|list| [0, 1, 2].map(|at| list[at] == 1)).collect()
+    }
+
+    /// The best of the patterns with this mark that rule something out either way, the lowest number of equals.
+    fn by_hand(rows: &[&Vec<u8>; 3], kept: &[bool; 3], mark: bool, remains: &[bool]) -> Option<(usize, usize)> {
+        let remaining = remains.iter().filter(|remains| **remains).count();
+        let marked = (0..rows.len()).filter(|&pattern| kept[pattern] == mark);
+        marked.map(|pattern| (at_worst(rows[pattern], remains), pattern)).filter(|(left, _)| *left < remaining).min()
+    }
+
+    /// Any two rows of three faults, the first of them once more behind the second, any of these kept, and any of the faults remaining.
     #[test]
     fn the_fewest_at_worst() {
-        let (rows, marks) = (all(FAULTS, 3), all(FAULTS, 2));
-        let mut seen = [0; 2];
-        for first in &rows {
-            for second in &rows {
-                for remains in &marks {
-                    let remains: Vec<bool> = remains.iter().map(|&mark| mark == 1).collect();
-                    let given = [(4, first), (7, second), (9, first)];
-                    let found = best(given.map(|(pattern, row)| (pattern, &row[..])), &remains);
-                    let remaining = remains.iter().filter(|remains| **remains).count();
-                    // all that strike something either way, and of these the lowest of the best
-                    let worst: Vec<(usize, usize)> = given.iter().map(|(pattern, row)| (at_worst(row, &remains), *pattern)).collect();
-                    let expected = worst.iter().filter(|(left, _)| *left < remaining).min();
-                    assert_eq!(found.map(|split| (split.larger(), split.pattern)), expected.copied(), "{first:?} {second:?} {remains:?}");
-                    seen[usize::from(found.is_some())] += 1;
-                    // and then it tells two that remain apart: one passes, one fails
-                    let apart = |row: &[u8]| [0, 1].iter().all(|entry| (0..FAULTS).any(|fault| remains[fault] && row[fault] == *entry));
-                    assert_eq!(found.is_some(), apart(first) || apart(second));
-                }
+        let (rows, choices) = (all(FAULTS, 3), choices());
+        // none, a dropped one, a kept one
+        let mut seen = [0; 3];
+        for (first, second) in rows.iter().flat_map(|first| rows.iter().map(move |second| (first, second))) {
+            let rows = [first, second, first];
+            for (kept, remains) in choices.iter().flat_map(|kept| choices.iter().map(move |remains| (kept, remains))) {
+                let found = best(kept.iter().copied().zip(rows.map(|row| &row[..])), remains);
+                let expected = by_hand(&rows, kept, true, remains).or(by_hand(&rows, kept, false, remains));
+                assert_eq!(found.map(|split| (split.larger(), split.pattern)), expected, "{rows:?} {kept:?} {remains:?}");
+                seen[found.map_or(0, |split| 1 + usize::from(split.kept))] += 1;
+                assert!(found.is_none_or(|split| split.kept == kept[split.pattern]));
+                // and then it tells two that remain apart: one passes, one fails
+                let apart = |row: &[u8]| [0, 1].iter().all(|entry| (0..FAULTS).any(|fault| remains[fault] && row[fault] == *entry));
+                assert_eq!(found.is_some(), apart(first) || apart(second));
             }
         }
         assert!(seen.iter().all(|&times| times > 100), "{seen:?}");

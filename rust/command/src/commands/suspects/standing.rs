@@ -97,13 +97,10 @@ impl Standing {
     /// What to do next.
     fn advice(&self) -> String {
         match (&self.next, self.remaining) {
-            (Some((Split { pattern, if_failed, if_passed }, values)), _) => {
-                let remain = if *if_failed == 1 { "remains" } else { "remain" };
-                format!("try pattern {pattern} ({values}): {if_failed} {remain} if it fails, {if_passed} if it passes")
-            }
+            (Some((split, values)), _) => proposal(split, values),
             (None, 0) => self.none_fits().to_string(),
             (None, 1) => "nothing is left to tell apart".to_string(),
-            (None, _) => "no kept pattern tells these apart".to_string(),
+            (None, _) => "no pattern tells these apart".to_string(),
         }
     }
 
@@ -118,4 +115,11 @@ impl Standing {
             }
         }
     }
+}
+
+/// That a pattern with these values is to be tried, and what comes of it.
+fn proposal(Split { pattern, kept, if_failed, if_passed }: &Split, values: &str) -> String {
+    let why = if *kept { "" } else { "no kept pattern tells these apart; " };
+    let remain = if *if_failed == 1 { "remains" } else { "remain" };
+    format!("{why}try pattern {pattern} ({values}): {if_failed} {remain} if it fails, {if_passed} if it passes")
 }
