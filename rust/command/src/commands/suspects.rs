@@ -30,7 +30,8 @@ may come in any order and again, and all of them count: a fault that is struck n
 
 The pattern to try is one that compact keeps: the one that leaves the fewest faults in the worse of its two cases, and of equals the first. It is shown with
 its values, and with how many faults remain in either case. Where no kept pattern tells two that remain apart, the best of the dropped ones is proposed by
-the same rule, and the answer says so; where no pattern at all does, none is. Any other pattern may be reported as well.
+the same rule, and the answer says so; where no pattern at all does, none is. If by then none has failed, the answer says that the part may have no fault.
+Any other pattern may be reported as well.
 
 A line that is not understood is told with its number on standard error and changes nothing. The session goes on, and at its end the status is 2. With
 --csv and --json each answer is one line, and its next is the pattern to try, kept or dropped.

@@ -106,12 +106,43 @@ no fault of the list fits all reports: some contradict each other, or the fault
 
     // where all have passed there may be none at all
     let nothing = "\
-no fault of the list passes all of these: there is none, or one that is not in
-  the list, or several that hide each other
+no fault of the list passes all of these: the part has no fault, or one that is
+  not in the list, or several that hide each other
 ";
     let printed = half.printed("0 p\n1 p\n2 p\n4 p\n");
     assert!(printed.ends_with(&format!("pattern 4 passed, 0 faults remain\n{nothing}")), "{printed}");
     assert!(half.printed("0 p\n1 p\n2 p\n4 p\n0 f").ends_with(&answer("0 failed")));
+}
+
+/// A fault that no pattern detects remains in a good part too: that one is left, or some, does not mean that the part has it.
+#[test]
+fn all_passed() {
+    let gate = Half::gate("all passed", "x/0\no/1\n", "X0\n00\n");
+    let begin = "\
+2 faults remain: x/0 o/1
+try pattern 0 (X0): 1 remains if it fails, 1 if it passes
+";
+    let good =
+        |pattern: usize| format!("pattern {pattern} passed, 1 fault remains: x/0\nno pattern has failed: the part may have no fault\n");
+    assert_eq!(gate.printed("0 pass\n1 pass\n"), [begin, &good(0), &good(1)].concat());
+    let failed = "pattern 0 failed, 1 fault remains: o/1\nnothing is left to tell apart\n";
+    assert_eq!(gate.printed("0 fail\n"), [begin, failed].concat());
+
+    // what is left are two, and of each the gate passes 00
+    let gate = Half::gate("two passed", "x/0\ny/0\n", "00\n");
+    let begin = "2 faults remain: x/0 y/0\nno pattern tells these apart\n";
+    let passed = "\
+pattern 0 passed, 2 faults remain: x/0 y/0
+no pattern tells these apart, and none has failed: the part may have no fault
+";
+    assert_eq!(gate.printed("0 pass\n"), [begin, passed].concat());
+
+    // before the first report nothing is known of the part, and once one has failed it has a fault
+    let gate = Half::gate("one alone", "o/1\n", "X0\n11\n");
+    let begin = "1 fault remains: o/1\nnothing is left to tell apart\n";
+    let passed = "pattern 1 passed, 1 fault remains: o/1\nno pattern has failed: the part may have no fault\n";
+    let failed = format!("pattern 0 failed, {begin}pattern 1 passed, {begin}");
+    assert_eq!(gate.printed("1 pass\n0 fail\n1 pass\n"), [begin, passed, &failed].concat());
 }
 
 #[test]
@@ -160,18 +191,18 @@ fn limits() {
 #[test]
 fn as_the_dictionary_says() {
     let random = &mut Random::new(2);
-    let (mut none, mut several) = (0, 0);
+    let (mut none, mut several, mut good) = (0, 0, 0);
     for number in 0..120 {
         let case = match number % 3 {
             0 => Case::c17("suspects of c17", random, [30, 12]),
             _ => Case::drawn("drawn suspects", random),
         };
         let printed = Printed::of(&case);
-        // as a circuit with one of the faults would fail and pass, or as it comes
+        // as a circuit with one of the faults would fail and pass, or one without a fault, or as it comes
         let fault = random.below(printed.names.len());
-        let failed = |pattern: usize, random: &mut Random| match printed.rows[fault][pattern].as_str() {
-            "F" if number % 2 == 0 => true,
-            "P" if number % 2 == 0 => false,
+        let failed = |pattern: usize, random: &mut Random| match (number % 4, printed.rows[fault][pattern].as_str()) {
+            (0 | 2, "F") => true,
+            (0 | 2, "P") | (1, _) => false,
             _ => random.once_in(2),
         };
         let report = |random: &mut Random| {
@@ -183,9 +214,10 @@ fn as_the_dictionary_says() {
         assert!(number % 2 == 1 || remaining.contains(&fault));
         none += usize::from(remaining.is_empty());
         several += usize::from(remaining.len() > 1);
+        good += usize::from(number % 4 == 1 && !reports.is_empty() && !remaining.is_empty() && printed.next(&reports).is_none());
         compare(&printed, &case, &reports);
     }
-    assert!(none > 5 && several > 5, "{none} of none, {several} of several");
+    assert!(none > 5 && several > 5 && good > 5, "{none} of none, {several} of several, {good} that may be good");
 }
 
 /// A fault is looked for as a repairer does, who reads an answer before the next report: the reports by which it is found. It is among those that are

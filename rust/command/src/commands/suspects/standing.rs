@@ -96,23 +96,26 @@ impl Standing {
 
     /// What to do next.
     fn advice(&self) -> String {
-        match (&self.next, self.remaining) {
-            (Some((split, values)), _) => proposal(split, values),
-            (None, 0) => self.none_fits().to_string(),
-            (None, 1) => "nothing is left to tell apart".to_string(),
-            (None, _) => "no pattern tells these apart".to_string(),
+        match &self.next {
+            Some((split, values)) => proposal(split, values),
+            None => self.meaning().to_string(),
         }
     }
 
-    /// What it may mean that no fault remains.
-    fn none_fits(&self) -> &'static str {
-        match self.any_failed {
-            true => {
+    /// What it may mean that there is no pattern to try. The part has a fault for sure only if something has failed.
+    fn meaning(&self) -> &'static str {
+        let all_passed = self.report.is_some() && !self.any_failed;
+        match (self.remaining, all_passed) {
+            (0, false) => {
                 "no fault of the list fits all reports: some contradict each other, or the fault is not in the list, or there are several"
             }
-            false => {
-                "no fault of the list passes all of these: there is none, or one that is not in the list, or several that hide each other"
+            (0, true) => {
+                "no fault of the list passes all of these: the part has no fault, or one that is not in the list, or several that hide each other"
             }
+            (1, false) => "nothing is left to tell apart",
+            (1, true) => "no pattern has failed: the part may have no fault",
+            (_, false) => "no pattern tells these apart",
+            (_, true) => "no pattern tells these apart, and none has failed: the part may have no fault",
         }
     }
 }
