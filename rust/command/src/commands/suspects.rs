@@ -25,8 +25,8 @@ Reads a report a line, from REPORTS or else from standard input: the number of a
 and P will do too. Blanks, empty lines and # comments may stand between. Before the first report and after each it prints how many faults remain and which,
 and the pattern to try.
 
-A fault remains if the dictionary has pass for it under no pattern that failed, and fail under none that passed; unknown is never held against it. Reports
-may come in any order and again, and all of them count: a fault that is struck never comes back.
+A fault remains if the dictionary has pass for it under no pattern that failed, and fail under none that passed; any other is ruled out. Unknown rules out
+nothing. Reports may come in any order and again, and all of them count: a fault that is ruled out never comes back.
 
 The pattern to try is one that compact keeps: the one that leaves the fewest faults in the worse of its two cases, and of equals the first. It is shown with
 its values, and with how many faults remain in either case. Where no kept pattern tells two that remain apart, the best of the dropped ones is proposed by
@@ -36,7 +36,7 @@ Any other pattern may be reported as well.
 A line that is not understood is told with its number on standard error and changes nothing. The session goes on, and at its end the status is 2. With
 --csv and --json each answer is one line, and its next is the pattern to try, kept or dropped.
 
-At most 256 faults and 256 patterns.",
+At most 256 faults and 256 patterns. A line may have 64 KiB; a longer one ends the session, with status 2.",
     example: "ullimaqsu suspects examples/c17/circuit.rec examples/c17/faults.rec examples/c17/patterns.rec",
     run,
 };
