@@ -1,6 +1,9 @@
 //! Lines that are no report, and what can't be read.
 use crate::half::{Half, BEGIN, FAILED_0};
-use crate::harness::{after, run, stopped, ullimaqsu};
+use crate::harness::{after, run, said, started, stopped, ullimaqsu};
+use std::fs;
+use std::io::{BufRead, BufReader};
+use std::process::Command;
 
 /// A line that is not understood is told and changes nothing.
 #[test]
@@ -53,4 +56,18 @@ fn unread() {
     assert_eq!(half.told(long((1 << 16) + 1)), after_begin("line 2 has more than 64 KiB"));
     let standard = run(&mut after(&format!("exec <'{directory}'"), &half.words(&[])));
     assert_eq!(standard, after_begin("standard input can't be read: Is a directory"));
+}
+
+/// Where one stands is printed before anybody writes to a pipe with a name.
+#[test]
+fn pipe_with_a_name() {
+    let half = Half::new("pipe with a name");
+    let pipe = half.directory.path("pipe");
+    assert!(Command::new("mkfifo").arg(&pipe).status().expect("mkfifo").success());
+    let mut process = started(&half.words(&[pipe.to_str().expect("text")]));
+    let mut lines = BufReader::new(process.stdout.take().expect("piped")).lines().map(|line| line.expect("a line") + "\n");
+    assert_eq!(lines.by_ref().take(2).collect::<String>(), BEGIN);
+    fs::write(&pipe, "0 fail\n").expect("it is read");
+    assert_eq!(lines.collect::<String>(), FAILED_0);
+    assert_eq!(said(process.wait_with_output().expect("it ends")), (Some(0), String::new(), String::new()));
 }

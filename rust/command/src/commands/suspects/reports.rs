@@ -3,7 +3,9 @@ use crate::files::{self, unreadable, why};
 use crate::lists::{is_blank, lines, place, words};
 use crate::problem::{shown, Problem};
 use crate::words::cited;
+use std::fs::{metadata, File};
 use std::io::{self, BufRead, BufReader, IsTerminal, Read, Write};
+use std::os::unix::fs::FileTypeExt;
 use std::path::{Path, PathBuf};
 
 /// The most bytes of a line.
@@ -61,6 +63,7 @@ impl Lines {
     /// Of a file, or of standard input where none is named.
     pub fn open(file: Option<&Path>) -> Result<Lines, Problem> {
         let from: Box<dyn BufRead> = match file {
+            Some(path) if is_pipe(path) => Box::new(BufReader::new(Pipe { path: path.to_path_buf(), file: None })),
             Some(path) => Box::new(BufReader::new(files::open(path)?)),
             None => Box::new(io::stdin().lock()),
         };
@@ -101,5 +104,25 @@ impl Lines {
             Some(file) => unreadable(file, error),
             None => Problem::Stopped(format!("standard input can't be read: {}", why(&error))),
         }
+    }
+}
+
+/// A pipe with a name. To open it is to wait for somebody who writes to it, so it is opened when it is read, and the first answer is printed before.
+struct Pipe {
+    path: PathBuf,
+    file: Option<File>,
+}
+
+fn is_pipe(path: &Path) -> bool {
+    metadata(path).is_ok_and(|of| of.file_type().is_fifo())
+}
+
+impl Read for Pipe {
+    fn read(&mut self, bytes: &mut [u8]) -> io::Result<usize> {
+        let file = match &mut self.file {
+            Some(file) => file,
+            none => none.insert(File::open(&self.path)?),
+        };
+        file.read(bytes)
     }
 }
