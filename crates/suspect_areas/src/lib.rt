@@ -7,7 +7,7 @@ use suspects::Narrowed;
 use suspects::Suspects;
 use suspects::all_remain;
 use suspects::is_opened;
-use suspects::reported;
+use suspects::reported_to;
 use tables::check_table;
 ghost use mathlib.Core.Path.{_≡_};
 ghost use Prim.Native.Nat.{_≤_};
@@ -182,7 +182,7 @@ pub fn report_area(
     match check_area(area) {
         Ruling::Refused(number, place) => Narrowed::Refused(number, place),
         Ruling::Fine => {
-            let after = reported(
+            let after = reported_to(
                 state_in(area),
                 fault_count,
                 pattern_count,

@@ -32,7 +32,14 @@ module _ {M : Type 0} {rules : List Rule} {m new : M} {n : ℕ} where
   unfolding narrowedNumbers
   told-so says is = record { answer = says; numbers = ap narrowedNumbers says ∙ numbers-told narrowedNumbers (λ k p. refl) (refusal rules) (Remaining n); state = is }
 
--- of a state by value, with how many remain in it
+-- of a state by value: a refusal, and the new state with how many remain in it
+pub state-refused : {rules : List Rule} {s new s′ : Suspects} {n number place : ℕ} {r : Narrowed}
+    → refusal rules ≡ Ruling.Refused number place
+    → s′ ≡ s
+    → r ≡ Refused number place
+    → Becomes rules s new n r s′
+state-refused e is says = rw (is, says) (is-refused e)
+
 pub state-taken : {rules : List Rule} {s new s′ x : Suspects} {n : ℕ} {r : Narrowed}
     → refusal rules ≡ Ruling.Fine
     → s′ ≡ x

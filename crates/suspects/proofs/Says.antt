@@ -1,13 +1,15 @@
 -- The refusals of an opening and of a report in the paper's words.
 -- Assumes nothing.
 use mathlib.Core.Path.{_≡_, refl, _∙_}
+use mathlib.Core.Bool.{false, _&&_}
 use mathlib.Core.List.{List}
 use Prim.Native.Nat.{ℕ, _<_}
+use lib.Dec.{eqb}
 use lib.ListN.{length}
 use Rattle.answers.specs.declared.Ruling.{Ruling}
 use Rattle.answers.specs.declared.Ruling.the-variants.{Fine}
-use Rattle.answers.specs.Rules.{Rule, refusal, Applies, AllSay, AllHold}
-use Rattle.answers.proofs.Rules.{all-hold, fine, after-fine, both-fine, both-say}
+use Rattle.answers.specs.Rules.{Rule, said, refusal, Applies, AllSay, AllHold}
+use Rattle.answers.proofs.Rules.{all-hold, fine, after-refused, after-fine, both-fine, both-say}
 use Rattle.answers.proofs.Same.{lt-same, eq-same, and-same}
 use Rattle.answers.proofs.Answer as answer
 use Rattle.answers.proofs.Answer.{Ruled}
@@ -16,7 +18,7 @@ use Rattle.tables.proofs.Says.{table-says, fine-sized}
 use Rattle.suspects.specs.declared.Suspects.{Suspects}
 use Rattle.suspects.specs.declared.Narrowed.{Narrowed}
 use Rattle.suspects.specs.declared.Narrowed.the-variants.{Remaining, Refused}
-use Rattle.suspects.specs.State.{Opened}
+use Rattle.suspects.specs.State.{openedOk, Opened}
 use Rattle.suspects.specs.Promise.{patternRules, heldRules, givenRules, reportRules, Becomes}
 use Rattle.suspects.proofs.State.{opened-same}
 
@@ -70,13 +72,38 @@ taken s F P t p e =
     let i = all-hold (patternRules P p) (pattern-says P p) (v .1) in
     record { opened = h .0; faults = h .1 .0 .0; patterns = h .1 .0 .1; sized = fine-sized F P t (v .0); inside = i .0 }
 
+held-fine : (s : Suspects) (F P : ℕ) → Opened s → F ≡ s .faults → P ≡ s .patterns → refusal (heldRules s F P) ≡ Fine
+unfolding heldRules AllHold
+held-fine s F P o f p = fine (heldRules s F P) (held-say s F P) (o, ((f, p), tt))
+
 -- and back: an opened state, its own counts, a table that keeps its rules and a pattern that there is
 pub taken-fine : (s : Suspects) (t : List ℕ) (p : ℕ) → Opened s → refusal (tableRules (s .faults) (s .patterns) t) ≡ Fine → p < s .patterns
     → refusal (reportRules s (s .faults) (s .patterns) t p) ≡ Fine
-unfolding heldRules patternRules AllHold
+unfolding patternRules AllHold
 taken-fine s t p o e l =
     let F = s .faults in
     let P = s .patterns in
-    after-fine (heldRules s F P) (givenRules F P t p) (fine (heldRules s F P) (held-say s F P) (o, ((refl, refl), tt)))
+    after-fine (heldRules s F P) (givenRules F P t p) (held-fine s F P o refl refl)
     ∙ after-fine (tableRules F P t) (patternRules P p) e
     ∙ fine (patternRules P p) (pattern-says P p) (l, tt)
+
+-- ---- as the code comes to it
+
+module _ (s : Suspects) (F P : ℕ) (t : List ℕ) (p : ℕ) where
+  pub not-opened : openedOk s ≡ false → refusal (reportRules s F P t p) ≡ Ruling.Refused 22 0
+  unfolding heldRules refusal said
+  not-opened e = after-refused (heldRules s F P) (givenRules F P t p) held
+    where
+      held : refusal (heldRules s F P) ≡ Ruling.Refused 22 0
+      held = rw e
+
+  module _ (o : Opened s) where
+    pub other-counts : (eqb F (s .faults) && eqb P (s .patterns)) ≡ false → refusal (reportRules s F P t p) ≡ Ruling.Refused 12 0
+    unfolding heldRules refusal said
+    other-counts e = after-refused (heldRules s F P) (givenRules F P t p) held
+      where
+        held : refusal (heldRules s F P) ≡ Ruling.Refused 12 0
+        held = rw (opened-same s .tests o, e)
+
+    pub same-counts : F ≡ s .faults → P ≡ s .patterns → refusal (reportRules s F P t p) ≡ refusal (givenRules F P t p)
+    same-counts f q = after-fine (heldRules s F P) (givenRules F P t p) (held-fine s F P o f q)

@@ -14,7 +14,7 @@ ghost use Rattle.answers.specs.Rules.{refusal};
 ghost use Rattle.tables.specs.Table.{Sized};
 ghost use Rattle.reports.specs.Reports.{reportOf};
 ghost use Rattle.suspects.specs.State.{openedOk, Opened};
-ghost use Rattle.suspects.specs.Promise.{openState, narrowedState, patternRules, heldRules, givenRules, reportRules, Opens, Reports};
+ghost use Rattle.suspects.specs.Promise.{openState, narrowedState, patternRules, givenRules, reportRules, Opens, Reports};
 
 // The state: a mark for each fault, 1 where it remains, the counts as at opening, and how many remain.
 pub struct Suspects {
@@ -47,6 +47,16 @@ fn with_answer(state: Suspects) -> After
     }
 }
 
+// A refusal leaves the state.
+fn refused(state: Suspects, number: u32, place: usize) -> After
+    ensures { λ r. ⌜ (r .state ≡ state) × (r .answer ≡ Narrowed.Refused number place) ⌝ }
+{
+    After {
+        state,
+        answer: Narrowed::Refused(number, place),
+    }
+}
+
 // ---- opening
 
 // The state in which all faults remain.
@@ -69,10 +79,7 @@ pub fn opened(state: Suspects, fault_count: u64, pattern_count: u64, table: &[u8
     ensures { λ r. ⌜ Opens «fault_count» «pattern_count» (now (table .entry)) state (r .answer) (r .state) ⌝ }
 {
     match check_table(fault_count, pattern_count, table) {
-        Ruling::Refused(number, place) => After {
-            state,
-            answer: Narrowed::Refused(number, place),
-        },
+        Ruling::Refused(number, place) => refused(state, number, place),
         Ruling::Fine => with_answer(all_remain(fault_count, pattern_count)),
     }
 }
@@ -97,22 +104,6 @@ pub fn is_opened(state: Suspects) -> bool
     state.remaining == count_marks(&marks, n) as u64
 }
 
-// What is asked of the state: refusal 22, then 12 for counts other than at opening.
-fn check_held(state: Suspects, fault_count: u64, pattern_count: u64) -> Ruling
-    ensures { λ r. ⌜ r ≡ refusal (heldRules state «fault_count» «pattern_count») ⌝ }
-{
-    if !is_opened(state) {
-        return Ruling::Refused(22, 0);
-    }
-    if fault_count != state.faults {
-        return Ruling::Refused(12, 0);
-    }
-    if pattern_count != state.patterns {
-        return Ruling::Refused(12, 0);
-    }
-    Ruling::Fine
-}
-
 // Refusal 17: there is such a pattern.
 fn check_pattern(pattern_count: u64, pattern: u64) -> Ruling
     ensures { λ r. ⌜ r ≡ refusal (patternRules «pattern_count» pattern) ⌝ }
@@ -133,7 +124,7 @@ fn check_given(fault_count: u64, pattern_count: u64, table: &[u8], pattern: u64)
     }
 }
 
-// All refusals of a report.
+// All refusals of a report to an opened state: 12 for counts other than at opening, then those of what is lent.
 fn check_report(
     state: Suspects,
     fault_count: u64,
@@ -141,12 +132,16 @@ fn check_report(
     table: &[u8],
     pattern: u64,
 ) -> Ruling
+    requires { ⌜ Opened state ⌝ }
     ensures { λ r. ⌜ r ≡ refusal (reportRules state «fault_count» «pattern_count» (now (table .entry)) pattern) ⌝ }
 {
-    match check_held(state, fault_count, pattern_count) {
-        Ruling::Refused(number, place) => Ruling::Refused(number, place),
-        Ruling::Fine => check_given(fault_count, pattern_count, table, pattern),
+    if fault_count != state.faults {
+        return Ruling::Refused(12, 0);
     }
+    if pattern_count != state.patterns {
+        return Ruling::Refused(12, 0);
+    }
+    check_given(fault_count, pattern_count, table, pattern)
 }
 
 // The state after a report that is not refused.
@@ -168,7 +163,25 @@ fn narrow_state(state: Suspects, table: &[u8], pattern: u64, failed: bool) -> Su
     }
 }
 
-// A report that a pattern failed, or passed.
+// A report to an opened state that a pattern failed, or passed.
+pub fn reported_to(
+    state: Suspects,
+    fault_count: u64,
+    pattern_count: u64,
+    table: &[u8],
+    pattern: u64,
+    failed: bool,
+) -> After
+    requires { ⌜ Opened state ⌝ }
+    ensures { λ r. ⌜ Reports state (reportOf «fault_count» «pattern_count» (now (table .entry)) pattern failed) (r .answer) (r .state) ⌝ }
+{
+    match check_report(state, fault_count, pattern_count, table, pattern) {
+        Ruling::Refused(number, place) => refused(state, number, place),
+        Ruling::Fine => with_answer(narrow_state(state, table, pattern, failed)),
+    }
+}
+
+// The same to any state: refusal 22 where it is not opened.
 pub fn reported(
     state: Suspects,
     fault_count: u64,
@@ -179,13 +192,10 @@ pub fn reported(
 ) -> After
     ensures { λ r. ⌜ Reports state (reportOf «fault_count» «pattern_count» (now (table .entry)) pattern failed) (r .answer) (r .state) ⌝ }
 {
-    match check_report(state, fault_count, pattern_count, table, pattern) {
-        Ruling::Refused(number, place) => After {
-            state,
-            answer: Narrowed::Refused(number, place),
-        },
-        Ruling::Fine => with_answer(narrow_state(state, table, pattern, failed)),
+    if is_opened(state) {
+        return reported_to(state, fault_count, pattern_count, table, pattern, failed);
     }
+    refused(state, 22, 0)
 }
 
 // ---- the state where it stands

@@ -25,14 +25,17 @@ made s = reportOf (s .args .fault-count) (s .args .pattern-count) (s .args .tabl
 state-in-requires : tie.Need-state-in-requires
 state-in-requires c κs = let told = c .before in fine-area (entry told .args .area .now) (fine told) .size
 
+reported-to-requires : tie.Need-reported-to-requires
+reported-to-requires c κs = let told = c .before .before in rw (c .state-in .ensures) (fine-area (entry told .args .area .now) (fine told) .opened)
+
 put-state-requires : tie.Need-put-state-requires
 put-state-requires c κs =
     let reported = c .before in
     let read = reported .before in
     let told = read .before .before in
     let s = entry told in
-    let filled = fine-area (s .args .area .now) (fine told) in
-    (still-opened (made s) (rw (read .state-in .ensures) (filled .opened)) (reported .reported .ensures), filled .size)
+    let held = fine-area (s .args .area .now) (fine told) in
+    (still-opened (made s) (rw (read .state-in .ensures) (held .opened)) (reported .reported-to .ensures), held .size)
 
 returns : tie.Need-returns
 returns c =
@@ -47,7 +50,7 @@ returns-2 c =
     let read = reported .before in
     let told = read .before .before in
     let s = entry told in
-    area-reported (s .args .area .now) (made s) (fine told) (read .state-in .ensures) (reported .reported .ensures) (put .put-state .ensures)
+    area-reported (s .args .area .now) (made s) (fine told) (read .state-in .ensures) (reported .reported-to .ensures) (put .put-state .ensures)
 
 pub report-area-spec : {M : Type 1} → statement M
 report-area-spec =
@@ -57,7 +60,7 @@ report-area-spec =
     (λ c. search needs)
     (λ c. search needs)
     state-in-requires
-    (λ c κs. search needs)
+    reported-to-requires
     put-state-requires
     (λ c. search needs)
     returns

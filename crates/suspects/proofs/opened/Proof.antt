@@ -5,7 +5,7 @@ use native.Mathlib.Omega.{arith}
 use borrow.Author.Needs.{needs}
 use Rattle.ground.proofs.Counting.{count-all}
 use Rattle.tables.proofs.Says.{fine-sized}
-use Rattle.suspects.proofs.Promise.{is-refused, state-taken}
+use Rattle.suspects.proofs.Promise.{state-refused, state-taken}
 use Rattle.suspects.proofs.opened.Statement.{statement}
 use Rattle.suspects.proofs.opened.Tie as tie
 
@@ -13,7 +13,9 @@ all-remain-requires : tie.Need-all-remain-requires
 all-remain-requires c κs = let sized = fine-sized _ _ _ (sym (c .before .before .check-table .ensures) ∙ c .enum-told .given .1) in omega (arith, sized .few-faults)
 
 returns : tie.Need-returns
-returns c = is-refused (sym (c .before .before .before .check-table .ensures) ∙ c .before .number .given .1)
+returns c =
+    let told = c .before .before in
+    state-refused (sym (told .before .before .check-table .ensures) ∙ told .number .given .1) (c .refused .ensures .0) (c .refused .ensures .1)
 
 returns-2 : tie.Need-returns-2
 returns-2 c =
@@ -29,6 +31,7 @@ opened-spec =
     (tie.spec
     (λ c κs. search needs)
     (λ c. search needs)
+    (λ c κs. search needs)
     (λ c. search needs)
     all-remain-requires
     (λ c κs. search needs)

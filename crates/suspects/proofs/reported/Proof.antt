@@ -1,37 +1,23 @@
--- `suspects::reported` meets its contract: the rules first, then the state is narrowed.
+-- `suspects::reported` meets its contract: a state that is not opened first, else the report.
 -- Assumes nothing.
-use mathlib.Core.Path.{refl, sym, _∙_}
+use mathlib.Core.Path.{sym, _∙_}
 use borrow.Author.Needs.{needs}
-use Rattle.suspects.proofs.Says.{taken}
-use Rattle.suspects.proofs.Promise.{is-refused, state-taken}
+use Rattle.suspects.proofs.State.{opened-same}
+use Rattle.suspects.proofs.Says.{not-opened}
+use Rattle.suspects.proofs.Promise.{state-refused}
 use Rattle.suspects.proofs.reported.Statement.{statement}
 use Rattle.suspects.proofs.reported.Tie as tie
 
-narrow-state-requires : tie.Need-narrow-state-requires
-narrow-state-requires c κs =
-    let w = taken _ _ _ _ _ (sym (c .before .before .check-report .ensures) ∙ c .enum-told .given .1) in
-    (w .opened, rw (← w .faults, ← w .patterns) (w .sized), rw (← w .patterns) (w .inside))
+reported-to-requires : tie.Need-reported-to-requires
+reported-to-requires c κs = opened-same _ .holds (sym (c .before .is-opened .ensures) ∙ c .if1 .taken)
 
 returns : tie.Need-returns
-returns c = is-refused (sym (c .before .before .before .check-report .ensures) ∙ c .before .number .given .1)
+returns c = c .reported-to .ensures
 
 returns-2 : tie.Need-returns-2
 returns-2 c =
-    let narrowed = c .before in
-    let told = narrowed .before in
-    let done = c .with-answer .ensures in
-    let kept = sym (told .before .before .check-report .ensures) ∙ told .enum-told .given .1 in
-    let w = taken _ _ _ _ _ kept in
-    state-taken kept (done .0) (done .1) (narrowed .narrow-state .ensures ∙ rw (w .faults, w .patterns)) refl
+    let asked = c .before in
+    state-refused (not-opened _ _ _ _ _ (sym (asked .before .is-opened .ensures) ∙ asked .if1 .left)) (c .refused .ensures .0) (c .refused .ensures .1)
 
 pub reported-spec : {M : Type 1} → statement M
-reported-spec =
-    tie.close
-    (tie.spec
-    (λ c κs. search needs)
-    (λ c. search needs)
-    (λ c. search needs)
-    narrow-state-requires
-    (λ c κs. search needs)
-    returns
-    returns-2)
+reported-spec = tie.close (tie.spec (λ c κs. search needs) reported-to-requires returns (λ c κs. search needs) returns-2)
