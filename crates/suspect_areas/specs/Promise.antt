@@ -39,7 +39,7 @@ OpensArea F P t a = Becomes (openAreaRules a F P t) a (bytesOf (openState F P)) 
 
 -- ---- a report
 
--- the first rule of the state, 22, is kept where those of the area are
+-- the first rule of the state, 22, is kept wherever those of the area are
 abbrev pub reportAreaRules : List ℕ → Report → List Rule
 reportAreaRules a q = areaRules a ++ reportRules (stateIn a) (q .faults) (q .patterns) (q .table) (q .pattern)
 
