@@ -190,8 +190,8 @@ fn bindings() {
 #[test]
 fn refused_bindings() {
     let refused = |faults, patterns, table: &[u8]| Suspects::open(faults, patterns, table).expect_err("refused").to_string();
-    let counts =
-        "refusal 12: a count of faults or patterns is outside 1 to 256 or other than at opening, or the table is not of their product";
+    let counts = "refusal 12: a count of faults or patterns is outside 1 to 256, or the table is not of their product \
+        (report to suspects: or a count is other than at opening)";
     assert_eq!(refused(3, 2, &[0; 5]), counts);
     assert_eq!(refused(0, 2, &[]), counts);
     assert_eq!(refused(257, 1, &[0; 257]), counts);
