@@ -19,7 +19,7 @@ module _ {places : ℕ} {left c fs ps t w a : List ℕ} {r s : ℕ} {t₁ w₁ a
       let o = one-return (p .answer) (q .answer) in
       (o .0, p .table ∙ sym (q .table), p .work ∙ sym (q .work), o .1)
 
--- of a part with one lent memory: compactor, clause writer, reader and names
+-- of a part with one lent memory: compactor, suspects, clause writer, reader and names
 module _ {A : Type 0} {rules : List Rule} {good : Numbers} {m new : List A} {a : List ℕ} {r s : ℕ} {m₁ m₂ : List A} {a₁ a₂ : List ℕ} where
   pub one-lent : LentEntered rules good m new a r m₁ a₁ → LentEntered rules good m new a s m₂ a₂ → (r ≡ s) × (m₁ ≡ m₂) × (a₁ ≡ a₂)
   one-lent p q = let o = one-return (p .answer) (q .answer) in (o .0, p .lent ∙ sym (q .lent), o .1)
