@@ -3,7 +3,7 @@
 use mathlib.Core.Path.{_≡_}
 use mathlib.Core.Bool.{Bool, true, false}
 use mathlib.Core.List.{List}
-use Prim.Native.Nat.{ℕ, _<_}
+use Prim.Native.Nat.{ℕ, _<_, _%_}
 use lib.Dec.{eqb}
 use lib.ListN.{getD}
 use Rattle.ground.specs.Choose.{choose}
@@ -26,6 +26,10 @@ good line site b = b
 
 unfoldable pub faulty : Fault → Truths
 faulty fault line site b = choose (isAt fault line site) (eqb (fault .value) 1) b
+
+-- in every step of a circuit that has so many lines a step
+unfoldable pub truthsInSteps : ℕ → Truths → Truths
+truthsInSteps step f line site b = f (line % step) site b
 
 unfoldable pub gateTruth : Truths → List ℕ → List Bool → ℕ → Bool
 gateTruth f c ts k = boolGate (kindAt c k) (λ s. f k s (getD ts (pinAt c k s) false))

@@ -1,7 +1,7 @@
 -- Simulation with three values of a circuit in which something may force values: nothing, or a fault.
 -- Assumes nothing.
 use mathlib.Core.List.{List}
-use Prim.Native.Nat.{ℕ}
+use Prim.Native.Nat.{ℕ, _%_}
 use lib.ListN.{getD}
 use Rattle.ground.specs.Choose.{choose}
 use Rattle.ground.specs.Lists.{grow}
@@ -21,6 +21,10 @@ unforced line site v = v
 -- a fault: one site of one line shows the stuck value
 unfoldable pub stuckAt : Fault → Forcing
 stuckAt fault line site v = choose (isAt fault line site) (fault .value) v
+
+-- what is forced in every step of a circuit that has so many lines a step; where it has no more lines than that, there is one step
+unfoldable pub inSteps : ℕ → Forcing → Forcing
+inSteps step f line site v = f (line % step) site v
 
 -- the value of the gate at line k, where vs has the values of the lines below it
 unfoldable pub gateValue : Forcing → List ℕ → List ℕ → ℕ → ℕ

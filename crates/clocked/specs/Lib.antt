@@ -1,0 +1,3 @@
+pub mod Clocked
+pub mod Boolean
+pub mod Inputs

@@ -1,0 +1,1 @@
+// The clocked circuit, and that the unfolded one does what it does.

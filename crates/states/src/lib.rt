@@ -1,0 +1,1 @@
+// State records: what they say.

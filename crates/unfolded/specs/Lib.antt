@@ -1,0 +1,3 @@
+pub mod Unfolded
+pub mod Inputs
+pub mod Words

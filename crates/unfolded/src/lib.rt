@@ -1,0 +1,1 @@
+// The circuit unfolded over several clock steps.
