@@ -11,7 +11,8 @@ use Rattle.answers.specs.Area.{told, done}
 use Rattle.answers.proofs.Rules as rules
 use Rattle.answers.proofs.Rules.{applies, refused, not-fine}
 use Rattle.circuit.specs.Record.{linesOf, inputsOf}
-use Rattle.rows.specs.Table.{tableOf, tableWork}
+use Rattle.simulate.specs.Simulate.{stuckAt}
+use Rattle.rows.specs.Table.{workUnder, tableOf, tableWork}
 use Rattle.rows.proofs.Entries.{made, one-made}
 use Rattle.dictionary.specs.Promise.{dictionaryRules, Answered, Dictionary}
 use Rattle.dictionary.specs.Words.{EngineWords, LeftBoth, InWords}
@@ -39,7 +40,7 @@ module _ {places : ℕ} {left c fs ps t w : List ℕ} {r : Ruling} {t′ w′ : 
       nothing = λ m k e. (d .table ∙ rw (sym (d .answer) ∙ e), d .work ∙ rw (sym (d .answer) ∙ e));
       made = λ e.
           let so = made-so (rw e at d) in
-          (rw (so .0) (made c (linesOf c) (inputsOf c) fs ps), rw (so .1) (holds (taken places c fs ps (length t) (length w) (sym (d .answer) ∙ e))));
+          (rw (so .0) (made stuckAt c (linesOf c) (inputsOf c) fs ps), rw (so .1) (holds (taken places c fs ps (length t) (length w) (sym (d .answer) ∙ e))));
     }
 
     -- and what meets the words keeps the promise
@@ -69,7 +70,7 @@ module _ {places : ℕ} {left c fs ps t w : List ℕ} {r : Ruling} {t′ w′ : 
         answer = ruled (refusal all) refl
 
         table : (v : Ruling) → r ≡ v → t′ ≡ unless v t (tableOf c (linesOf c) (inputsOf c) fs ps)
-        table Fine e = one-made c (linesOf c) (inputsOf c) fs ps (i .made e .0)
+        table Fine e = one-made stuckAt c (linesOf c) (inputsOf c) fs ps (i .made e .0)
         table (Refused m k) e = i .nothing m k e .0
 
         work : (v : Ruling) → refusal all ≡ v → r ≡ v → w′ ≡ unless v w left
@@ -79,7 +80,7 @@ module _ {places : ℕ} {left c fs ps t w : List ℕ} {r : Ruling} {t′ w′ : 
 -- ---- a byte for each value
 
 left-both : (c fs ps : List ℕ) → LeftBoth c fs ps (tableWork c (linesOf c) (inputsOf c) fs ps)
-unfolding tableWork
+unfolding workUnder
 left-both c fs ps = refl
 
 module _ {c fs ps t w : List ℕ} {r : Ruling} {t′ w′ : List ℕ} where

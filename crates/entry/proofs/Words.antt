@@ -15,10 +15,10 @@ use Rattle.answers.specs.Rules.{Same}
 use Rattle.answers.proofs.Same.{lt-same, eq-same, and-same, never-same, where-same}
 use Rattle.gates.specs.Gate.{known}
 use Rattle.circuit.specs.Record.{isOutput}
-use Rattle.lists.specs.declared.Fault.{Fault}
-use Rattle.simulate.specs.Work.{goodOf, faultyOf}
+use Rattle.simulate.specs.Simulate.{Forcing, valuesTo}
+use Rattle.simulate.specs.Work.{goodOf}
 use Rattle.tables.specs.Entries.{pass, fail, unknown}
-use Rattle.entry.specs.Entry.{Test, differ, agree, asExpected, someOutput, everyOutput, entryBy, entryOf, entryAt}
+use Rattle.entry.specs.Entry.{Test, differ, agree, asExpected, someOutput, everyOutput, entryBy, entryOf, entryUnder}
 use Rattle.entry.specs.Words.{Differ, Agree, AsExpected, SomeOutput, EveryOutput, Chosen, EntryBy, Entry}
 
 -- ---- the tests
@@ -131,9 +131,9 @@ entry-three t c g f n = go (someOutput differ c g f n) (everyOutput t c g f n)
     go false true = omega arith
     go false false = omega arith
 
-pub entry-small : (fault : Fault) (c p : List ℕ) (n : ℕ) → entryAt fault c p n ≤ 2
-unfolding entryAt
-entry-small fault c p n = entry-three asExpected c (goodOf c p n) (faultyOf fault c p n) n
+pub entry-small : (f : Forcing) (c p : List ℕ) (n : ℕ) → entryUnder f c p n ≤ 2
+unfolding entryUnder
+entry-small f c p n = entry-three asExpected c (goodOf c p n) (valuesTo f c p n) n
 
 module _ {t : Test} {P : ℕ → ℕ → Type 0} (passes : Passes t P) (c g f : List ℕ) (n : ℕ) where
   some : Same (someOutput differ c g f n) (SomeOutput Differ c g f n)

@@ -10,7 +10,8 @@ use Rattle.ground.specs.Below.{allBelow, anyBelow}
 use Rattle.gates.specs.Gate.{known}
 use Rattle.circuit.specs.Record.{isOutput}
 use Rattle.lists.specs.declared.Fault.{Fault}
-use Rattle.simulate.specs.Work.{goodOf, faultyOf}
+use Rattle.simulate.specs.Simulate.{Forcing, stuckAt, valuesTo}
+use Rattle.simulate.specs.Work.{goodOf}
 use Rattle.tables.specs.Entries.{pass, fail, unknown}
 
 -- a test of a line's good and faulty value
@@ -45,6 +46,10 @@ entryBy t c g f n = choose (someOutput differ c g f n) fail (choose (everyOutput
 abbrev pub entryOf : List ℕ → List ℕ → List ℕ → ℕ → ℕ
 entryOf c g f n = entryBy asExpected c g f n
 
+-- of the pattern p, where the faulty circuit is the one in which f is forced
+unfoldable pub entryUnder : Forcing → List ℕ → List ℕ → ℕ → ℕ
+entryUnder f c p n = entryOf c (goodOf c p n) (valuesTo f c p n) n
+
 -- of the pattern p and a fault
-unfoldable pub entryAt : Fault → List ℕ → List ℕ → ℕ → ℕ
-entryAt fault c p n = entryOf c (goodOf c p n) (faultyOf fault c p n) n
+abbrev pub entryAt : Fault → List ℕ → List ℕ → ℕ → ℕ
+entryAt fault c p n = entryUnder (stuckAt fault) c p n

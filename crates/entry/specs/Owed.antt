@@ -7,11 +7,11 @@ use Prim.Native.Nat.{ℕ, _+_, _*_}
 use lib.Dec.{eqb}
 use lib.ListN.{length, take}
 use Rattle.ground.specs.Choose.{choose}
-use Rattle.lists.specs.declared.Fault.{Fault}
-use Rattle.simulate.specs.Work.{goodOf, bothOf}
+use Rattle.simulate.specs.Simulate.{Forcing}
+use Rattle.simulate.specs.Work.{goodOf, bothUnder}
 use Rattle.simulate.specs.Owed.{AllSmall}
 use Rattle.tables.specs.Entries.{pass, fail, unknown}
-use Rattle.entry.specs.Entry.{Test, differ, agree, asExpected, entryAt}
+use Rattle.entry.specs.Entry.{Test, differ, agree, asExpected, entryUnder}
 
 -- what one line says: fail, it is an output and its values differ; pass, it is none or its values pass the test; unknown, neither
 unfoldable pub statusBy : Test → ℕ → ℕ → ℕ → ℕ
@@ -30,11 +30,11 @@ pub record EntryRoom (c : List ℕ) (n work : ℕ) : Type 0 where
   pub circuit : length c ≡ 8 * n
   pub two : work ≡ n + n
 
--- the entry of the pattern p and a fault, and the work memory that it was read from
-pub record EntryRead (fault : Fault) (c p : List ℕ) (n : ℕ) (work : List ℕ) (r : ℕ) : Type 0 where
-  pub entry-is : r ≡ entryAt fault c p n
-  pub work-is : work ≡ bothOf fault c p n
+-- the entry of the pattern p under a forcing, and the work memory that it was read from
+pub record EntryRead (f : Forcing) (c p : List ℕ) (n : ℕ) (work : List ℕ) (r : ℕ) : Type 0 where
+  pub entry-is : r ≡ entryUnder f c p n
+  pub work-is : work ≡ bothUnder f c p n
 
 -- where the first half of w has the good values, under whatever pattern of 0, 1 and X
-abbrev pub FaultEntryDone : Fault → List ℕ → ℕ → List ℕ → List ℕ → ℕ → Type 0
-FaultEntryDone fault c n w w′ r = (p : List ℕ) → AllSmall p → take n w ≡ goodOf c p n → EntryRead fault c p n w′ r
+abbrev pub FaultEntryDone : Forcing → List ℕ → ℕ → List ℕ → List ℕ → ℕ → Type 0
+FaultEntryDone f c n w w′ r = (p : List ℕ) → AllSmall p → take n w ≡ goodOf c p n → EntryRead f c p n w′ r

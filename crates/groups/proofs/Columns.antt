@@ -12,6 +12,7 @@ use Rattle.lists.specs.declared.Fault.{Fault}
 use Rattle.lists.specs.Faults.{faultCount, faultAt}
 use Rattle.lists.specs.Patterns.{patternCount, patternAt}
 use Rattle.simulate.specs.Work.{goodOf, faultyOf}
+use Rattle.simulate.specs.Simulate.{stuckAt}
 use Rattle.entry.specs.Entry.{entryAt}
 use Rattle.entry.proofs.Words.{entry-small}
 use Rattle.columns.specs.declared.EntryLanes.{EntryLanes}
@@ -90,7 +91,7 @@ module _ {c : List ℕ} {n m : ℕ} {fs ps t w : List ℕ} {j : ℕ} (so : SoFar
       → SoFar c n m fs ps t′ w′ (j + 1)
   more {fault} {w′} {t′} {e} l is looks puts =
       let read = rw is at (looks m ps (so .good)) in
-      let put = puts (λ i. entryAt (faultAt fs j) c (lanePattern m ps i) n) (λ i _. entry-small (faultAt fs j) c (lanePattern m ps i) n) (read .entries-are) in
+      let put = puts (λ i. entryAt (faultAt fs j) c (lanePattern m ps i) n) (λ i _. entry-small (stuckAt (faultAt fs j)) c (lanePattern m ps i) n) (read .entries-are) in
       let back : j + 1 - 1 ≡ j = omega arith in
       record {
         at-most = omega arith;

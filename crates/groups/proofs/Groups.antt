@@ -14,7 +14,7 @@ use Rattle.ground.proofs.Gather.{gather-same, gather-add}
 use Rattle.lists.specs.Faults.{faultCount}
 use Rattle.lists.specs.Patterns.{patternCount, patternAt}
 use Rattle.lane_lines.specs.Lines.{bothWords}
-use Rattle.rows.specs.Table.{rowOf, tableTo, tableOf, lastFault}
+use Rattle.rows.specs.Table.{tableUnder, rowOf, tableTo, tableOf, lastFault}
 use Rattle.rows.proofs.Part.{still-ready}
 use Rattle.rows.proofs.Entries.{made}
 use Rattle.groups.specs.Work.{groupAt, laneWork}
@@ -34,7 +34,7 @@ module _ {c : List ℕ} {n m : ℕ} {fs ps : List ℕ} {table work from rows : �
 
   -- its rows follow those before it
   rows-follow : tableTo c n m fs ps from ++ tableOf c n m fs (patternsFrom m ps from rows) ≡ tableTo c n m fs ps (from + rows)
-  unfolding tableOf
+  unfolding tableUnder
   rows-follow =
       ap (λ (x : List ℕ). tableTo c n m fs ps from ++ x)
       (ap (gather (λ k. rowOf c n fs (patternAt m (patternsFrom m ps from rows) k))) count-is
@@ -121,7 +121,7 @@ module _ {c : List ℕ} {n m : ℕ} {fs ps t w : List ℕ} {groups g : ℕ} (so 
           go (inr l) = omega arith
 
   pub finished : groups ≤ g → 1 ≤ patternCount m ps → GroupCount (patternCount m ps) groups → GroupsDone c n m fs ps t w
-  unfolding tableOf laneWork
+  unfolding tableUnder laneWork
   finished l some count =
       let e : g ≡ groups = omega (arith, so .at-most) in
       let all : rowsTo g (patternCount m ps) ≡ patternCount m ps = omega (arith, count .enough) in

@@ -10,7 +10,7 @@ use Rattle.lists.specs.declared.Fault.{Fault}
 use Rattle.simulate.specs.Simulate.{unforced, stuckAt, lineValue}
 use Rattle.simulate.specs.Work.{goodOf, faultyOf}
 use Rattle.simulate.proofs.Below.{values-below}
-use Rattle.entry.specs.Entry.{entryAt}
+use Rattle.entry.specs.Entry.{entryUnder}
 use Rattle.columns.specs.declared.EntryLanes.{EntryLanes}
 use Rattle.lane_lines.specs.Lines.{lanePattern}
 use Rattle.lane_lines.specs.Owed.{FaultyWordsDone}
@@ -24,7 +24,7 @@ module _ (fault : Fault) (c : List ℕ) (n : ℕ) (inside : fault .line < n) whe
       ∙ grow-meet (lineValue (stuckAt fault) c p) 0 (fault .line) n k l (omega arith)
 
   pub entries-made : (w w′ : List ℕ) {r : EntryLanes} → FaultyWordsDone fault c n w w′ → EntriesFromDone c n w′ (fault .line) r → FaultEntriesDone fault c n w w′ r
-  unfolding entryAt
+  unfolding entryUnder
   entries-made w w′ words entries m ps good = record {
     entries-are = entries (λ i. goodOf c (lanePattern m ps i) n) (λ i. faultyOf fault c (lanePattern m ps i) n) (words m ps good) (λ i. same-below (lanePattern m ps i));
     words-are = words m ps good;

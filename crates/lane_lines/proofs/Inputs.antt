@@ -25,12 +25,12 @@ use Rattle.lanes.specs.declared.Lanes.{Lanes}
 use Rattle.lanes.specs.Lanes.{lanesOf, laid}
 use Rattle.lanes.proofs.Values.{laid-same}
 use Rattle.simulate.specs.Work.{goodOf}
-use Rattle.simulate.specs.Owed.{inputOr, InputsFrom, Any, SimulateDone}
+use Rattle.simulate.specs.Owed.{Ordered, inputOr, InputsFrom}
 use Rattle.simulate.proofs.Settled.{ordered, all-good}
 use Rattle.lane_lines.specs.Lines.{lanePattern, goodWords}
 use Rattle.lane_lines.specs.Owed.{lanesAt, PairInside, Carries, LinesReady, lineTurns, SimulateWordsDone, InputWordsDone}
 use Rattle.lane_lines.proofs.Words.{putAt, put-long, put-here, put-other, words-are, carries-same}
-use Rattle.lane_lines.proofs.Turns.{turns-simulate}
+use Rattle.lane_lines.proofs.Turns.{turns-simulate, turns-long}
 
 pub lines-ready : {c : List ℕ} {m n : ℕ} → WellFormed c m n → LinesReady c n (2 * n)
 lines-ready w = record { ordered = ordered w; kinds = w .kinds; two = refl }
@@ -122,7 +122,6 @@ module _ (c : List ℕ) (m n : ℕ) (ps : List ℕ) where
       lane : (i : ℕ) → lineTurns c (inputsIn i) 0 (n - 0) ≡ goodOf c (lanePattern m ps i) n
       lane i =
           let size = inputs-long i in
-          all-good c (lanePattern m ps i) (inputsIn i) tt refl (inputs-from i)
-          (subst (λ (x : ℕ). SimulateDone Any c (inputsIn i) 0 (lineTurns c (inputsIn i) 0 (x - 0))) size
-          (turns-simulate c (inputsIn i) 0 (rw size (ordered well)) (omega arith)))
-          ∙ ap (goodOf c (lanePattern m ps i)) size
+          let ready : Ordered c (length (inputsIn i)) = rw size (ordered well) in
+          all-good c (lanePattern m ps i) tt (turns-long c (inputsIn i) 0 n ready (omega arith) (omega arith) ∙ size) (inputs-from i)
+          (turns-simulate c (inputsIn i) 0 n ready (omega arith) (omega arith))

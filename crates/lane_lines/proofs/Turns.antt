@@ -16,14 +16,19 @@ use Rattle.lane_lines.proofs.Words.{putAt, put-long, put-carries}
 
 -- ---- in one lane
 
-so-far : (c vs : List ℕ) (start : ℕ) → Ordered c (length vs) → (j : ℕ) → start + j ≤ length vs → settled.SoFar Any c vs start (lineTurns c vs start j) (start + j)
-so-far c vs start o zero h = rw (add-zero start) (settled.start Any c vs start (omega arith))
-so-far c vs start o (suc j) h =
-    rw (add-suc start j, ← add-one (start + j)) (settled.more (so-far c vs start o j (omega arith)) o (omega arith) (λ f p _ s left. refl))
+so-far : (c vs : List ℕ) (start end : ℕ) → Ordered c (length vs) → end ≤ length vs → (j : ℕ) → start + j ≤ end → settled.SoFar Any c vs start end (lineTurns c vs start j) (start + j)
+so-far c vs start end o inside zero h = rw (add-zero start) (settled.start Any c vs start end (omega arith))
+so-far c vs start end o inside (suc j) h =
+    rw (add-suc start j, ← add-one (start + j)) (settled.more (so-far c vs start end o inside j (omega arith)) o inside (omega arith) (λ f p _ s left. refl))
 
 -- all turns taken, the lines are simulated
-pub turns-simulate : (c vs : List ℕ) (start : ℕ) → Ordered c (length vs) → start ≤ length vs → SimulateDone Any c vs start (lineTurns c vs start (length vs - start))
-turns-simulate c vs start o h = settled.finished (so-far c vs start o (length vs - start) (omega arith)) (omega arith)
+module _ (c vs : List ℕ) (start end : ℕ) (o : Ordered c (length vs)) (h : start ≤ end) (inside : end ≤ length vs) where
+  pub turns-simulate : SimulateDone Any c vs start end (lineTurns c vs start (end - start))
+  turns-simulate = settled.finished (so-far c vs start end o inside (end - start) (omega arith)) (omega arith)
+
+  -- and as many as before
+  pub turns-long : length (lineTurns c vs start (end - start)) ≡ length vs
+  turns-long = so-far c vs start end o inside (end - start) (omega arith) .long
 
 -- ---- in every lane
 

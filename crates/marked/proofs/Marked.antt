@@ -14,8 +14,8 @@ use Rattle.circuit.specs.Promise.{layoutRules, countRules, checkOf}
 use Rattle.lists.specs.Faults.{faultAt, faultOk, faultRules}
 use Rattle.lists.specs.Patterns.{patternRules}
 use Rattle.simulate.specs.Simulate.{stuckAt, gateValue, lineValue}
-use Rattle.entry.specs.Entry.{differ, agree, asExpected, entryBy, entryAt}
-use Rattle.rows.specs.Table.{tableOf}
+use Rattle.entry.specs.Entry.{differ, agree, asExpected, entryBy, entryUnder}
+use Rattle.rows.specs.Table.{tableUnder, tableOf}
 use Rattle.needs.specs.Needs.{tells, lost, lostPair, lacks, turn, turns, compacted}
 use Rattle.tables.specs.Table.{sizesOk, tableRules}
 use Rattle.tables.specs.Marks.{marksRules}
@@ -44,7 +44,7 @@ _and_ a b = (a, b)
 pub all-hold : AllYield marked
 unfolding countBelow firstNot said refusal recordsOk smallOk lentRules
     pairAt pinsOf gateTable threeOf gateOf pinOk fieldOk lineOk layoutRules countRules checkOf faultOk faultRules patternRules
-    stuckAt gateValue lineValue grow differ agree asExpected entryBy entryAt tableOf
+    stuckAt gateValue lineValue grow differ agree asExpected entryBy entryUnder tableUnder
     tells lost lostPair lacks turn turns compacted sizesOk tableRules marksRules
     digits letterOf markOf outputOf
     countX firstX fill order upto found testIn verdictIn lookOf verdictFor testFor

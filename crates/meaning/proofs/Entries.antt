@@ -21,14 +21,14 @@ use Rattle.lists.specs.Patterns.{patternCount, patternAt}
 use Rattle.lists.specs.Both.{listRules}
 use Rattle.lists.proofs.Patterns.{pattern-whole}
 use Rattle.lists.proofs.Both.{good-lists}
-use Rattle.simulate.specs.Simulate.{unforced}
+use Rattle.simulate.specs.Simulate.{unforced, stuckAt}
 use Rattle.simulate.specs.Boolean.{Vector, Detects}
 use Rattle.simulate.specs.Vectors.{NoX, Fills}
 use Rattle.simulate.specs.Work.{goodOf, faultyOf}
 use Rattle.simulate.proofs.Keeps.{unforced-keeps}
 use Rattle.simulate.proofs.Known.{values-known}
 use Rattle.tables.specs.Entries.{pass, fail, unknown}
-use Rattle.entry.specs.Entry.{entryAt}
+use Rattle.entry.specs.Entry.{entryUnder, entryAt}
 use Rattle.entry.proofs.Words.{expected-passes, entry-small, fail-some, pass-every}
 use Rattle.entry.proofs.Decided.{decided}
 use Rattle.entry.proofs.Fillings.{differ-truths, agree-truths}
@@ -40,7 +40,7 @@ use Rattle.meaning.specs.Entries.{Exposes, Clears, Means}
 
 module _ (fault : Fault) (small : fault .value ≤ 1) (c p : List ℕ) (n : ℕ) (well : WellFormed c (length p) n) where
   exposes-is : entryAt fault c p n ≡ fail → Exposes c fault n p
-  unfolding entryAt
+  unfolding entryUnder
   exposes-is e =
       let w = fail-some expected-passes c (goodOf c p n) (faultyOf fault c p n) n e in
       record {
@@ -55,13 +55,13 @@ module _ (fault : Fault) (small : fault .value ≤ 1) (c p : List ℕ) (n : ℕ)
       record { line = s .line; inside = s .compared .inside; output = s .compared .output; differ = s .differ x fills }
 
   clears-is : entryAt fault c p n ≡ pass → Clears c fault n p
-  unfolding entryAt
+  unfolding entryUnder
   clears-is e x fills k h =
       let all = pass-every expected-passes c (goodOf c p n) (faultyOf fault c p n) n e in
       agree-truths fault small c p n (well .inputs-are) x fills k (all k (h .inside) (eqb-true _ _ (h .output)) (h .known))
 
   decided-is : NoX p → entryAt fault c p n ≡ unknown → ⊥
-  unfolding entryAt
+  unfolding entryUnder
   decided-is = decided expected-passes fault c p n small well
 
   -- without X every output is compared
@@ -80,7 +80,7 @@ module _ (fault : Fault) (small : fault .value ≤ 1) (c p : List ℕ) (n : ℕ)
   }
     where
       go : {A : Type 0} → (A → ⊥) → (entryAt fault c p n ≡ unknown → ⊥) → (entryAt fault c p n ≡ fail → A) → entryAt fault c p n ≡ pass
-      go not known detects = let n1 : entryAt fault c p n ≡ fail → ⊥ = λ e. not (detects e) in omega (arith, entry-small fault c p n)
+      go not known detects = let n1 : entryAt fault c p n ≡ fail → ⊥ = λ e. not (detects e) in omega (arith, entry-small (stuckAt fault) c p n)
 
 -- of an accepted circuit, a fault in its layout, and any pattern of its inputs
 pub entry-means : (c fs p : List ℕ) (j : ℕ)

@@ -13,6 +13,7 @@ use Rattle.lists.specs.Faults.{faultCount, faultAt}
 use Rattle.lists.specs.Patterns.{patternCount, patternAt}
 use Rattle.lists.specs.Both.{listRules}
 use Rattle.tables.specs.Entries.{entriesOf}
+use Rattle.simulate.specs.Simulate.{stuckAt}
 use Rattle.rows.specs.Table.{tableOf}
 use Rattle.rows.proofs.Entries.{made}
 use Rattle.dictionary.specs.Promise.{Answered}
@@ -46,7 +47,7 @@ module _ (c fs ps m : List ℕ) (fine : refusal (circuitRules c) ≡ Fine) (list
 
   serves : Sound (entriesOf (faultCount fs) (tableOf c (linesOf c) (inputsOf c) fs ps)) (faultCount fs) (patternCount (inputsOf c) ps) m → Serves c fs ps m
   serves sound =
-      let s = sound-same {E = entriesOf (faultCount fs) (tableOf c (linesOf c) (inputsOf c) fs ps)} (made c (linesOf c) (inputsOf c) fs ps .entry) sound in
+      let s = sound-same {E = entriesOf (faultCount fs) (tableOf c (linesOf c) (inputsOf c) fs ps)} (made stuckAt c (linesOf c) (inputsOf c) fs ps .entry) sound in
       record {
         sound = s;
         exposed = λ f a d. let k = s .enough .faults f a d in (k .0, k .1, k .2, at (k .0) f (k .1) a .exposes (k .3));

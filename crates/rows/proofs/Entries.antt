@@ -11,22 +11,22 @@ use Rattle.ground.proofs.Grow.{table-length, table-at}
 use Rattle.ground.proofs.Gather.{gather-length, gather-at}
 use Rattle.lists.specs.Faults.{faultCount, faultAt}
 use Rattle.lists.specs.Patterns.{patternCount, patternAt}
-use Rattle.entry.specs.Entry.{entryAt}
-use Rattle.rows.specs.Table.{rowOf, tableOf}
-use Rattle.rows.specs.Words.{Made}
+use Rattle.entry.specs.Entry.{entryUnder}
+use Rattle.rows.specs.Table.{Forces, rowUnder, tableUnder}
+use Rattle.rows.specs.Words.{MadeUnder}
 
-module _ (c : List ℕ) (n m : ℕ) (fs ps : List ℕ) where
-  row-long : (i : ℕ) → length (rowOf c n fs (patternAt m ps i)) ≡ faultCount fs
-  row-long i = table-length (λ j. entryAt (faultAt fs j) c (patternAt m ps i) n) (faultCount fs)
+module _ (forces : Forces) (c : List ℕ) (n m : ℕ) (fs ps : List ℕ) where
+  row-long : (i : ℕ) → length (rowUnder forces c n fs (patternAt m ps i)) ≡ faultCount fs
+  row-long i = table-length (λ j. entryUnder (forces (faultAt fs j)) c (patternAt m ps i) n) (faultCount fs)
 
   -- the definition meets the words
-  pub made : Made c n m fs ps (tableOf c n m fs ps)
-  unfolding tableOf
+  pub made : MadeUnder forces c n m fs ps (tableUnder forces c n m fs ps)
+  unfolding tableUnder
   made = record {
-    size = gather-length (λ i. rowOf c n fs (patternAt m ps i)) (faultCount fs) row-long (patternCount m ps) ∙ mul-comm (patternCount m ps) (faultCount fs);
+    size = gather-length (λ i. rowUnder forces c n fs (patternAt m ps i)) (faultCount fs) row-long (patternCount m ps) ∙ mul-comm (patternCount m ps) (faultCount fs);
     entry = λ i j h g.
-        gather-at (λ k. rowOf c n fs (patternAt m ps k)) (faultCount fs) row-long 0 (patternCount m ps) i j h g
-        ∙ table-at (λ k. entryAt (faultAt fs k) c (patternAt m ps i) n) (faultCount fs) 0 j g;
+        gather-at (λ k. rowUnder forces c n fs (patternAt m ps k)) (faultCount fs) row-long 0 (patternCount m ps) i j h g
+        ∙ table-at (λ k. entryUnder (forces (faultAt fs k)) c (patternAt m ps i) n) (faultCount fs) 0 j g;
   }
 
   -- a place of the table is that of a pattern and a fault
@@ -49,5 +49,5 @@ module _ (c : List ℕ) (n m : ℕ) (fs ps : List ℕ) where
           (same (x / f) (x % f) (div-lt-iff-lt-mul pos .1 (omega (arith, p, mul-comm f (patternCount m ps)))) (mod-lt x pos))
 
   -- and what meets the words is the definition
-  pub one-made : {t : List ℕ} → Made c n m fs ps t → t ≡ tableOf c n m fs ps
-  one-made {t} d = by-place t (tableOf c n m fs ps) (d .size) (made .size) (λ i j a b. d .entry i j a b ∙ sym (made .entry i j a b))
+  pub one-made : {t : List ℕ} → MadeUnder forces c n m fs ps t → t ≡ tableUnder forces c n m fs ps
+  one-made {t} d = by-place t (tableUnder forces c n m fs ps) (d .size) (made .size) (λ i j a b. d .entry i j a b ∙ sym (made .entry i j a b))

@@ -10,10 +10,10 @@ use Rattle.lists.specs.Faults.{faultCount}
 use Rattle.lists.specs.Patterns.{patternCount}
 use Rattle.lists.proofs.Patterns.{part-fits, pattern-fits}
 use Rattle.lists.proofs.Parts.{lent, back, width-is, lent-long, lent-piece}
-use Rattle.simulate.specs.Work.{bothOf}
+use Rattle.simulate.specs.Work.{bothUnder}
 use Rattle.simulate.proofs.Small.{part-small}
-use Rattle.rows.specs.Table.{lastFault}
-use Rattle.rows.specs.Owed.{RowReady, RowDone, TableReady, PutRowDone}
+use Rattle.rows.specs.Table.{Forces, lastFault}
+use Rattle.rows.specs.Owed.{RowReady, RowDone, TableReady, FaultsInSteps, PutRowDone}
 
 -- other memory of the same sizes
 pub still-ready : {most places : ℕ} {c : List ℕ} {n m : ℕ} {fs ps : List ℕ} {x y x′ y′ : ℕ}
@@ -27,26 +27,29 @@ pub row-fits : {c : List ℕ} {n m : ℕ} {fs ps : List ℕ} {x y i : ℕ} → T
 row-fits {c} {n} {m} {fs} {ps} {x} {y} {i} r h = omega (arith, part-fits i (patternCount m ps) (faultCount fs) h, r .entries)
 
 module _ (c : List ℕ) (n m : ℕ) (fs ps t : List ℕ) (i : ℕ) where
-  pub row-ready : {y : ℕ} → TableReady 256 2 c n m fs ps (length t) y
+  pub row-ready : {y step : ℕ} → TableReady 256 2 c n m fs ps (length t) y
+      → FaultsInSteps step n fs
       → i < patternCount m ps
-      → RowReady c n (lent (i * m) m ps) fs (length (lent (i * faultCount fs) (faultCount fs) t)) y
-  row-ready r h =
+      → RowReady c n step (lent (i * m) m ps) fs (length (lent (i * faultCount fs) (faultCount fs) t)) y
+  row-ready r steps h =
       rw (lent-long (i * faultCount fs) (faultCount fs) t (row-fits r h))
       (record {
         well = rw (lent-long (i * m) m ps (pattern-fits ps (r .patterns) h)) (r .well);
         faults = r .faults .multiple;
         small = part-small ps (i * m + m - i * m) (i * m) (r .pattern-values);
-        lines = r .fault-lines;
+        lines = steps .lines;
         values = r .fault-values;
+        inside = steps .inside;
+        most = r .most-lines;
         some = r .faults .some;
         two = omega (arith, r .room);
       })
 
-  pub put : (row w′ : List ℕ) → RowDone c n (lent (i * m) m ps) fs row w′ → PutRowDone c n m fs ps i t (back (i * faultCount fs) (faultCount fs) t row) w′
-  put row w′ f =
+  pub put : (forces : Forces) (row w′ : List ℕ) → RowDone forces c n (lent (i * m) m ps) fs row w′ → PutRowDone forces c n m fs ps i t (back (i * faultCount fs) (faultCount fs) t row) w′
+  put forces row w′ f =
       let p = lent-piece m ps i in
       record {
         table-is =
             rw (f .row-is, p, width-is (i * faultCount fs) (faultCount fs), drop-drop (faultCount fs) (i * faultCount fs) t);
-        work-is = f .work-is ∙ ap (λ (x : List ℕ). bothOf (lastFault fs) c x n) p;
+        work-is = f .work-is ∙ ap (λ (x : List ℕ). bothUnder (forces (lastFault fs)) c x n) p;
       }

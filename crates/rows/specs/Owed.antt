@@ -8,24 +8,27 @@ use Rattle.answers.specs.Records.{Records}
 use Rattle.circuit.specs.Formed.{WellFormed}
 use Rattle.lists.specs.Faults.{faultCount, faultLine, faultValue}
 use Rattle.lists.specs.Patterns.{patternCount, patternAt}
-use Rattle.simulate.specs.Work.{bothOf}
+use Rattle.simulate.specs.Work.{bothUnder}
 use Rattle.simulate.specs.Owed.{AllSmall}
-use Rattle.rows.specs.Table.{rowOf, tableOf, lastFault, tableWork}
+use Rattle.rows.specs.Table.{Forces, rowUnder, tableUnder, lastFault, workUnder}
 
 -- ---- the row of one pattern
 
-pub record RowReady (c : List ℕ) (n : ℕ) (p fs : List ℕ) (row work : ℕ) : Type 0 where
+-- a pattern and faults, each on a line of the first step, and memory for the row and the values
+pub record RowReady (c : List ℕ) (n step : ℕ) (p fs : List ℕ) (row work : ℕ) : Type 0 where
   pub well : WellFormed c (length p) n
   pub faults : length fs ≡ 8 * row
   pub small : AllSmall p
-  pub lines : (j : ℕ) → j < row → faultLine fs j < n
+  pub lines : (j : ℕ) → j < row → faultLine fs j < step
   pub values : (j : ℕ) → j < row → faultValue fs j ≤ 1
+  pub inside : step ≤ n
+  pub most : n ≤ 2048
   pub some : 1 ≤ row
   pub two : work ≡ n + n
 
-pub record RowDone (c : List ℕ) (n : ℕ) (p fs row work : List ℕ) : Type 0 where
-  pub row-is : row ≡ rowOf c n fs p
-  pub work-is : work ≡ bothOf (lastFault fs) c p n
+pub record RowDone (forces : Forces) (c : List ℕ) (n : ℕ) (p fs row work : List ℕ) : Type 0 where
+  pub row-is : row ≡ rowUnder forces c n fs p
+  pub work-is : work ≡ bothUnder (forces (lastFault fs)) c p n
 
 -- ---- the table
 
@@ -43,11 +46,16 @@ pub record TableReady (most places : ℕ) (c : List ℕ) (n m : ℕ) (fs ps : Li
   pub entries : table ≡ faultCount fs * patternCount m ps
   pub room : work ≡ places * n
 
--- row i is put into the table
-pub record PutRowDone (c : List ℕ) (n m : ℕ) (fs ps : List ℕ) (i : ℕ) (t t′ w′ : List ℕ) : Type 0 where
-  pub table-is : t′ ≡ take (i * faultCount fs) t ++ (rowOf c n fs (patternAt m ps i) ++ drop (i * faultCount fs + faultCount fs) t)
-  pub work-is : w′ ≡ bothOf (lastFault fs) c (patternAt m ps i) n
+-- steps of so many lines, with each fault on a line of the first
+pub record FaultsInSteps (step n : ℕ) (fs : List ℕ) : Type 0 where
+  pub inside : step ≤ n
+  pub lines : (j : ℕ) → j < faultCount fs → faultLine fs j < step
 
-pub record TableDone (c : List ℕ) (n m : ℕ) (fs ps t w : List ℕ) : Type 0 where
-  pub table-is : t ≡ tableOf c n m fs ps
-  pub work-is : w ≡ tableWork c n m fs ps
+-- row i is put into the table
+pub record PutRowDone (forces : Forces) (c : List ℕ) (n m : ℕ) (fs ps : List ℕ) (i : ℕ) (t t′ w′ : List ℕ) : Type 0 where
+  pub table-is : t′ ≡ take (i * faultCount fs) t ++ (rowUnder forces c n fs (patternAt m ps i) ++ drop (i * faultCount fs + faultCount fs) t)
+  pub work-is : w′ ≡ bothUnder (forces (lastFault fs)) c (patternAt m ps i) n
+
+pub record TableDone (forces : Forces) (c : List ℕ) (n m : ℕ) (fs ps t w : List ℕ) : Type 0 where
+  pub table-is : t ≡ tableUnder forces c n m fs ps
+  pub work-is : w ≡ workUnder forces c n m fs ps

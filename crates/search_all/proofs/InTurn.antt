@@ -20,6 +20,7 @@ use Rattle.lists.specs.declared.Fault.{Fault}
 use Rattle.lists.specs.Faults.{faultCount, faultLine, faultAt, FaultLayout, faultRules}
 use Rattle.lists.specs.Patterns.{patternAt}
 use Rattle.lists.proofs.Faults.{faults-say}
+use Rattle.simulate.specs.Simulate.{stuckAt}
 use Rattle.simulate.proofs.Work.{both-length}
 use Rattle.nodes.specs.declared.Verdict.{Verdict}
 use Rattle.nodes.specs.declared.Verdict.the-variants.{Test, Redundant, GivenUp}
@@ -83,8 +84,8 @@ work-long c fault b w e =
     ⊎-elim
     (λ (h : 0 < b).
     ⊎-elim
-    (λ l. ap length (of-b-th (look c fault) (lookWork fault c (linesOf c)) w (start (inputsOf c)) b h (omega arith)) ∙ both-length c _ (linesOf c) fault)
-    (λ l. ap length (of-last (look c fault) (lookWork fault c (linesOf c)) w (start (inputsOf c)) b h l) ∙ both-length c _ (linesOf c) fault)
+    (λ l. ap length (of-b-th (look c fault) (lookWork fault c (linesOf c)) w (start (inputsOf c)) b h (omega arith)) ∙ both-length c _ (linesOf c) (stuckAt fault))
+    (λ l. ap length (of-last (look c fault) (lookWork fault c (linesOf c)) w (start (inputsOf c)) b h l) ∙ both-length c _ (linesOf c) (stuckAt fault))
     (either b (length (trail (look c fault) (start (inputsOf c))))))
     (λ h. let z : b ≡ 0 = omega arith in rw z (ap length (work-none c fault w) ∙ e))
     (either 0 b)

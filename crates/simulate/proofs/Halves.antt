@@ -1,4 +1,4 @@
--- The two halves of the work memory: the second gets what the first has, and is lent to get the faulty values.
+-- The two halves of the work memory: the second gets what the first has, and is lent to get what a forcing makes of it.
 -- Assumes nothing.
 use mathlib.Core.Path.{_≡_, refl, sym, ap, _∙_}
 use mathlib.Core.List.{List, _++_, append-nil}
@@ -7,10 +7,9 @@ use native.Mathlib.Numerals.{add-one}
 use native.Mathlib.Omega.{arith}
 use lib.ListN.{length, getD, take, drop, set, length-set, length-take, length-drop, length-append, take-append-drop, drop-of-length-le}
 use lib.Seq.{take-suc, take-suc-set, take-set-le, drop-set-add, getD-take, take-at, drop-at, take-all, length-take-le}
-use Rattle.lists.specs.declared.Fault.{Fault}
-use Rattle.simulate.specs.Work.{goodOf, faultyOf}
-use Rattle.simulate.specs.Owed.{ThreeValued, SimulateFaultDone, FaultyValuesDone}
-use Rattle.simulate.proofs.Keeps.{stuck-keeps}
+use Rattle.simulate.specs.Simulate.{Forcing, valuesTo}
+use Rattle.simulate.specs.Work.{goodOf}
+use Rattle.simulate.specs.Owed.{Keeps, ThreeValued, ForcedDone, ForcedValuesDone}
 
 -- ---- the loop that copies
 
@@ -73,8 +72,9 @@ module _ (n : ℕ) (w w′ u : List ℕ) (two : length w ≡ n + n) (copied : w�
   filled-is =
       rw (drop-of-length-le (drop n w′) {i = length w′ - n} (simp length-drop (omega (arith, copied-long))), append-nil, copied, take-at (take n w) (take n w) n half-long)
 
-  pub adds-faulty : (fault : Fault) (c : List ℕ) → fault .value ≤ 1 → SimulateFaultDone ThreeValued fault c (lentHalf n w′) u → FaultyValuesDone fault c n w (filled n w′ u)
-  adds-faulty fault c bit makes p small good =
+  -- what a forcing makes of the good values
+  pub adds-forced : (f : Forcing) (c : List ℕ) → Keeps 3 f → ForcedDone ThreeValued f c (lentHalf n w′) u → ForcedValuesDone f c n w (filled n w′ u)
+  adds-forced f c keeps makes p small good =
       let long : length (lentHalf n w′) ≡ n = lent-long n w′ copied-long in
-      let u-is : u ≡ faultyOf fault c p n = makes p (record { keeps = stuck-keeps 3 fault (omega arith); pattern = small }) (lent-is ∙ good ∙ ap (goodOf c p) (sym long)) ∙ ap (faultyOf fault c p) long in
+      let u-is : u ≡ valuesTo f c p n = makes p (record { keeps = keeps; pattern = small }) (lent-is ∙ good ∙ ap (goodOf c p) (sym long)) ∙ ap (valuesTo f c p) long in
       filled-is ∙ rw (good, u-is)

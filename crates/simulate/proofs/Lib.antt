@@ -13,3 +13,4 @@ pub mod Fillings
 pub mod Truths
 pub mod Sites
 pub mod Unused
+pub mod Steps

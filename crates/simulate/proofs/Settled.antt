@@ -70,54 +70,59 @@ settled-more {f} {c} {p} {vs} {k} low l s = record {
       ∙ s .inputs j (omega arith) (omega (arith, length-set vs k (lineIn f c vs k))) e;
 }
 
--- what is left alone needs no look at the forcing
-line-left : (f : Forcing) (c vs : List ℕ) (k : ℕ) → ((s v : ℕ) → f k s v ≡ v) → lineIn f c vs k ≡ lineIn unforced c vs k
+-- at a line count alone what is forced there
+pub line-agrees : (f g : Forcing) (c vs : List ℕ) (k : ℕ) → ((s v : ℕ) → f k s v ≡ g k s v) → lineIn f c vs k ≡ lineIn g c vs k
 unfolding lineIn gateValue
-line-left f c vs k left =
-    left 0 _
-    ∙ ap (choose (isInput c k) (getD vs k 0)) (gate-same (kindAt c k) _ _ (λ s l m. left s (getD vs (pinAt c k s) 0)))
+line-agrees f g c vs k same =
+    same 0 _
+    ∙ ap (λ (v : ℕ). g k 0 (choose (isInput c k) (getD vs k 0) v)) (gate-same (kindAt c k) _ _ (λ s l m. same s (getD vs (pinAt c k s) 0)))
+
+-- all lines are settled
+pub settled-all : {f : Forcing} {c p vs : List ℕ} {n : ℕ} → length vs ≡ n → SimulatedTo f c p vs n → vs ≡ valuesTo f c p n
+settled-all {vs = vs} {n = n} long s = sym (take-all n vs (omega arith)) ∙ s .done
 
 -- ---- the loop
 
 -- vs₀ at the start, vs when it comes to line k
-pub record SoFar (scope : Scope) (c vs₀ : List ℕ) (start : ℕ) (vs : List ℕ) (k : ℕ) : Type 0 where
+pub record SoFar (scope : Scope) (c vs₀ : List ℕ) (start end : ℕ) (vs : List ℕ) (k : ℕ) : Type 0 where
   pub above : start ≤ k
-  pub at-most : k ≤ length vs₀
+  pub at-most : k ≤ end
   pub long : length vs ≡ length vs₀
-  pub settled : (f : Forcing) (p : List ℕ) → scope f p → Leaves f start → SimulatedTo f c p vs₀ start → SimulatedTo f c p vs k
+  pub settled : (f : Forcing) (p : List ℕ) → scope f p → Leaves f start end → SimulatedTo f c p vs₀ start → SimulatedTo f c p vs k
 
-pub start : (scope : Scope) (c vs : List ℕ) (k : ℕ) → k ≤ length vs → SoFar scope c vs k vs k
-start scope c vs k h = record { above = omega arith; at-most = h; long = refl; settled = λ f p _ _ s. s }
+pub start : (scope : Scope) (c vs : List ℕ) (k end : ℕ) → k ≤ end → SoFar scope c vs k end vs k
+start scope c vs k end h = record { above = omega arith; at-most = h; long = refl; settled = λ f p _ _ s. s }
 
-module _ {scope : Scope} {c vs₀ vs : List ℕ} {k start : ℕ} (so : SoFar scope c vs₀ start vs k) where
+module _ {scope : Scope} {c vs₀ vs : List ℕ} {k start end : ℕ} (so : SoFar scope c vs₀ start end vs k) where
   -- v is the value of line k under whatever is in scope and leaves the line alone
   pub more : {v : ℕ}
       → Ordered c (length vs₀)
-      → k < length vs₀
+      → end ≤ length vs₀
+      → k < end
       → ((f : Forcing) (p : List ℕ) → scope f p → SimulatedTo f c p vs k → ((s w : ℕ) → f k s w ≡ w) → v ≡ lineIn unforced c vs k)
-      → SoFar scope c vs₀ start (set vs k v) (k + 1)
-  more {v} o l e = record {
+      → SoFar scope c vs₀ start end (set vs k v) (k + 1)
+  more {v} o inside l e = record {
     above = omega (arith, so .above);
     at-most = omega arith;
     long = length-set vs k v ∙ so .long;
-    settled = λ f p inside left s.
-        let below = so .settled f p inside left s in
-        let alone : (t w : ℕ) → f k t w ≡ w = λ t w. left k t w (so .above) in
-        rw (e f p inside below alone ∙ sym (line-left f c vs k alone)) (settled-more (o .lower k l) (omega (arith, so .long)) below);
+    settled = λ f p in-scope left s.
+        let below = so .settled f p in-scope left s in
+        let alone : (t w : ℕ) → f k t w ≡ w = λ t w. left k t w (so .above) l in
+        rw (e f p in-scope below alone ∙ sym (line-agrees f unforced c vs k alone)) (settled-more (o .lower k (omega arith)) (omega (arith, so .long)) below);
   }
 
-  pub finished : length vs₀ ≤ k → SimulateDone scope c vs₀ start vs
-  finished l f p inside left s =
-      let e : k ≡ length vs₀ = omega (arith, so .at-most) in
-      sym (take-all k vs (omega (arith, so .long))) ∙ so .settled f p inside left s .done ∙ ap (valuesTo f c p) e
+  pub finished : end ≤ k → SimulateDone scope c vs₀ start end vs
+  finished l f p in-scope left s =
+      let e : k ≡ end = omega (arith, so .at-most) in
+      rw (← e) (so .settled f p in-scope left s)
 
 -- with the inputs' lines set, all lines simulated have the good values
-pub all-good : {scope : Scope} (c p vs₀ : List ℕ) {vs vs′ : List ℕ}
+pub all-good : {scope : Scope} (c p : List ℕ) {vs vs′ : List ℕ} {n : ℕ}
     → scope unforced p
-    → length vs ≡ length vs₀
+    → length vs′ ≡ n
     → InputsFrom c p vs 0
-    → SimulateDone scope c vs 0 vs′
-    → vs′ ≡ goodOf c p (length vs₀)
+    → SimulateDone scope c vs 0 n vs′
+    → vs′ ≡ goodOf c p n
 unfolding grow
-all-good c p vs₀ inside long inputs simulated =
-    simulated unforced p inside (λ l s v _. refl) (record { done = refl; inputs = inputs }) ∙ ap (goodOf c p) long
+all-good c p inside long inputs simulated =
+    settled-all long (simulated unforced p inside (λ l s v _ _. refl) (record { done = refl; inputs = inputs }))

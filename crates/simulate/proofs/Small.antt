@@ -15,7 +15,7 @@ use Rattle.gates.specs.Gate.{lastKind}
 use Rattle.gates.proofs.Laws.{gate-small}
 use Rattle.circuit.specs.Record.{kindAt, pinAt, isInput, inputsBefore}
 use Rattle.circuit.specs.Formed.{Lower}
-use Rattle.simulate.specs.Simulate.{Forcing, unforced, gateValue, lineValue, valuesTo}
+use Rattle.simulate.specs.Simulate.{Forcing, gateValue, lineValue, valuesTo}
 use Rattle.simulate.specs.Owed.{AllSmall, PinsSmall, SimulatedTo, ThreeValued}
 
 -- ---- lists of such values
@@ -52,10 +52,10 @@ module _ {f : Forcing} {p : List ℕ} (small : ThreeValued f p) (c : List ℕ) w
         sees : (s : ℕ) → 1 ≤ s → s ≤ 3 → f k s (getD vs (pinAt c k s) 0) ≤ 2
         sees s a b = omega (arith, small .keeps k s _ (below (pinAt c k s) (low ne kind s a b)))
 
-    -- where the line is left alone they see the same without the forcing
-    pub left-small : ((s v : ℕ) → f k s v ≡ v) → PinsSmall unforced c vs k
-    left-small left ne kind =
+    -- and under another forcing that shows the same there
+    pub agreed-small : (g : Forcing) → ((s v : ℕ) → f k s v ≡ g k s v) → PinsSmall g c vs k
+    agreed-small g same ne kind =
         let sees = pins-small ne kind in (
-          rw (← left 1 (getD vs (pinAt c k 1) 0)) (sees .0),
-          rw (← left 2 (getD vs (pinAt c k 2) 0)) (sees .1),
+          rw (← same 1 (getD vs (pinAt c k 1) 0)) (sees .0),
+          rw (← same 2 (getD vs (pinAt c k 2) 0)) (sees .1),
         )

@@ -1,4 +1,4 @@
--- The work memory: where the good values stand in it, where the faulty ones, and how long it is.
+-- The work memory: where the good values stand in it, where the others, and how long it is.
 -- Assumes nothing.
 use mathlib.Core.Path.{_≡_, _∙_}
 use mathlib.Core.List.{List, _++_}
@@ -6,9 +6,8 @@ use Prim.Native.Nat.{ℕ, _+_}
 use lib.ListN.{length, take, drop, length-append}
 use lib.Seq.{take-at, drop-at}
 use Rattle.ground.proofs.Grow.{grow-length}
-use Rattle.lists.specs.declared.Fault.{Fault}
-use Rattle.simulate.specs.Simulate.{unforced, stuckAt, lineValue}
-use Rattle.simulate.specs.Work.{goodOf, faultyOf, bothOf}
+use Rattle.simulate.specs.Simulate.{Forcing, unforced, lineValue, valuesTo}
+use Rattle.simulate.specs.Work.{goodOf, bothUnder}
 
 module _ (c p : List ℕ) (n : ℕ) where
   module _ (x : List ℕ) where
@@ -21,5 +20,5 @@ module _ (c p : List ℕ) (n : ℕ) where
     pub behind-good : drop n (goodOf c p n ++ x) ≡ x
     behind-good = drop-at (goodOf c p n) x n (grow-length (lineValue unforced c p) n)
 
-  pub both-length : (fault : Fault) → length (bothOf fault c p n) ≡ n + n
-  both-length fault = good-long (faultyOf fault c p n) ∙ rw (grow-length (lineValue (stuckAt fault) c p) n)
+  pub both-length : (f : Forcing) → length (bothUnder f c p n) ≡ n + n
+  both-length f = good-long (valuesTo f c p n) ∙ rw (grow-length (lineValue f c p) n)

@@ -12,7 +12,7 @@ use Rattle.circuit.specs.Record.{kindAt, pinAt, isInput, inputsBefore}
 use Rattle.circuit.specs.Formed.{Lower}
 use Rattle.lists.specs.declared.Fault.{Fault}
 use Rattle.simulate.specs.Simulate.{Forcing, stuckAt, gateValue, valuesTo}
-use Rattle.simulate.specs.Work.{goodOf, faultyOf, bothOf}
+use Rattle.simulate.specs.Work.{goodOf, bothUnder}
 
 -- so many lines, every gate above its sources; a line whose kind has no rule is X, and its sources are just lines
 pub record Ordered (c : List ℕ) (n : ℕ) : Type 0 where
@@ -63,9 +63,9 @@ pub record SimulatedTo (f : Forcing) (c p vs : List ℕ) (k : ℕ) : Type 0 wher
   pub done : take k vs ≡ valuesTo f c p k
   pub inputs : InputsFrom c p vs k
 
--- a forcing that leaves every line from k on alone
-abbrev pub Leaves : Forcing → ℕ → Type 0
-Leaves f k = (l s v : ℕ) → k ≤ l → f l s v ≡ v
+-- a forcing that leaves every line from start on, and below end, alone
+abbrev pub Leaves : Forcing → ℕ → ℕ → Type 0
+Leaves f start end = (l s v : ℕ) → start ≤ l → l < end → f l s v ≡ v
 
 -- a forcing that makes no value below b one from b on
 abbrev pub Keeps : ℕ → Forcing → Type 0
@@ -82,16 +82,41 @@ pub record ThreeValued (f : Forcing) (p : List ℕ) : Type 0 where
   pub keeps : Keeps 3 f
   pub pattern : AllSmall p
 
--- where the lines below start are settled, under a pattern and a forcing in scope that leaves the others alone, vs′ has the values of all
-abbrev pub SimulateDone : Scope → List ℕ → List ℕ → ℕ → List ℕ → Type 0
-SimulateDone scope c vs start vs′ =
-    (f : Forcing) (p : List ℕ) → scope f p → Leaves f start → SimulatedTo f c p vs start → vs′ ≡ valuesTo f c p (length vs)
+-- where the lines below start are settled, under a pattern and a forcing in scope that leaves those from there to end alone, so are in vs′ all below end
+abbrev pub SimulateDone : Scope → List ℕ → List ℕ → ℕ → ℕ → List ℕ → Type 0
+SimulateDone scope c vs start end vs′ =
+    (f : Forcing) (p : List ℕ) → scope f p → Leaves f start end → SimulatedTo f c p vs start → SimulatedTo f c p vs′ end
 
--- where vs has the good values, under whatever pattern in scope, vs′ has the faulty ones
-abbrev pub SimulateFaultDone : Scope → Fault → List ℕ → List ℕ → List ℕ → Type 0
-SimulateFaultDone scope fault c vs vs′ =
-    (p : List ℕ) → scope (stuckAt fault) p → vs ≡ goodOf c p (length vs) → vs′ ≡ faultyOf fault c p (length vs)
+-- the same from the fault's line on, of a forcing that shows there what the fault shows
+abbrev pub SimulateFaultDone : Scope → Fault → List ℕ → List ℕ → ℕ → List ℕ → Type 0
+SimulateFaultDone scope fault c vs end vs′ =
+    (f : Forcing) (p : List ℕ)
+    → scope f p
+    → ((s v : ℕ) → f (fault .line) s v ≡ stuckAt fault (fault .line) s v)
+    → Leaves f (fault .line + 1) end
+    → SimulatedTo f c p vs (fault .line)
+    → SimulatedTo f c p vs′ end
 
--- where the first half of w has the good values, under whatever pattern of 0, 1 and X, w′ has these and then the faulty ones
-abbrev pub FaultyValuesDone : Fault → List ℕ → ℕ → List ℕ → List ℕ → Type 0
-FaultyValuesDone fault c n w w′ = (p : List ℕ) → AllSmall p → take n w ≡ goodOf c p n → w′ ≡ bothOf fault c p n
+-- where vs has the good values, under whatever pattern in scope, vs′ has those that the forcing f makes
+abbrev pub ForcedDone : Scope → Forcing → List ℕ → List ℕ → List ℕ → Type 0
+ForcedDone scope f c vs vs′ = (p : List ℕ) → scope f p → vs ≡ goodOf c p (length vs) → vs′ ≡ valuesTo f c p (length vs)
+
+-- lines below an end, and the fault's line is one of them
+pub record EndInside (fault : Fault) (lines end : ℕ) : Type 0 where
+  pub at-most : end ≤ lines
+  pub line : fault .line < end
+
+pub record Smaller (a b r : ℕ) : Type 0 where
+  pub at-most : r ≤ b
+  pub first : a ≤ b → r ≡ a
+  pub second : b ≤ a → r ≡ b
+
+-- steps of so many lines; the fault is on a line of the first
+pub record StepsReady (fault : Fault) (step lines : ℕ) : Type 0 where
+  pub line : fault .line < step
+  pub inside : step ≤ lines
+  pub most : lines ≤ 2048
+
+-- where the first half of w has the good values, under whatever pattern of 0, 1 and X, w′ has these and then those that the forcing f makes
+abbrev pub ForcedValuesDone : Forcing → List ℕ → ℕ → List ℕ → List ℕ → Type 0
+ForcedValuesDone f c n w w′ = (p : List ℕ) → AllSmall p → take n w ≡ goodOf c p n → w′ ≡ bothUnder f c p n

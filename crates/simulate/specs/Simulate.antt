@@ -26,6 +26,10 @@ stuckAt fault line site v = choose (isAt fault line site) (fault .value) v
 unfoldable pub inSteps : ℕ → Forcing → Forcing
 inSteps step f line site v = f (line % step) site v
 
+-- a fault in every step
+abbrev pub stuckInSteps : ℕ → Fault → Forcing
+stuckInSteps step fault = inSteps step (stuckAt fault)
+
 -- the value of the gate at line k, where vs has the values of the lines below it
 unfoldable pub gateValue : Forcing → List ℕ → List ℕ → ℕ → ℕ
 gateValue f c vs k = gateOf (kindAt c k) (λ s. f k s (getD vs (pinAt c k s) 0))

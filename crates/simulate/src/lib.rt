@@ -1,6 +1,7 @@
 // Simulation with three values: the values of all lines, of the good circuit and of one with a single stuck-at fault.
-// The loop over the lines knows no fault: the faulty circuit is simulated from the line after the fault's on. All is said of patterns and stuck values
-// that are 0, 1 or X, which every caller has; under others the gates give no value that is promised.
+// The loop over the lines knows no fault: the faulty circuit is simulated from the line after the fault's on, and where the circuit has several steps with
+// the fault in each, from there to the fault's line in the next. All is said of patterns and stuck values that are 0, 1 or X, which every caller has; under
+// others the gates give no value that is promised.
 use circuit::equal;
 use circuit::source;
 use gates::gate;
@@ -10,9 +11,10 @@ ghost use mathlib.Core.List.{_++_};
 ghost use Prim.Native.Nat.{_+_, _<_, _≤_};
 ghost use lib.ListN.{length, take, drop};
 ghost use Rattle.circuit.specs.Record.{kindAt, Inside};
-ghost use Rattle.simulate.specs.Simulate.{unforced, stuckAt};
+ghost use Rattle.simulate.specs.Simulate.{unforced, stuckAt, stuckInSteps};
 ghost use Rattle.simulate.specs.Work.{goodOf};
-ghost use Rattle.simulate.specs.Owed.{Ordered, Shaped, AllSmall, GoodValuesReady, FaultyValuesReady, inputOr, lineIn, PinsSmall, InputsFrom, ThreeValued, SimulateDone, SimulateFaultDone, FaultyValuesDone};
+ghost use Rattle.simulate.specs.Owed.{Ordered, Shaped, AllSmall, GoodValuesReady, FaultyValuesReady, EndInside, Smaller, StepsReady, inputOr, lineIn, PinsSmall, InputsFrom};
+ghost use Rattle.simulate.specs.Owed.{ThreeValued, SimulateDone, SimulateFaultDone, ForcedDone, ForcedValuesDone};
 
 // The value of line k; an input's line has it already.
 fn line_value(circuit: &[u8], values: &[u8], k: usize) -> u8
@@ -29,13 +31,13 @@ fn line_value(circuit: &[u8], values: &[u8], k: usize) -> u8
     gate(kind, values[i], values[j], values[select])
 }
 
-// Gives every line from `start` on its value.
-fn simulate_from(circuit: &[u8], values: &mut [u8], start: usize)
-    requires { ⌜ Ordered (now circuit) (length (now values)) × (start ≤ length (now values)) ⌝ }
-    ensures { λ _. ⌜ SimulateDone ThreeValued (now (circuit .entry)) (now (values .entry)) start (now (values .exit)) ⌝ }
+// Gives every line from `start` on its value, up to the line before `end`.
+fn simulate_lines(circuit: &[u8], values: &mut [u8], start: usize, end: usize)
+    requires { ⌜ Ordered (now circuit) (length (now values)) × (start ≤ end) × (end ≤ length (now values)) ⌝ }
+    ensures { λ _. ⌜ SimulateDone ThreeValued (now (circuit .entry)) (now (values .entry)) start end (now (values .exit)) ⌝ }
 {
     let mut k = start;
-    while k < values.len() {
+    while k < end {
         let v = line_value(circuit, values, k);
         values[k] = v;
         k += 1;
@@ -74,7 +76,7 @@ fn simulate(circuit: &[u8], pattern: &[u8], values: &mut [u8])
     ensures { λ _. ⌜ now (values .exit) ≡ goodOf (now (circuit .entry)) (now (pattern .entry)) (length (now (values .entry))) ⌝ }
 {
     put_inputs(circuit, pattern, values);
-    simulate_from(circuit, values, 0);
+    simulate_lines(circuit, values, 0, values.len());
 }
 
 // The first half of the work memory gets the good values.
@@ -112,15 +114,40 @@ fn stuck_value(circuit: &[u8], fault: Fault, values: &[u8]) -> u8
     seen(fault, 0, gate(kind, a, b, c))
 }
 
-// Turns good values into faulty ones, from the fault's line on.
-fn simulate_fault(circuit: &[u8], fault: Fault, values: &mut [u8])
-    requires { ⌜ Ordered (now circuit) (length (now values)) × (fault .line < length (now values)) ⌝ }
-    ensures { λ _. ⌜ SimulateFaultDone ThreeValued fault (now (circuit .entry)) (now (values .entry)) (now (values .exit)) ⌝ }
+// Gives the fault's line its value, and then the lines after it, up to the line before `end`.
+fn simulate_fault(circuit: &[u8], fault: Fault, values: &mut [u8], end: usize)
+    requires { ⌜ Ordered (now circuit) (length (now values)) × EndInside fault (length (now values)) end ⌝ }
+    ensures { λ _. ⌜ SimulateFaultDone ThreeValued fault (now (circuit .entry)) (now (values .entry)) end (now (values .exit)) ⌝ }
 {
     let line = fault.line;
     let v = stuck_value(circuit, fault, values);
     values[line] = v;
-    simulate_from(circuit, values, line + 1);
+    simulate_lines(circuit, values, line + 1, end);
+}
+
+// The smaller of two numbers.
+fn smaller(a: usize, b: usize) -> usize
+    ensures { λ r. ⌜ Smaller a b r ⌝ }
+{
+    if a < b { a } else { b }
+}
+
+// Turns good values into faulty ones, with the fault in each step of so many lines: from its line in one to its line in the next.
+fn simulate_steps(circuit: &[u8], fault: Fault, step: usize, values: &mut [u8])
+    requires { ⌜ Ordered (now circuit) (length (now values)) × StepsReady fault step (length (now values)) ⌝ }
+    ensures { λ _. ⌜ ForcedDone ThreeValued (stuckInSteps step fault) (now (circuit .entry)) (now (values .entry)) (now (values .exit)) ⌝ }
+{
+    let mut line = fault.line;
+    while line < values.len() {
+        let here = Fault {
+            line,
+            site: fault.site,
+            value: fault.value,
+        };
+        let next = line + step;
+        simulate_fault(circuit, here, values, smaller(next, values.len()));
+        line = next;
+    }
 }
 
 // The second half of the work memory gets what the first has.
@@ -138,8 +165,17 @@ fn copy_half(work: &mut [u8], n: usize)
 // The second half of the work memory gets the faulty values, where the first has the good ones.
 pub fn faulty_values(circuit: &[u8], fault: Fault, work: &mut [u8], n: usize)
     requires { ⌜ FaultyValuesReady (now circuit) fault n (length (now work)) ⌝ }
-    ensures { λ _. ⌜ FaultyValuesDone fault (now (circuit .entry)) n (now (work .entry)) (now (work .exit)) ⌝ }
+    ensures { λ _. ⌜ ForcedValuesDone (stuckAt fault) (now (circuit .entry)) n (now (work .entry)) (now (work .exit)) ⌝ }
 {
     copy_half(work, n);
-    simulate_fault(circuit, fault, &mut work[n..]);
+    simulate_fault(circuit, fault, &mut work[n..], n);
+}
+
+// The same where the fault is in each step of so many lines.
+pub fn faulty_in_steps(circuit: &[u8], fault: Fault, step: usize, work: &mut [u8], n: usize)
+    requires { ⌜ FaultyValuesReady (now circuit) fault n (length (now work)) × StepsReady fault step n ⌝ }
+    ensures { λ _. ⌜ ForcedValuesDone (stuckInSteps step fault) (now (circuit .entry)) n (now (work .entry)) (now (work .exit)) ⌝ }
+{
+    copy_half(work, n);
+    simulate_steps(circuit, fault, step, &mut work[n..]);
 }

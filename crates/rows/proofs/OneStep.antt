@@ -1,0 +1,35 @@
+-- Where all lines make one step, a fault in every step is a stuck site: the table and the work memory are the dictionary's.
+-- Assumes nothing.
+use mathlib.Core.Path.{_≡_, ap, _∙_}
+use mathlib.Core.List.{List, _++_}
+use Prim.Native.Nat.{ℕ}
+use Rattle.ground.proofs.Grow.{grow-same}
+use Rattle.ground.proofs.Gather.{gather-same}
+use Rattle.lists.specs.declared.Fault.{Fault}
+use Rattle.lists.specs.Faults.{faultCount, faultAt}
+use Rattle.lists.specs.Patterns.{patternCount, patternAt}
+use Rattle.simulate.specs.Simulate.{stuckAt, stuckInSteps}
+use Rattle.simulate.specs.Work.{goodOf}
+use Rattle.simulate.proofs.Steps.{one-step}
+use Rattle.entry.specs.Entry.{entryOf, entryUnder}
+use Rattle.rows.specs.Table.{rowUnder, tableUnder, lastFault, lastPattern, workUnder}
+use Rattle.rows.specs.Owed.{TableDone}
+
+same-entry : (fault : Fault) (c p : List ℕ) (n : ℕ) → entryUnder (stuckInSteps n fault) c p n ≡ entryUnder (stuckAt fault) c p n
+unfolding entryUnder
+same-entry fault c p n = ap (λ (vs : List ℕ). entryOf c (goodOf c p n) vs n) (one-step (stuckAt fault) c p n)
+
+module _ (c : List ℕ) (n m : ℕ) (fs ps : List ℕ) where
+  same-row : (p : List ℕ) → rowUnder (stuckInSteps n) c n fs p ≡ rowUnder stuckAt c n fs p
+  same-row p = grow-same _ _ (faultCount fs) (λ k l. same-entry (faultAt fs k) c p n)
+
+  same-table : tableUnder (stuckInSteps n) c n m fs ps ≡ tableUnder stuckAt c n m fs ps
+  unfolding tableUnder
+  same-table = gather-same _ _ (patternCount m ps) (λ i l. same-row (patternAt m ps i))
+
+  same-work : workUnder (stuckInSteps n) c n m fs ps ≡ workUnder stuckAt c n m fs ps
+  unfolding workUnder
+  same-work = ap (λ (vs : List ℕ). goodOf c (lastPattern m ps) n ++ vs) (one-step (stuckAt (lastFault fs)) c (lastPattern m ps) n)
+
+  pub one-step-done : {t w : List ℕ} → TableDone (stuckInSteps n) c n m fs ps t w → TableDone stuckAt c n m fs ps t w
+  one-step-done d = record { table-is = d .table-is ∙ same-table; work-is = d .work-is ∙ same-work }
