@@ -114,6 +114,6 @@ module _ {c : List ℕ} {n m : ℕ} {fs ps t w : List ℕ} {j : ℕ} (so : SoFar
   finished r l =
       let e : j ≡ faultCount fs = omega (arith, so .at-most) in
       record {
-        table-is = one-made c n m fs ps (record { size = so .long; entry = λ i k a b. so .done i k a (omega arith) });
+        table-is = one-made stuckAt c n m fs ps (record { size = so .long; entry = λ i k a b. so .done i k a (omega arith) });
         work-is = so .last (omega (arith, r .faults .some)) ∙ ap (λ (x : ℕ). bothWords (faultAt fs (x - 1)) c m ps n) e;
       }

@@ -14,6 +14,7 @@ use Rattle.ground.proofs.Gather.{gather-same, gather-add}
 use Rattle.lists.specs.Faults.{faultCount}
 use Rattle.lists.specs.Patterns.{patternCount, patternAt}
 use Rattle.lane_lines.specs.Lines.{bothWords}
+use Rattle.simulate.specs.Simulate.{stuckAt}
 use Rattle.rows.specs.Table.{tableUnder, rowOf, tableTo, tableOf, lastFault}
 use Rattle.rows.proofs.Part.{still-ready}
 use Rattle.rows.proofs.Entries.{made}
@@ -30,7 +31,7 @@ module _ {c : List ℕ} {n m : ℕ} {fs ps : List ℕ} {table work from rows : �
   count-is = from-count ps (r .patterns) next (r .some-inputs)
 
   part-long : length (tableOf c n m fs (patternsFrom m ps from rows)) ≡ rows * faultCount fs
-  part-long = made c n m fs (patternsFrom m ps from rows) .size ∙ ap (λ (x : ℕ). faultCount fs * x) count-is ∙ mul-comm (faultCount fs) rows
+  part-long = made stuckAt c n m fs (patternsFrom m ps from rows) .size ∙ ap (λ (x : ℕ). faultCount fs * x) count-is ∙ mul-comm (faultCount fs) rows
 
   -- its rows follow those before it
   rows-follow : tableTo c n m fs ps from ++ tableOf c n m fs (patternsFrom m ps from rows) ≡ tableTo c n m fs ps (from + rows)

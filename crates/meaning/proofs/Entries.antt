@@ -111,7 +111,7 @@ pub dictionary-means : {places : ℕ} {left c fs ps t w t′ w′ : List ℕ}
     → Means (getD t′ (i * faultCount fs + j) 0) c (faultAt fs j) (linesOf c) (patternAt (inputsOf c) ps i)
 dictionary-means {places} {c = c} {fs = fs} {ps = ps} {t = t} {w = w} d i j a b =
     let k = taken places c fs ps (length t) (length w) (sym (d .answer)) in
-    rw (made-so d .0, made c (linesOf c) (inputsOf c) fs ps .entry i j a b) (listed-means c fs ps (k .circuit-fine) (k .lists-fine) i j a b)
+    rw (made-so d .0, made stuckAt c (linesOf c) (inputsOf c) fs ps .entry i j a b) (listed-means c fs ps (k .circuit-fine) (k .lists-fine) i j a b)
 
 -- there is a filling: X may be read as 0
 pub some-filling : (p : List ℕ) → Fills p (λ i. eqb (getD p i 0) 1)
