@@ -1,0 +1,4 @@
+pub mod Steps
+pub mod Lines
+pub mod Sources
+pub mod Fields
