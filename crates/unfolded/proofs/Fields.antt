@@ -1,21 +1,19 @@
 -- The fields of the unfolded circuit's records: kind, output byte and sources of line m of step i are those that the definition gives it.
 -- Assumes nothing.
-use mathlib.Core.Path.{_≡_, refl, ap, _∙_}
+use mathlib.Core.Path.{_≡_, refl, _∙_}
 use mathlib.Core.List.{List}
-use Prim.Native.Nat.{ℕ, zero, suc, _+_, _*_, _-_, _/_, _%_, _≤_, _<_}
-use native.Mathlib.Nat.{add-zero, mul-comm, suc-mul, mul-div-right}
+use Prim.Native.Nat.{ℕ, _+_, _*_, _/_, _%_, _≤_, _<_}
+use native.Mathlib.Nat.{add-zero, mul-comm, mul-div-right}
 use native.Mathlib.Omega.{arith}
 use lib.ListN.{length, getD}
 use Rattle.ground.proofs.Gather.{gather-length, gather-at}
-use Rattle.ground.proofs.Tests.{either}
 use Rattle.little.specs.Little.{le, pairAt}
 use Rattle.little.proofs.Little.{read-back}
-use Rattle.gates.specs.Gate.{pinsOf}
 use Rattle.circuit.specs.Record.{linesOf, kindAt, outAt, pinAt}
 use Rattle.circuit.specs.Formed.{Good}
 use Rattle.circuit.proofs.Lines.{three}
 use Rattle.states.specs.Rules.{linesAfter, GoodSteps}
-use Rattle.unfolded.specs.Unfolded.{holds, stepKind, stepOut, stepPin, stepRecord, unfoldedTo, unfolded}
+use Rattle.unfolded.specs.Unfolded.{stepKind, stepOut, stepPin, stepRecord, unfoldedTo, unfolded}
 use Rattle.unfolded.proofs.Steps.{step-of, place-of, line-inside}
 use Rattle.unfolded.proofs.Sources.{source-most}
 
@@ -26,16 +24,16 @@ unfolding stepRecord le
 record-length c st k i m = refl
 
 module _ (c st : List ℕ) (k : ℕ) where
-  on : ℕ → List ℕ
+  -- the record on line j
+  abbrev on : ℕ → List ℕ
   on j = stepRecord c st k (j / linesOf c) (j % linesOf c)
+
+  on-length : (j : ℕ) → length (on j) ≡ 8
+  on-length j = record-length c st k (j / linesOf c) (j % linesOf c)
 
   pub unfolded-long : length (unfolded c st k) ≡ 8 * linesAfter c k
   unfolding unfoldedTo
-  unfolded-long =
-      omega (
-        arith,
-        gather-length (λ j. stepRecord c st k (j / linesOf c) (j % linesOf c)) 8 (λ j. record-length c st k (j / linesOf c) (j % linesOf c)) (linesAfter c k),
-      )
+  unfolded-long = omega (arith, gather-length on 8 on-length (linesAfter c k))
 
   pub unfolded-lines : linesOf (unfolded c st k) ≡ linesAfter c k
   unfolded-lines = rw unfolded-long (mul-div-right (linesAfter c k) (omega arith))
@@ -47,7 +45,7 @@ module _ (c st : List ℕ) (k : ℕ) where
     byte b g =
         let j = i * linesOf c + m in
         rw (mul-comm 8 j)
-        (gather-at (λ x. stepRecord c st k (x / linesOf c) (x % linesOf c)) 8 (λ x. record-length c st k (x / linesOf c) (x % linesOf c)) 0 (linesAfter c k) j b (line-inside (linesOf c) i m l k h) g
+        (gather-at on 8 on-length 0 (linesAfter c k) j b (line-inside (linesOf c) i m l k h) g
         ∙ rw (step-of (linesOf c) i m l, place-of (linesOf c) i m l))
 
     pub unfolded-kind : kindAt (unfolded c st k) (i * linesOf c + m) ≡ stepKind c st i m

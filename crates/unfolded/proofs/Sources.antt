@@ -13,7 +13,7 @@ use Rattle.circuit.specs.Record.{linesOf, kindAt, pinAt}
 use Rattle.circuit.specs.Formed.{Good}
 use Rattle.states.specs.Rules.{GoodSteps}
 use Rattle.states.proofs.Records.{data-line-inside}
-use Rattle.unfolded.specs.Unfolded.{holds, stepKind, stepPin}
+use Rattle.unfolded.specs.Unfolded.{stepKind, stepPin}
 use Rattle.unfolded.proofs.Lines.{held-later, held-state, held-kind, held-pin, held-lacks, kept-kind, kept-pin, kept-lacks, line-cases}
 
 -- an input has no pin
