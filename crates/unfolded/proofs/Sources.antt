@@ -34,7 +34,7 @@ module _ {c st : List ℕ} {k : ℕ} (good : Good c) (steps : GoodSteps c st k) 
       (λ kept. rw (kept-kind c st i m kept) (good .well .kinds m l))
 
   -- a source of the circuit
-  source-below : (s : ℕ) → 1 ≤ s → s ≤ pinsOf (kindAt c m) → pinAt c m s < m
+  pub source-below : (s : ℕ) → 1 ≤ s → s ≤ pinsOf (kindAt c m) → pinAt c m s < m
   source-below s a b = good .well .lower m l (no-pin (kindAt c m) s a b) s a (omega (arith, few-pins (kindAt c m)))
 
   pub source-lower : (s : ℕ) → 1 ≤ s → s ≤ pinsOf (stepKind c st i m) → stepPin c st i m s < i * linesOf c + m
