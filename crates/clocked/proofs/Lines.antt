@@ -23,21 +23,26 @@ pub record GateRule {A : Type 0} (gate : ℕ → (ℕ → A) → A) (Value : A �
 abbrev pub Forces : Type 0 → Type 0
 Forces A = ℕ → ℕ → A → A
 
+-- nothing is forced at the pins of an input, which it lacks
+abbrev pub LeavesInputs : {A : Type 0} → List ℕ → Forces A → Type 0
+LeavesInputs {A} c f = (m s : ℕ) (v : A) → kindAt c m ≡ 0 → 1 ≤ s → f m s v ≡ v
+
 -- the value of line m, where vs has those of the lines below it, and x m is put on it if it is an input
 abbrev pub lineBy : {A : Type 0} → (ℕ → (ℕ → A) → A) → A → Forces A → List ℕ → (ℕ → A) → List A → ℕ → A
 lineBy gate d f c x vs m = f m 0 (choose (isInput c m) (x m) (gate (kindAt c m) (λ s. f m s (getD vs (pinAt c m s) d))))
 
-module _ {A : Type 0} {gate : ℕ → (ℕ → A) → A} {Value : A → Type 0} (rule : GateRule gate Value) (d : A) (f : Forces A) (c : List ℕ) (x : ℕ → A) (n m : ℕ) (l : m < n) where
+module _ {A : Type 0} (gate : ℕ → (ℕ → A) → A) (d : A) (f : Forces A) (c : List ℕ) (x : ℕ → A) (n m : ℕ) (l : m < n) where
   abbrev all : List A
   all = grow (lineBy gate d f c x) n
 
   pub at-input : isInput c m ≡ true → getD all m d ≡ f m 0 (x m)
   at-input e = grow-at (lineBy gate d f c x) d n m l ∙ rw e
 
-  pub at-gate : isInput c m ≡ false → kindAt c m ≤ lastKind → AtPins (kindAt c m) (λ s. pinAt c m s < m)
+  pub at-gate : {Value : A → Type 0} → GateRule gate Value → isInput c m ≡ false → kindAt c m ≤ lastKind → AtPins (kindAt c m) (λ s. pinAt c m s < m)
       → getD all m d ≡ f m 0 (gate (kindAt c m) (λ s. f m s (getD all (pinAt c m s) d)))
-  at-gate e small lower =
-      let some : 1 ≤ kindAt c m = omega (arith, eqb-false (kindAt c m) 0 e) in
-      let same = rule .own (kindAt c m) (λ s. f m s (getD (grow (lineBy gate d f c x) m) (pinAt c m s) d)) (λ s. f m s (getD all (pinAt c m s) d)) some small
+  at-gate rule e small lower =
+      let same = rule .own (kindAt c m)
+      (λ s. f m s (getD (grow (lineBy gate d f c x) m) (pinAt c m s) d)) (λ s. f m s (getD all (pinAt c m s) d))
+      (omega (arith, eqb-false (kindAt c m) 0 e)) small
       (λ s a b. rw (grow-meet (lineBy gate d f c x) d m n (pinAt c m s) (lower s a b) (omega (arith, lower s a b)))) in
       grow-at (lineBy gate d f c x) d n m l ∙ rw (e, same)
