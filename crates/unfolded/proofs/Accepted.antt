@@ -27,14 +27,14 @@ use Rattle.unfolded.proofs.Fields.{unfolded-long, unfolded-lines, unfol
 use Rattle.unfolded.proofs.Inputs.{unfolded-inputs}
 
 -- each line of an accepted circuit keeps its layout
-layouts : (c : List ℕ) → refusal (circuitRules c) ≡ Fine → (m : ℕ) → m < linesOf c → Layout c m
+pub layouts : (c : List ℕ) → refusal (circuitRules c) ≡ Fine → (m : ℕ) → m < linesOf c → Layout c m
 unfolding layoutRules AllHold
 layouts c fine = all-hold (circuitRules c) (circuit-says c) fine .1 .0
 
 module _ {c st : List ℕ} {k : ℕ} (fine : refusal (circuitRules c) ≡ Fine) (steps : GoodSteps c st k) where
   -- ---- the layout
 
-  out-bit : (i m : ℕ) → m < linesOf c → stepOut c st k i m ≤ 1
+  pub out-bit : (i m : ℕ) → m < linesOf c → stepOut c st k i m ≤ 1
   unfolding stepOut
   out-bit i m l = go (eqb (suc i) k && isData st m)
     where

@@ -21,8 +21,8 @@ use Rattle.unfolded.proofs.Fields.{unfolded-lines, unfolded-kind}
 -- the places below n, and m further ones
 count-add : (n m : ℕ) (t : ℕ → Bool) → countBelow (n + m) t ≡ countBelow n t + countBelow m (λ j. t (n + j))
 unfolding countBelow
-count-add n zero t = rw add-zero (omega arith)
-count-add n (suc m) t = rw (add-suc, count-suc, count-add n m t) (omega arith)
+count-add n zero t = rw (add-zero n) (omega arith)
+count-add n (suc m) t = rw (add-suc n m, count-suc (n + m) t, count-add n m t) (omega arith)
 
 module _ (c st : List ℕ) where
   -- ---- which lines are inputs

@@ -4,3 +4,7 @@ pub mod Sources
 pub mod Fields
 pub mod Inputs
 pub mod Accepted
+pub mod Bytes
+pub mod Unique
+pub mod Words
+pub mod Single
