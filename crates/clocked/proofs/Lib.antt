@@ -5,3 +5,4 @@ pub mod Values
 pub mod Truths
 pub mod Faults
 pub mod Fillings
+pub mod EveryStep

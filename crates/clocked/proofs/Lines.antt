@@ -20,18 +20,18 @@ pub record GateRule {A : Type 0} (gate : ℕ → (ℕ → A) → A) (Value : A �
   pub buffers : (v : ℕ → A) → Value (v 1) → gate 1 v ≡ v 1
 
 -- line, site and the value there, to the value that is seen there
-abbrev pub Forces : Type 0 → Type 0
-Forces A = ℕ → ℕ → A → A
+abbrev pub ForcingOf : Type 0 → Type 0
+ForcingOf A = ℕ → ℕ → A → A
 
 -- nothing is forced at the pins of an input, which it lacks
-abbrev pub LeavesInputs : {A : Type 0} → List ℕ → Forces A → Type 0
+abbrev pub LeavesInputs : {A : Type 0} → List ℕ → ForcingOf A → Type 0
 LeavesInputs {A} c f = (m s : ℕ) (v : A) → kindAt c m ≡ 0 → 1 ≤ s → f m s v ≡ v
 
 -- the value of line m, where vs has those of the lines below it, and x m is put on it if it is an input
-abbrev pub lineBy : {A : Type 0} → (ℕ → (ℕ → A) → A) → A → Forces A → List ℕ → (ℕ → A) → List A → ℕ → A
+abbrev pub lineBy : {A : Type 0} → (ℕ → (ℕ → A) → A) → A → ForcingOf A → List ℕ → (ℕ → A) → List A → ℕ → A
 lineBy gate d f c x vs m = f m 0 (choose (isInput c m) (x m) (gate (kindAt c m) (λ s. f m s (getD vs (pinAt c m s) d))))
 
-module _ {A : Type 0} (gate : ℕ → (ℕ → A) → A) (d : A) (f : Forces A) (c : List ℕ) (x : ℕ → A) (n m : ℕ) (l : m < n) where
+module _ {A : Type 0} (gate : ℕ → (ℕ → A) → A) (d : A) (f : ForcingOf A) (c : List ℕ) (x : ℕ → A) (n m : ℕ) (l : m < n) where
   abbrev all : List A
   all = grow (lineBy gate d f c x) n
 

@@ -19,18 +19,18 @@ use Rattle.states.specs.States.{stateCount, dataLine, stateLine, isState, dataO
 use Rattle.states.specs.Rules.{GoodSteps}
 use Rattle.states.proofs.Records.{is-state, data-of}
 use Rattle.unfolded.specs.Unfolded.{holds}
-use Rattle.clocked.proofs.Lines.{GateRule, Forces, lineBy, at-input, at-gate}
+use Rattle.clocked.proofs.Lines.{GateRule, ForcingOf, lineBy, at-input, at-gate}
 
 -- what is put on the inputs of a step after one with the values vs
 abbrev pub nextBy : {A : Type 0} → A → List ℕ → List A → (ℕ → A) → ℕ → A
 nextBy d st vs x m = choose (isState st m) (getD vs (dataOf st m) d) (x m)
 
 -- in step i, x i m is put on the input at line m
-pub record Clocks {A : Type 0} (gate : ℕ → (ℕ → A) → A) (d : A) (f : Forces A) (c st : List ℕ) (x : ℕ → ℕ → A) (values : ℕ → List A) : Type 0 where
+pub record Clocks {A : Type 0} (gate : ℕ → (ℕ → A) → A) (d : A) (f : ForcingOf A) (c st : List ℕ) (x : ℕ → ℕ → A) (values : ℕ → List A) : Type 0 where
   pub first : values 0 ≡ grow (lineBy gate d f c (x 0)) (linesOf c)
   pub next : (i : ℕ) → values (suc i) ≡ grow (lineBy gate d f c (nextBy d st (values i) (x (suc i)))) (linesOf c)
 
-module _ {A : Type 0} {gate : ℕ → (ℕ → A) → A} {d : A} {f : Forces A} {c st : List ℕ} {x : ℕ → ℕ → A} {values : ℕ → List A} (clocks : Clocks gate d f c st x values) where
+module _ {A : Type 0} {gate : ℕ → (ℕ → A) → A} {d : A} {f : ForcingOf A} {c st : List ℕ} {x : ℕ → ℕ → A} {values : ℕ → List A} (clocks : Clocks gate d f c st x values) where
   -- what is put on the inputs of step i, the state among them
   abbrev putIn : ℕ → ℕ → A
   putIn zero = x 0
@@ -47,17 +47,14 @@ module _ {A : Type 0} {gate : ℕ → (ℕ → A) → A} {d : A} {f : Forces A} 
     on-input : (i : ℕ) → isInput c m ≡ true → getD (values i) m d ≡ f m 0 (putIn i m)
     on-input i e = ap (λ (vs : List A). getD vs m d) (comes i) ∙ at-input gate d f c (putIn i) (linesOf c) m l e
 
-    -- in the first step every input has what is put on it
-    pub first-given : isInput c m ≡ true → getD (values 0) m d ≡ f m 0 (x 0 m)
-    first-given = on-input 0
-
-    -- in every step one that is no state line there, as a free one
+    -- an input that is no state line, as each is in the first step, has what is put on it
     pub given-there : (i : ℕ) → holds st i m ≡ false → isInput c m ≡ true → getD (values i) m d ≡ f m 0 (x i m)
     given-there zero kept e = on-input 0 e
     given-there (suc i) kept e =
         let no : isState st m ≡ false = rw (le-leb 1 (suc i) (omega arith)) at kept in
         on-input (suc i) e ∙ rw no
 
+    -- so a free one in every step
     pub free-there : (i : ℕ) → isFree c st m ≡ true → getD (values i) m d ≡ f m 0 (x i m)
     unfolding isFree
     free-there i e =

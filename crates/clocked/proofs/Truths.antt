@@ -54,6 +54,6 @@ module _ {c st : List ℕ} {k : ℕ} (good : Good c) (steps : GoodSteps c st k) 
   unfolding lineTruth gateTruth truthsInSteps
   unfolded-truths = unfolds gate-rule false good steps t leaves x (clocks t c st (truthsBy c st x)) (λ _. tt)
 
-  pub unfolded-all : truthsTo (truthsInSteps (linesOf c) t) (unfolded c st k) x (linesAfter c k) ≡ gather (clockedTruths t c st (linesOf c) (truthsBy c st x)) k
+  pub truths-in-steps : truthsTo (truthsInSteps (linesOf c) t) (unfolded c st k) x (linesAfter c k) ≡ gather (clockedTruths t c st (linesOf c) (truthsBy c st x)) k
   unfolding lineTruth gateTruth truthsInSteps
-  unfolded-all = unfolds-whole gate-rule false good steps t leaves x (clocks t c st (truthsBy c st x)) (λ _. tt)
+  truths-in-steps = unfolds-whole gate-rule false good steps t leaves x (clocks t c st (truthsBy c st x)) (λ _. tt)

@@ -27,16 +27,16 @@ use Rattle.unfolded.proofs.Lines.{held-later, held-state, held-kind, held-pin, 
 use Rattle.unfolded.proofs.Sources.{kind-small, source-below, source-lower}
 use Rattle.unfolded.proofs.Fields.{unfolded-kind, unfolded-pin}
 use Rattle.unfolded.proofs.Inputs.{inputs-before}
-use Rattle.clocked.proofs.Lines.{GateRule, Forces, LeavesInputs, lineBy, at-input, at-gate}
+use Rattle.clocked.proofs.Lines.{GateRule, ForcingOf, LeavesInputs, lineBy, at-input, at-gate}
 use Rattle.clocked.proofs.Steps.{Clocks, step-long, given-there, next-state, on-gate}
 
 -- what is forced in every step
-abbrev inEach : {A : Type 0} → ℕ → Forces A → Forces A
+abbrev inEach : {A : Type 0} → ℕ → ForcingOf A → ForcingOf A
 inEach n f l s v = f (l % n) s v
 
 module _ {A : Type 0} {gate : ℕ → (ℕ → A) → A} {Value : A → Type 0} (rule : GateRule gate Value) (d : A)
     {c st : List ℕ} {k : ℕ} (good : Good c) (steps : GoodSteps c st k)
-    (f : Forces A) (leaves : LeavesInputs c f)
+    (f : ForcingOf A) (leaves : LeavesInputs c f)
     (given : ℕ → A) {values : ℕ → List A} (clocks : Clocks gate d f c st (λ i m. given (inputNumber c st i m)) values) where
   abbrev u : List ℕ
   u = unfolded c st k
@@ -86,7 +86,8 @@ module _ {A : Type 0} {gate : ℕ → (ℕ → A) → A} {Value : A → Type 0} 
             where
               pin : AtPins (kindAt c m) (λ s. f m s (getD unfoldedBy (pinAt u j s) d) ≡ f m s (getD (values i) (pinAt c m s) d))
               pin s a b =
-                  rw (unfolded-pin c st k i m h l good steps s a (omega (arith, few-pins (kindAt c m))), kept-pin c st i m kept s b, below (pinAt c m s) (source-below good steps i m l s a b))
+                  let source = unfolded-pin c st k i m h l good steps s a (omega (arith, few-pins (kindAt c m))) ∙ kept-pin c st i m kept s b in
+                  rw (source, below (pinAt c m s) (source-below good steps i m l s a b))
 
     -- a state line of a later step: the buffer reads what the data line had a step earlier
     held-there : (i m : ℕ) → suc i < k → m < linesOf c → holds st (suc i) m ≡ true → ((b : ℕ) → b < linesOf c → Agree i b) → Agree (suc i) m

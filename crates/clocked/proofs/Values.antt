@@ -72,6 +72,6 @@ module _ {c st : List ℕ} {k : ℕ} (good : Good c) (steps : GoodSteps c st k) 
   unfolded-values = unfolds gate-rule 0 good steps f leaves (λ j. getD p j 0) (clocks f c st (givenBy c st p)) small
 
   -- all lines of all steps
-  pub unfolded-all : valuesTo (inSteps (linesOf c) f) (unfolded c st k) p (linesAfter c k) ≡ gather (clockedValues f c st (linesOf c) (givenBy c st p)) k
+  pub values-in-steps : valuesTo (inSteps (linesOf c) f) (unfolded c st k) p (linesAfter c k) ≡ gather (clockedValues f c st (linesOf c) (givenBy c st p)) k
   unfolding lineValue gateValue inSteps
-  unfolded-all = unfolds-whole gate-rule 0 good steps f leaves (λ j. getD p j 0) (clocks f c st (givenBy c st p)) small
+  values-in-steps = unfolds-whole gate-rule 0 good steps f leaves (λ j. getD p j 0) (clocks f c st (givenBy c st p)) small
