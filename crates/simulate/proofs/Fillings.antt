@@ -51,7 +51,7 @@ module _ (c p : List ℕ) (n : ℕ) (inputs : inputsBefore c n ≡ length p) (x 
         go true e = fills (inputsBefore c k) (omega (arith, count-below (isInput c) k n l e))
         go false e = gate-so vs ts so k (eqb-false (kindAt c k) 0 e)
 
-    truth : (k : ℕ) → Refines (getD (valuesTo f c p n) k 0) (one (truthAt t c x n k))
+    pub truth : (k : ℕ) → Refines (getD (valuesTo f c p n) k 0) (one (truthAt t c x n k))
     truth =
         grow-related (λ v b. Refines v (one b)) 0 false (λ _. refl) (lineValue f c p) (lineTruth t c x) n
         (λ k l so. line-so (valuesTo f c p k) (truthsTo t c x k) so k l)

@@ -38,7 +38,7 @@ module _ {f : Forcing} {p : List ℕ} (small : ThreeValued f p) (c : List ℕ) w
       go true = omega (arith, small .pattern (inputsBefore c k))
       go false = omega (arith, gate-small (kindAt c k) (λ s. f k s (getD vs (pinAt c k s) 0)))
 
-  values-small : (n k : ℕ) → getD (valuesTo f c p n) k 0 < 3
+  pub values-small : (n k : ℕ) → getD (valuesTo f c p n) k 0 < 3
   values-small n = grow-each (λ v. v < 3) 0 (omega arith) (lineValue f c p) n (λ k _ _. line-small (valuesTo f c p k) k)
 
   -- so what the pins of a line see, once the lines below it are settled

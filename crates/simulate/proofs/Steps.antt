@@ -12,8 +12,11 @@ use Rattle.ground.proofs.Tests.{either}
 use Rattle.ground.proofs.Grow.{grow-same}
 use Rattle.lists.specs.declared.Fault.{Fault}
 use Rattle.simulate.specs.Simulate.{Forcing, stuckAt, inSteps, stuckInSteps, lineValue, gateValue, valuesTo}
+use Rattle.simulate.specs.Boolean.{Truths, truthsInSteps}
 use Rattle.simulate.specs.Work.{goodOf}
 use Rattle.simulate.specs.Owed.{SimulatedTo, Leaves, Keeps, ThreeValued, EndInside, Smaller, StepsReady, SimulateFaultDone, ForcedDone}
+use Rattle.simulate.proofs.Mono.{Monotone}
+use Rattle.simulate.proofs.Alike.{Alike}
 use Rattle.simulate.proofs.Settled.{settled-all}
 use Rattle.simulate.proofs.Below.{stuck-off, good-settled}
 
@@ -21,6 +24,18 @@ use Rattle.simulate.proofs.Below.{stuck-off, good-settled}
 pub steps-keep : (b step : ℕ) (f : Forcing) → Keeps b f → Keeps b (inSteps step f)
 unfolding inSteps
 steps-keep b step f keeps k s x h = keeps (k % step) s x h
+
+pub steps-three : (step : ℕ) (f : Forcing) {p : List ℕ} → ThreeValued f p → ThreeValued (inSteps step f) p
+steps-three step f three = record { keeps = steps-keep 3 step f (three .keeps); pattern = three .pattern }
+
+pub steps-mono : (step : ℕ) (f : Forcing) → Monotone f → Monotone (inSteps step f)
+unfolding inSteps
+steps-mono step f mono k s x y h = mono (k % step) s x y h
+
+-- and truths that do the same do so in steps
+pub steps-alike : (step : ℕ) (f : Forcing) (t : Truths) → Alike f t → Alike (inSteps step f) (truthsInSteps step t)
+unfolding inSteps truthsInSteps
+steps-alike step f t alike k s b = alike (k % step) s b
 
 -- where all lines make one step, it is forced as it was
 pub one-step : (f : Forcing) (c p : List ℕ) (n : ℕ) → valuesTo (inSteps n f) c p n ≡ valuesTo f c p n

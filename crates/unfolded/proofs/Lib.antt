@@ -1,0 +1,10 @@
+pub mod Steps
+pub mod Lines
+pub mod Sources
+pub mod Fields
+pub mod Inputs
+pub mod Accepted
+pub mod Bytes
+pub mod Unique
+pub mod Words
+pub mod Single
