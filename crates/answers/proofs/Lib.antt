@@ -6,3 +6,4 @@ pub mod Answer
 pub mod Places
 pub mod Numbers
 pub mod Lent
+pub mod Words

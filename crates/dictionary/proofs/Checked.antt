@@ -33,28 +33,42 @@ pub record Taken (places : ℕ) (c fs ps : List ℕ) (table work : ℕ) : Type 0
   pub table-is : table ≡ faultCount fs * patternCount (inputsOf c) ps
   pub work-is : work ≡ places * linesOf c
 
+-- what is checked after the circuit: m inputs, and work memory of this size
+pub record RestTaken (size : ℕ) (c : List ℕ) (m : ℕ) (fs ps : List ℕ) (table work : ℕ) : Type 0 where
+  pub lists-fine : refusal (listRules c m fs ps) ≡ Ruling.Fine
+  pub faults : GoodFaults 256 c fs
+  pub patterns : GoodPatterns m ps
+  pub table-is : table ≡ faultCount fs * patternCount m ps
+  pub work-is : work ≡ size
+
+module _ (size : ℕ) (c : List ℕ) (m : ℕ) (fs ps : List ℕ) (table work : ℕ) where
+  pub rest-says : AllSay (dictionaryRestRules size c m fs ps table work)
+  rest-says = both-say (listRules c m fs ps) _ (lists-say c m fs ps) (lent-says (faultCount fs * patternCount m ps) table size work)
+
+  pub rest-taken : refusal (dictionaryRestRules size c m fs ps table work) ≡ Ruling.Fine → RestTaken size c m fs ps table work
+  rest-taken e =
+      let b = both-fine (listRules c m fs ps) _ e in
+      let lists = good-lists c m fs ps (b .0) in
+      let sizes = lent-sizes (faultCount fs * patternCount m ps) table size work (b .1) in
+      record { lists-fine = b .0; faults = lists .0; patterns = lists .1; table-is = sizes .0; work-is = sizes .1 }
+
 module _ (places : ℕ) (c fs ps : List ℕ) (table work : ℕ) where
   pub dictionary-says : AllSay (dictionaryRules places c fs ps table work)
-  dictionary-says =
-      both-say (circuitRules c) _ (circuit-says c)
-      (both-say (listRules c (inputsOf c) fs ps) _ (lists-say c (inputsOf c) fs ps)
-      (lent-says (faultCount fs * patternCount (inputsOf c) ps) table (places * linesOf c) work))
+  dictionary-says = both-say (circuitRules c) _ (circuit-says c) (rest-says (places * linesOf c) c (inputsOf c) fs ps table work)
 
   pub taken : refusal (dictionaryRules places c fs ps table work) ≡ Ruling.Fine → Taken places c fs ps table work
   taken e =
       let a = both-fine (circuitRules c) _ e in
-      let b = both-fine (listRules c (inputsOf c) fs ps) _ (a .1) in
-      let lists = good-lists c (inputsOf c) fs ps (b .0) in
-      let sizes = lent-sizes (faultCount fs * patternCount (inputsOf c) ps) table (places * linesOf c) work (b .1) in
+      let rest = rest-taken (places * linesOf c) c (inputsOf c) fs ps table work (a .1) in
       record {
         fine = e;
         circuit-fine = a .0;
-        lists-fine = b .0;
+        lists-fine = rest .lists-fine;
         good = good c (a .0);
-        faults = lists .0;
-        patterns = lists .1;
-        table-is = sizes .0;
-        work-is = sizes .1;
+        faults = rest .faults;
+        patterns = rest .patterns;
+        table-is = rest .table-is;
+        work-is = rest .work-is;
       }
 
   -- of an accepted circuit

@@ -6,10 +6,11 @@ use Prim.Native.Nat.{ℕ}
 use lib.ListN.{length}
 use Rattle.answers.specs.declared.Ruling.{Ruling}
 use Rattle.answers.specs.declared.Ruling.the-variants.{Fine, Refused}
-use Rattle.answers.specs.Rules.{Rule, refusal, Applies, AllSay, unless}
+use Rattle.answers.specs.Rules.{Applies}
 use Rattle.answers.specs.Area.{told, done}
 use Rattle.answers.proofs.Rules as rules
-use Rattle.answers.proofs.Rules.{applies, refused, not-fine}
+use Rattle.answers.proofs.Words as words
+use Rattle.answers.proofs.Words.{lent-by-words}
 use Rattle.circuit.specs.Record.{linesOf, inputsOf}
 use Rattle.simulate.specs.Simulate.{stuckAt}
 use Rattle.rows.specs.Table.{workUnder, tableOf, tableWork}
@@ -45,37 +46,16 @@ module _ {places : ℕ} {left c fs ps t w : List ℕ} {r : Ruling} {t′ w′ : 
 
     -- and what meets the words keeps the promise
     pub engine-by-words : (Taken places c fs ps (length t) (length w) → Left w′ → w′ ≡ left) → EngineWords places Left c fs ps t w r t′ w′ → Answered places left c fs ps t w r t′ w′
-    engine-by-words only i = record {
-      answer = answer;
-      numbers = ap (λ (v : Ruling). told v done) answer;
-      table = table (refusal all) answer;
-      work = work (refusal all) refl answer;
-    }
-      where
-        all : List Rule
-        all = dictionaryRules places c fs ps (length t) (length w)
-
-        says : AllSay all
-        says = dictionary-says places c fs ps (length t) (length w)
-
-        fine : (v : Ruling) → r ≡ v → refusal all ≡ Fine → r ≡ Fine
-        fine Fine e q = e
-        fine (Refused m k) e q = absurd (not-fine (sym q ∙ refused all says m k (i .refused m k e)))
-
-        ruled : (v : Ruling) → refusal all ≡ v → r ≡ v
-        ruled Fine q = fine r refl q
-        ruled (Refused m k) q = i .refuses m k (applies all says m k q)
-
-        answer : r ≡ refusal all
-        answer = ruled (refusal all) refl
-
-        table : (v : Ruling) → r ≡ v → t′ ≡ unless v t (tableOf c (linesOf c) (inputsOf c) fs ps)
-        table Fine e = one-made stuckAt c (linesOf c) (inputsOf c) fs ps (i .made e .0)
-        table (Refused m k) e = i .nothing m k e .0
-
-        work : (v : Ruling) → refusal all ≡ v → r ≡ v → w′ ≡ unless v w left
-        work Fine q e = only (taken places c fs ps (length t) (length w) q) (i .made e .1)
-        work (Refused m k) q e = i .nothing m k e .1
+    engine-by-words only i =
+        let all = dictionaryRules places c fs ps (length t) (length w) in
+        let says = dictionary-says places c fs ps (length t) (length w) in
+        let answer = words.by-words all says (i .refused) (i .refuses) in
+        record {
+          answer = answer;
+          numbers = ap (λ (v : Ruling). told v done) answer;
+          table = lent-by-words all says (i .refused) (i .refuses) (λ m k e. i .nothing m k e .0) (λ _ e. one-made stuckAt c (linesOf c) (inputsOf c) fs ps (i .made e .0));
+          work = lent-by-words all says (i .refused) (i .refuses) (λ m k e. i .nothing m k e .1) (λ q e. only (taken places c fs ps (length t) (length w) q) (i .made e .1));
+        }
 
 -- ---- a byte for each value
 

@@ -12,7 +12,7 @@ ghost use Rattle.dictionary.specs.Promise.{dictionaryRestRules, Dictiona
 ghost use Rattle.dictionary.specs.Owed.{AllChecked};
 
 // Refusals 6 to 10, where the work memory is to have this size.
-fn check_rest(
+pub fn check_rest(
     circuit: &[u8],
     inputs: usize,
     faults: &[u8],

@@ -1,0 +1,1 @@
+// What the entries of a clocked circuit mean over Booleans.

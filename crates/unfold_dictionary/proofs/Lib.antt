@@ -1,0 +1,4 @@
+pub mod Checked
+pub mod Looked
+pub mod Entries
+pub mod Says

@@ -1,0 +1,1 @@
+// The dictionary of a clocked circuit.
