@@ -36,7 +36,10 @@ fn the_table_of_refusals() {
     let rows = read("include/ullimaqsu.h").lines().filter(|line| line.trim_start().starts_with("each(ULLIMAQSU_")).count();
     let all: Vec<Meaning> = refusals().collect();
     assert_eq!(all.len(), rows);
-    assert_eq!(all.iter().map(|meaning| meaning.number).collect::<Vec<_>>(), [1, 2, 4, 5, 6, 7, 8, 9, 10, 11, 12, 13, 14, 15, 16, 17, 18, 19, 21, 22]);
+    assert_eq!(
+        all.iter().map(|meaning| meaning.number).collect::<Vec<_>>(),
+        [1, 2, 4, 5, 6, 7, 8, 9, 10, 11, 12, 13, 14, 15, 16, 17, 18, 19, 21, 22]
+    );
     for Meaning { name, says, counts, .. } in &all {
         assert!(name.starts_with("ULLIMAQSU_") && !name.contains(' ') && says.contains(' ') && !says.contains('"'), "{name}: {says}");
         assert!(counts.is_none_or(|counts| !counts.contains('"') && counts.trim() == counts), "{name}: {counts:?}");
