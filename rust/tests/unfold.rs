@@ -18,17 +18,16 @@ mod stepped;
 #[path = "wrong/unfold.rs"]
 mod wrong;
 
-use cases::circuits::{record, selecting, BUFFER, INPUT};
+use cases::circuits::{record, BUFFER, INPUT};
 use cases::clocked::{self, counter, input_bounds, line_bounds, named, small, state, wired, Clocked, WIRED};
 use cases::{damage, drawn, selects, Random, Sort};
-use defects::defects;
 use harness::{compare, first_defect_is_told, library, wrong_programs_are_seen, Case, Defect, Unfold};
 use second::entries::{self, Seen};
 use second::pattern::read_all;
 use second::values::byte;
 use second::{check, Slice};
 use simulated::simulated;
-use stepped::{stepped, Stepped};
+use stepped::{selecting_twice, stepped, stepped_defects, Stepped};
 
 stepped!(Unfold);
 
@@ -183,29 +182,12 @@ fn sizes_of_lent_memory() {
     assert_eq!(compare("unfold, every size", cases).seen(), [0, 10]);
 }
 
-/// The selector and its two inputs, of which line 1 is a state line that the selector feeds, for two steps.
-fn selecting_twice(random: &mut Random) -> Unfold {
-    lend(random, Clocked { circuit: selecting(), states: state(2, 1).to_vec(), steps: 2 })
-}
-
 /// What can be wrong, in the order in which it is looked for.
-const DEFECTS: [Defect<Unfold>; 21] = defects![
-    (21, |case| case.steps = 9),
-    (21, |case| case.steps = 0),
-    (18, |case| case.states.push(0)),
-    (18, |case| case.states[1] = 255),
-    (18, |case| case.states[3] = 255),
-    (18, |case| case.states[..4].copy_from_slice(&state(1, 2))),
-    (18, |case| case.states.extend(state(0, 1))),
-    (19, |case| case.circuit.extend(record(BUFFER, false, 0, 0).repeat(1022))),
-    (19, |case| case.circuit.extend(record(INPUT, false, 0, 0).repeat(40))),
-    (10, |case| case.unfolded.push(0)),
-    (10, |case| case.unfolded.truncate(24)),
-];
+const DEFECTS: [Defect<Unfold>; 21] = stepped_defects![(10, |case| case.unfolded.push(0)), (10, |case| case.unfolded.truncate(24))];
 
 #[test]
 fn two_defects_at_once() {
-    first_defect_is_told(&selecting_twice(&mut Random::new(9)), &DEFECTS);
+    first_defect_is_told(&lend(&mut Random::new(9), selecting_twice()), &DEFECTS);
 }
 
 /// Nine steps with room for them, and everything else right.

@@ -18,19 +18,15 @@ mod stepped;
 #[path = "wrong/unfold_dictionary.rs"]
 mod wrong;
 
-use cases::circuits::{record, selecting, BUFFER, INPUT};
-use cases::clocked::{
-    self, counter, input_bounds, line_bounds, named, small, small_given, state, stuck, wired, Clocked, Given, STUCK, WIRED,
-};
+use cases::clocked::{self, counter, input_bounds, line_bounds, named, small, small_given, stuck, wired, Clocked, Given, STUCK, WIRED};
 use cases::faults::{self, inputs};
 use cases::selects::{self, EVERY};
 use cases::{damage, drawn, Random, Sort};
-use defects::defects;
 use harness::{compare, first_defect_is_told, wrong_programs_are_seen, Case, Defect, UnfoldDictionary};
 use rules::RULES;
 use second::entries::{self, Seen};
 use second::{Entry, Slice};
-use stepped::{stepped, Stepped};
+use stepped::{selecting_twice, stepped, stepped_defects, Stepped};
 
 stepped!(UnfoldDictionary);
 
@@ -252,16 +248,7 @@ fn sizes_of_lent_memory() {
 }
 
 /// What can be wrong, in the order in which it is looked for.
-const DEFECTS: [Defect<UnfoldDictionary>; 26] = defects![
-    (21, |case| case.steps = 9),
-    (21, |case| case.steps = 0),
-    (18, |case| case.states.push(0)),
-    (18, |case| case.states[1] = 255),
-    (18, |case| case.states[3] = 255),
-    (18, |case| case.states[..4].copy_from_slice(&state(1, 2))),
-    (18, |case| case.states.extend(state(0, 1))),
-    (19, |case| case.circuit.extend(record(BUFFER, false, 0, 0).repeat(1022))),
-    (19, |case| case.circuit.extend(record(INPUT, false, 0, 0).repeat(40))),
+const DEFECTS: [Defect<UnfoldDictionary>; 26] = stepped_defects![
     (6, |case| case.faults.push(0)),
     (7, |case| case.faults[8..10].copy_from_slice(&[3, 0])),
     (7, |case| case.faults[8..11].copy_from_slice(&[1, 0, 1])),
@@ -271,12 +258,10 @@ const DEFECTS: [Defect<UnfoldDictionary>; 26] = defects![
     (10, |case| case.work.truncate(6)),
 ];
 
-/// The selector and its two inputs, of which line 1 is a state line that the selector feeds, for two steps.
 #[test]
 fn two_defects_at_once() {
     let mut random = Random::new(11);
-    let clocked = Clocked { circuit: selecting(), states: state(2, 1).to_vec(), steps: 2 };
-    let given = Given::some(&mut random, clocked, 2, 3);
+    let given = Given::some(&mut random, selecting_twice(), 2, 3);
     first_defect_is_told(&lend(&mut random, given), &DEFECTS);
 }
 

@@ -126,10 +126,13 @@ fn outputs_and(circuit: &Clocked, run: &Run, more: Vec<Value>) -> Vec<Value> {
     [run.iter().flat_map(|values| at(values, circuit.circuit.outputs())).collect(), more].concat()
 }
 
-/// The work memory, where it is accepted, cut into the values of each step, good and faulty, and put together in another way.
-fn with_work(case: &UnfoldDictionary, change: fn(Vec<Vec<u8>>, Vec<Vec<u8>>) -> Vec<u8>) -> Seen {
+/// The values of each step, as bytes.
+type Steps = Vec<Vec<u8>>;
+
+/// The work memory, where it is accepted, cut into steps, good and faulty, and put together in another way.
+fn with_work(case: &UnfoldDictionary, change: fn(Steps, Steps) -> Vec<u8>) -> Seen {
     accepted(case, |seen| {
-        let steps: Vec<Vec<u8>> = seen.lent[1].u8().chunks_exact(case.circuit.len() / 8).map(<[_]>::to_vec).collect();
+        let steps: Steps = seen.lent[1].u8().chunks_exact(case.circuit.len() / 8).map(<[_]>::to_vec).collect();
         let (good, faulty) = steps.split_at(case.steps as usize);
         *seen.lent[1].u8() = change(good.to_vec(), faulty.to_vec());
     })
