@@ -1,5 +1,5 @@
 //! Clocked circuits, as the bytes of their records, with what their dictionaries are made of.
-use crate::circuits::{self, circuit, record, selectors, AND, INPUT, NOT, XOR};
+use crate::circuits::{self, circuit, record, selectors, AND, INPUT, NAND, NOR, NOT, OR, XOR};
 use crate::faults::{self, inputs, patterns_of};
 use crate::{Random, Sort};
 
@@ -180,6 +180,25 @@ pub fn shift_register(length: usize, steps: u64) -> Clocked {
     Clocked::new(circuit, &states, steps)
 }
 
+/// s27 of ISCAS-89: G0 to G3 are lines 0 to 3, the flip-flops G5, G6, G7 lines 4 to 6, then G14, G8, G12, G15, G16, G9, G11, G10, G13 and, the
+/// output, G17.
+pub fn s27(steps: u64) -> Clocked {
+    let gates = [
+        (NOT, 0, 0),
+        (AND, 7, 5),
+        (NOR, 1, 6),
+        (OR, 9, 8),
+        (OR, 3, 8),
+        (NAND, 11, 10),
+        (NOR, 4, 12),
+        (NOR, 7, 13),
+        (NOR, 2, 9),
+        (NOT, 13, 0),
+    ];
+    let gates = gates.map(|(kind, first, second)| record(kind, first == 13 && kind == NOT, first, second));
+    Clocked::new([record(INPUT, false, 0, 0).repeat(7), gates.concat()].concat(), &[state(14, 4), state(13, 5), state(15, 6)], steps)
+}
+
 /// Clocked circuits, each for every number of steps, with their names.
 pub fn named() -> Vec<(&'static str, Clocked)> {
     let input = |output| record(INPUT, output, 0, 0);
@@ -187,6 +206,7 @@ pub fn named() -> Vec<(&'static str, Clocked)> {
     let of = |steps| {
         [
             ("a counter", counter(3, steps)),
+            ("s27", s27(steps)),
             ("a shift register", shift_register(5, steps)),
             ("a state line that an input feeds", Clocked::new([input(false), input(false), not(true, 1)].concat(), &[state(0, 1)], steps)),
             ("a state line that feeds itself", Clocked::new([input(false), not(true, 0)].concat(), &[state(0, 0)], steps)),
