@@ -44,9 +44,9 @@ static const struct clocked {
 } clocked[] = {
     {"the counter", 32, next_to_state, 4, 2, counter_faults, 24, 12, 12, 16, ULLIMAQSU_FINE, 0},
     {"inputs alone, and nothing else right", 24, next_to_state, 3, 9, counter_faults, 23, 11, 11, 15, ULLIMAQSU_NO_OUTPUT, 0},
-    {"no steps, and nothing after them right", 32, next_to_state, 3, 0, counter_faults, 23, 11, 11, 15, ULLIMAQSU_STEPS, 0},
-    {"nine steps", 32, next_to_state, 4, 9, counter_faults, 24, 10, 3, 72, ULLIMAQSU_STEPS, 0},
-    {"two steps in the lower half", 32, next_to_state, 4, ((uint64_t)1 << 32) + 2, counter_faults, 24, 12, 12, 16, ULLIMAQSU_STEPS, 0},
+    {"no steps, and nothing after them right", 32, next_to_state, 3, 0, counter_faults, 23, 11, 11, 15, ULLIMAQSU_STEP_COUNT, 0},
+    {"nine steps", 32, next_to_state, 4, 9, counter_faults, 24, 10, 3, 72, ULLIMAQSU_STEP_COUNT, 0},
+    {"two steps in the lower half", 32, next_to_state, 4, ((uint64_t)1 << 32) + 2, counter_faults, 24, 12, 12, 16, ULLIMAQSU_STEP_COUNT, 0},
     {"part of a state record, and nothing after it right", 32, next_to_state, 3, 2, counter_faults, 23, 11, 11, 15, ULLIMAQSU_STATE_RECORDS, 0},
     {"a data line that is none", 32, no_such_data, 4, 2, counter_faults, 24, 12, 12, 16, ULLIMAQSU_STATE_RECORDS, 0},
     {"a state line that is none, by its second byte", 32, no_such_state, 4, 2, counter_faults, 24, 12, 12, 16, ULLIMAQSU_STATE_RECORDS, 0},

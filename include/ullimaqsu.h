@@ -114,7 +114,7 @@ typedef __UINT64_TYPE__ uint64_t;
     each(ULLIMAQSU_NO_PATTERN,     17, "the number of the pattern is not below the number of patterns", "") \
     each(ULLIMAQSU_STATE_RECORDS,  18, "the state records are not a multiple of 4 bytes, or one names no line, a state line that is no input, or one that is named before", "record") \
     each(ULLIMAQSU_UNFOLDED_SIZE,  19, "the circuit has more than 2,048 lines or 64 inputs when it is unfolded", "") \
-    each(ULLIMAQSU_STEPS,          21, "the number of steps is outside 1 to 8", "") \
+    each(ULLIMAQSU_STEP_COUNT,     21, "the number of steps is outside 1 to 8", "") \
     each(ULLIMAQSU_NOT_OPENED,     22, "the state of suspects was never opened, or is damaged", "")
 
 /* The fields of a circuit record in layout order: the first byte in the record, the first of the kinds that have the field, its name, and what is

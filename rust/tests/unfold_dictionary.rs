@@ -111,15 +111,23 @@ fn damaged(random: &mut Random) -> UnfoldDictionary {
     case
 }
 
-/// Every fault of the named circuits.
-fn named_cases(random: &mut Random) -> Vec<UnfoldDictionary> {
-    let given = |random: &mut Random, clocked| Given::every(random, clocked, 8);
+/// Every fault of the named circuits, of which these are made.
+fn named_so(random: &mut Random, change: fn(Clocked) -> Clocked) -> Vec<UnfoldDictionary> {
     let mut all = vec![];
     for (_, clocked) in named() {
-        let given = given(random, clocked);
+        let given = Given::every(random, change(clocked), 8);
         all.push(lend(random, given));
     }
     all
+}
+
+fn named_cases(random: &mut Random) -> Vec<UnfoldDictionary> {
+    named_so(random, |clocked| clocked)
+}
+
+/// Nine steps, and everything else right for them.
+fn nine_steps(random: &mut Random) -> Vec<UnfoldDictionary> {
+    named_so(random, |clocked| Clocked { steps: 9, ..clocked })
 }
 
 /// Sizes at and beyond the bounds.
@@ -150,6 +158,11 @@ fn damaged_dictionaries() {
 fn named_circuits() {
     let cases = drawn(3, 20, named_cases).flatten();
     assert_eq!(compare("unfold_dictionary, named circuits", cases).with_sorts(&[&WIRED, &STUCK]).seen(), [0]);
+}
+
+#[test]
+fn nine_steps_are_refused() {
+    assert_eq!(compare("unfold_dictionary, nine steps", nine_steps(&mut Random::new(15)).into_iter()).seen(), [21]);
 }
 
 /// 64 inputs and 2,048 lines are taken, one more is not.
@@ -268,7 +281,7 @@ fn two_defects_at_once() {
 #[test]
 fn wrong_programs() {
     let mut random = Random::new(12);
-    let more = [named_cases(&mut random), bounds(&mut random), every_size(&mut random).collect()].concat();
+    let more = [named_cases(&mut random), nine_steps(&mut random), bounds(&mut random), every_size(&mut random).collect()].concat();
     let cases: Vec<_> = drawn(13, 1_000, sound).chain(drawn(14, 8_000, damaged)).chain(more).collect();
     wrong_programs_are_seen(&cases, wrong::PROGRAMS);
     wrong_programs_are_seen(&cases, readers::readers());

@@ -8,7 +8,7 @@ use cases::faults::inputs;
 use second::circuit::Gate;
 use second::clocked::{Run, State};
 use second::dictionary::entry;
-use second::entries::Seen;
+use second::entries::{self, Seen};
 use second::pattern::read_all;
 use second::unfold_dictionary::Given;
 use second::values::bytes;
@@ -169,6 +169,17 @@ fn taking_fault(case: &UnfoldDictionary, holds: fn(&UnfoldDictionary, &[u8], usi
     })
 }
 
+/// Nine steps are run too, where everything else is right for them.
+fn nine_steps(case: &UnfoldDictionary) -> Seen {
+    then(case, 21, |seen| {
+        let Ok(eight) = Clocked::read(&case.circuit, &case.states, 8) else { return };
+        if case.steps == 9 {
+            let nine = Ok(Clocked { steps: 9, ..eight });
+            *seen = entries::unfold_dictionary(nine, &case.faults, &case.patterns, &case.table, &case.work, &case.answer);
+        }
+    })
+}
+
 /// Where one of these is refused, the faults are looked at before.
 fn faults_before(case: &UnfoldDictionary, later: &[u32]) -> Seen {
     let mut seen = case.second();
@@ -183,12 +194,13 @@ fn faults_before(case: &UnfoldDictionary, later: &[u32]) -> Seen {
 
 /// By the steps in which the fault is; by what states take; by what is read of patterns; by what is compared, and how; by where things are laid;
 /// by what is refused.
-pub const PROGRAMS: [Wrong<UnfoldDictionary>; 50] = [
+pub const PROGRAMS: [Wrong<UnfoldDictionary>; 51] = [
     ("has the fault in the last step only", |case| stuck_in(case, |circuit, _, step| step + 1 == circuit.steps)),
     ("has the fault in the first step only", |case| stuck_in(case, |_, _, step| step == 0)),
     ("has the fault in all steps but the first", |case| stuck_in(case, |_, _, step| step > 0)),
     ("has the fault in all steps but the last", |case| stuck_in(case, |circuit, _, step| circuit.steps == 1 || step + 1 < circuit.steps)),
     ("has the fault in every other step", |case| stuck_in(case, |_, _, step| step % 2 == 0)),
+    ("runs nine steps", nine_steps),
     ("lets go of a stuck state line at the first clock", |case| {
         stuck_in(case, |circuit, fault, step| step == 0 || circuit.states.iter().all(|state| state.line != fault.line))
     }),
