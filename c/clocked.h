@@ -115,12 +115,25 @@ static void test_unfolded_sizes(void) {
     expect(ullimaqsu_check(unfolded, 8 * 72, area, 32) == ULLIMAQSU_FINE && number(area, 1) == 64 && number(area, 2) == 8, "which the check accepts");
 }
 
+/* One line, a state line that feeds itself and is an output: so it is in each of three steps, and stuck there in each. */
+static void test_held(void) {
+    static const uint8_t line[] = {LINE(ULLIMAQSU_INPUT, 1, 0, 0)}, itself[] = {0, 0, 0, 0}, at_0[] = {0, 0, 0, 0, 0, 0, 0, 0};
+    static const uint8_t in_three[] = {LINE(ULLIMAQSU_INPUT, 1, 0, 0), OUTPUT_OF(0), OUTPUT_OF(1)};
+    static const uint8_t each[] = {0, 2, 1}, expected[] = {P, P, F}, last[] = {1, 1, 1, 0, 0, 0};
+    uint8_t unfolded[24], table[3], work[6], area[32];
+    uint32_t returned = ullimaqsu_unfold(line, 8, itself, 4, 3, unfolded, 24, area, 32);
+    expect(returned == ULLIMAQSU_FINE && same(unfolded, in_three, 24), "a state line that feeds itself");
+    returned = ullimaqsu_unfold_dictionary(line, 8, itself, 4, 3, at_0, 8, each, 3, table, 3, work, 6, area, 32);
+    expect(returned == ULLIMAQSU_FINE && same(table, expected, 3) && same(work, last, 6), "its dictionary");
+}
+
 static void test_clocked(void) {
     for (size_t i = 0; i < sizeof clocked / sizeof *clocked; i++) {
         test_unfold_dictionary(clocked + i);
         test_unfold(clocked + i);
     }
     test_unfolded_sizes();
+    test_held();
 }
 
 #endif
