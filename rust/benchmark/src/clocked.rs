@@ -1,4 +1,4 @@
-//! Several clock steps: s27 over four, and the largest circuit over eight that has as many inputs as it may.
+//! Several clock steps: s27 over four, and a circuit over eight that then has as many lines and inputs as it may.
 use crate::baseline::gates::{Branches, Gates, Table};
 use crate::baseline::{unfold, unfold_dictionary};
 use crate::timing::{race, Row};
@@ -82,18 +82,23 @@ fn beside_dictionary(name: &str, given: &Given) -> Row {
     )
 }
 
+/// What is timed of a clocked circuit with its faults and patterns.
+const PARTS: [fn(&Given) -> Row; 4] = [
+    |given| unfolding("unfold", &given.clocked),
+    |given| {
+        let (faults, patterns) = (given.faults.len() / 8, given.patterns.len() / given.clocked.inputs());
+        dictionary::<Branches>(&format!("unfold_dictionary: {faults} faults, {patterns} patterns"), given)
+    },
+    |given| dictionary::<Table>("the same beside Rust that looks gates up too", given),
+    |given| beside_dictionary("the same beside the proved dictionary, not Rust", given),
+];
+
+pub fn small_rows() -> impl Iterator<Item = Row> {
+    PARTS.into_iter().map(|part| part(&small()))
+}
+
 pub fn rows() -> impl Iterator<Item = Row> {
-    let rows: [fn() -> Row; 8] = [
-        || unfolding("unfold: s27, 4 steps", &small().clocked),
-        || unfolding("unfold: 256 lines, 8 steps", &large().clocked),
-        || dictionary::<Branches>("unfold_dictionary: s27, 32 faults, 16 patterns", &small()),
-        || dictionary::<Table>("the same beside Rust that looks gates up too", &small()),
-        || beside_dictionary("the same beside the proved dictionary, not Rust", &small()),
-        || dictionary::<Branches>("unfold_dictionary: 256 lines, 256 faults, 64 patterns", &large()),
-        || dictionary::<Table>("the same beside Rust that looks gates up too", &large()),
-        || beside_dictionary("the same beside the proved dictionary, not Rust", &large()),
-    ];
-    rows.into_iter().map(|row| row())
+    PARTS.into_iter().map(|part| part(&large()))
 }
 
 #[cfg(test)]

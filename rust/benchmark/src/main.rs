@@ -29,7 +29,8 @@ fn main() {
     print("small calls", NANOSECONDS, ["proved", "Rust"], small::rows());
     print("search_heads: all faults, 100 nodes each", MICROSECONDS, ["proved", "Rust"], small::heads());
     print("the same beside the proved search", MICROSECONDS, ["heads", "inputs"], small::heads_beside_search());
-    print("several clock steps", MICROSECONDS, ["proved", "Rust"], clocked::rows());
+    print("8 clock steps of 256 lines", MICROSECONDS, ["proved", "Rust"], clocked::rows());
+    print("4 clock steps of s27", NANOSECONDS, ["proved", "Rust"], clocked::small_rows());
     print("64 patterns at once", MICROSECONDS, BESIDE_LANES, large::lanes());
     print("64 patterns at once, small calls", NANOSECONDS, BESIDE_LANES, small::lanes());
     print("the order of their entries, in Rust", MICROSECONDS, ORDERS, large::orders());
