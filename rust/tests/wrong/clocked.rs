@@ -8,11 +8,10 @@ use cases::faults::inputs;
 use second::entries::Seen;
 
 /// The call with other state records, made of the data line and the state line of each.
-fn with_states<C: Stepped>(case: &C, change: fn(&Clocked, &mut Vec<[usize; 2]>)) -> Seen {
-    let clocked = case.clocked();
-    let mut all = pairs(&clocked.states);
-    change(&clocked, &mut all);
-    let rest = clocked.states.chunks_exact(4).remainder();
+fn with_states<C: Stepped>(case: &C, change: fn(&mut Vec<[usize; 2]>)) -> Seen {
+    let states = case.clocked().states;
+    let (mut all, rest) = (pairs(&states), states.chunks_exact(4).remainder());
+    change(&mut all);
     but_for(case, |case| *case.states() = [all.into_iter().flat_map(|[data, line]| state(data, line)).collect(), rest.to_vec()].concat())
 }
 
@@ -92,7 +91,7 @@ fn is_too_large(clocked: &Clocked) -> bool {
 pub fn readers<C: Stepped>() -> [Wrong<C>; 41] {
     [
         ("takes no step for one", |case| but_for(case, |case| *case.steps() = 1.max(*case.steps()))),
-        ("runs for nine steps", |case| but_for(case, |case| *case.steps() -= u64::from(*case.steps() == 9))),
+        ("takes nine steps for eight", |case| but_for(case, |case| *case.steps() -= u64::from(*case.steps() == 9))),
         ("stops at seven steps", |case| refused(case, 21, |clocked| (clocked.steps == 8).then_some(0))),
         ("takes eight steps for all beyond them", |case| but_for(case, |case| *case.steps() = 8.min(*case.steps()))),
         ("reads the lowest byte of the number of steps", |case| but_for(case, |case| *case.steps() &= 255)),
@@ -106,14 +105,14 @@ pub fn readers<C: Stepped>() -> [Wrong<C>; 41] {
         }),
         ("wants a state record", |case| refused(case, 18, |clocked| clocked.states.is_empty().then_some(0))),
         ("takes a state line that is named again, with its first data line", |case| {
-            with_states(case, |_, all| {
+            with_states(case, |all| {
                 let before = all.clone();
                 let mut place = 0..;
                 all.retain(|[_, line]| before[..place.next().expect("a place")].iter().all(|[_, other]| other != line));
             })
         }),
         ("takes a state line that is named again, with its last data line", |case| {
-            with_states(case, |_, all| {
+            with_states(case, |all| {
                 let before = all.clone();
                 let mut place = 1..;
                 all.retain(|[_, line]| before[place.next().expect("a place")..].iter().all(|[_, other]| other != line));
@@ -133,12 +132,12 @@ pub fn readers<C: Stepped>() -> [Wrong<C>; 41] {
         }),
         ("takes any number for a state line", |case| taking(case, |clocked, [_, line]| !has_line(clocked, line))),
         ("reads the lowest byte of a line's number", |case| {
-            with_states(case, |_, all| all.iter_mut().flatten().for_each(|line| *line &= 255))
+            with_states(case, |all| all.iter_mut().flatten().for_each(|line| *line &= 255))
         }),
         ("reads a line's number from its other end", |case| {
-            with_states(case, |_, all| all.iter_mut().flatten().for_each(|line| *line = usize::from((*line as u16).swap_bytes())))
+            with_states(case, |all| all.iter_mut().flatten().for_each(|line| *line = usize::from((*line as u16).swap_bytes())))
         }),
-        ("reads the state line first", |case| with_states(case, |_, all| all.iter_mut().for_each(|pair| pair.reverse()))),
+        ("reads the state line first", |case| with_states(case, |all| all.iter_mut().for_each(|pair| pair.reverse()))),
         ("wants a gate for a data line", |case| refusing(case, |clocked, _, [data, _]| clocked.circuit[8 * data] == INPUT)),
         ("wants no state line for a data line", |case| {
             refusing(case, |clocked, _, [data, _]| pairs(&clocked.states).iter().any(|&[_, line]| line == data))
