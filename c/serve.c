@@ -161,6 +161,8 @@ static uint32_t enter(struct name entry) {
     ENTRY(ullimaqsu_check, U8(0), U8(1))
     ENTRY(ullimaqsu_dictionary, U8(0), U8(1), U8(2), U8(3), U8(4), U8(5))
     ENTRY(ullimaqsu_dictionary_lanes, U8(0), U8(1), U8(2), U8(3), U64(4), U8(5))
+    ENTRY(ullimaqsu_unfold, U8(0), U8(1), NUMBER(2), U8(3), U8(4))
+    ENTRY(ullimaqsu_unfold_dictionary, U8(0), U8(1), NUMBER(2), U8(3), U8(4), U8(5), U8(6), U8(7))
     ENTRY(ullimaqsu_compact, NUMBER(0), NUMBER(1), U8(2), U8(3), U8(4))
     ENTRY(ullimaqsu_audit, NUMBER(0), NUMBER(1), U8(2), U8(3), U8(4))
     ENTRY(ullimaqsu_suspects_open, NUMBER(0), NUMBER(1), U8(2), U8(3), U8(4))

@@ -1,13 +1,8 @@
 /* The entries through the header, as C calls them: a table of cases for each, and what an answer area of another size does. */
+#include "clocked.h"
 #include "expect.h"
+#include "records.h"
 #include "suspects.h"
-
-#define LINE(kind, output, a, b) kind, output, a, 0, b, 0, 0, 0
-#define INPUT LINE(ULLIMAQSU_INPUT, 0, 0, 0)
-#define EIGHT_INPUTS INPUT, INPUT, INPUT, INPUT, INPUT, INPUT, INPUT, INPUT
-#define OUTPUT_OF(line) LINE(ULLIMAQSU_BUFFER, 1, line, 0)
-#define NOT_OF(output, line) LINE(ULLIMAQSU_NOT, output, line, 0)
-#define SELECTOR_OF(output, a, b, select) ULLIMAQSU_SELECTOR, output, a, 0, b, 0, select, 0
 
 static const uint8_t
     example_a[] = {INPUT, INPUT, INPUT, LINE(ULLIMAQSU_AND, 0, 0, 1), LINE(ULLIMAQSU_OR, 1, 3, 2)},
@@ -73,8 +68,6 @@ static void test_areas(void) {
     }
 }
 
-#define P ULLIMAQSU_PASS
-#define F ULLIMAQSU_FAIL
 static const uint8_t
     faults[] = {3, 0, 0, 0, 0, 0, 0, 0, 3, 0, 0, 1, 0, 0, 0, 0, 2, 0, 0, 1, 0, 0, 0, 0, 0, 0, 0, 0, 0, 0, 0, 0},
     patterns[] = {1, 1, 0, 0, 1, 0, 0, 2, 0, 2, 1, 0},
@@ -591,10 +584,11 @@ static void test_bench_names(void) {
 static void test_handed_on(void) {
     static const uint8_t fault[8], pattern[2];
     static const uint64_t budget[1] = {9}, place[4] = {18};
-    static const char *const entries[] = {"dictionary", "dictionary in lanes", "search", "search over head lines", "search for a list", "clauses"};
+    static const char *const entries[] = {"dictionary", "dictionary in lanes", "search", "search over head lines", "search for a list", "clauses",
+                                          "unfolding", "dictionary of several steps"};
     const uint8_t *circuit = reads_itself;
     const size_t len = sizeof reads_itself;
-    for (int i = 0; i < 6; i++) {
+    for (int i = 0; i < 8; i++) {
         uint8_t bytes[4], work[6], area[32];
         uint64_t words[12], count[1];
         int32_t clauses[80];
@@ -605,7 +599,9 @@ static void test_handed_on(void) {
                             : i == 2 ? ullimaqsu_search(circuit, len, fault, 8, 9, bytes, 2, work, 6, area, 32)
                             : i == 3 ? ullimaqsu_search_heads(circuit, len, fault, 8, 9, bytes, 2, work, 6, area, 32)
                             : i == 4 ? ullimaqsu_search_all(circuit, len, fault, 8, budget, 1, bytes, 1, count, 1, bytes + 1, 2, work, 6, area, 32)
-                                     : ullimaqsu_clauses(circuit, len, fault, 8, clauses, 80, area, 32);
+                            : i == 5 ? ullimaqsu_clauses(circuit, len, fault, 8, clauses, 80, area, 32)
+                            : i == 6 ? ullimaqsu_unfold(circuit, len, 0, 0, 1, (uint8_t *)clauses, len, area, 32)
+                                     : ullimaqsu_unfold_dictionary(circuit, len, 0, 0, 1, fault, 8, pattern, 2, bytes, 1, work, 6, area, 32);
         expect(returned == ULLIMAQSU_CIRCUIT_LAYOUT && answers(area, place), entries[i]);
         expect(stays(bytes, sizeof bytes) && stays(work, sizeof work), "bytes that are lent stay");
         expect(stays((uint8_t *)words, sizeof words) && stays((uint8_t *)count, sizeof count), "words that are lent stay");
@@ -623,6 +619,7 @@ int main(void) {
     test_audit();
     test_lost_pair();
     test_suspects();
+    test_clocked();
     test_search();
     test_search_heads();
     test_search_all();

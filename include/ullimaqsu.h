@@ -38,6 +38,17 @@
  *   A table has one row for each pattern and, in the row, one byte for each fault, an entry: pass, fail or unknown. A tester compares the
  *   outputs whose good value under the pattern is known; the others are masked.
  *
+ * Clocked circuit
+ *
+ *   A circuit some of whose inputs are state lines: at each clock a state line takes the value that its data line had in the step before. A
+ *   state record, of 4 bytes, says which they are, and there may be none.
+ *       bytes 0-1    data line: any line of the circuit, an input or a state line too
+ *       bytes 2-3    state line: an input that no earlier record has as its state line
+ *   It runs for 1 to 8 steps. Unfolded over k steps it is a circuit of k times its N lines: line m of step i, from 1, is line (i-1)N+m. The
+ *   records are those of the circuit with their sources in the same step, but from step 2 on a state line is a buffer of its data line one step
+ *   earlier. The outputs of all steps are outputs, and so are the data lines of step k. Its inputs, in line order, are all inputs of step 1, the
+ *   first state among them, and then of each later step those that are no state lines. Lines and inputs are no more than a circuit may have.
+ *
  * State of suspects
  *
  *   The faults of a table that remain after what a tester has reported. No entry keeps it: C lends it, an area of exactly ULLIMAQSU_SUSPECTS
@@ -74,13 +85,15 @@ typedef __UINT64_TYPE__ uint64_t;
 
 /* Refusals: name, number, what it says, and what its place counts ("" where the place is always 0). They are checked in this order, and the
    first that applies is given, with the lowest place; but compactor and audit check 12 and 13 before the size of the marks, both readers
-   of a bench text 14 to 16 first, then 1, 4 and 5 on the records that the text makes, then the size of the buffer, and the entries of a state
-   of suspects the state's size first, then 22, then 12, 13 and 17, and the size of the marks last.
+   of a bench text 14 to 16 first, then 1, 4 and 5 on the records that the text makes, then the size of the buffer, the entries of a state
+   of suspects the state's size first, then 22, then 12, 13 and 17, and the size of the marks last, and those of a clocked circuit 21, 18 and
+   19 after 5.
    No refusal has the number 3. It stood for no input, and past 2 there always is one: line 0, below which there is no line for a gate to read.
    2: the place is where, in the first line that breaks its layout, the first field begins that breaks its rule, also where only its second byte is
    wrong. Divided by 8 it gives the line, and what is left over is where that field begins in a record (ULLIMAQSU_FIELDS).
    14: the place is the first byte such that no right text begins with the bytes up to it, or byte 32,768, or the length of a text that ends
    early. 15: the first byte of the name, where it is used or defined a second time. 16: gates alone are counted, from 0, in the text's order.
+   18: the first bad record, of a state line that is named again the later one; 0 where the bytes are no multiple of 4.
    What prints these words takes them from here, as examples/front_end.c does. */
 #define ULLIMAQSU_REFUSALS(each) \
     each(ULLIMAQSU_CIRCUIT_SIZE,    1, "the circuit is not a multiple of 8 bytes, empty, or above 2,048 records", "") \
@@ -99,6 +112,9 @@ typedef __UINT64_TYPE__ uint64_t;
     each(ULLIMAQSU_BENCH_NAME,     15, "a name is used and defined nowhere, or defined a second time", "byte") \
     each(ULLIMAQSU_BENCH_CYCLE,    16, "a gate depends on itself, or on one that does", "gate") \
     each(ULLIMAQSU_NO_PATTERN,     17, "the number of the pattern is not below the number of patterns", "") \
+    each(ULLIMAQSU_STATE_RECORDS,  18, "the state records are not a multiple of 4 bytes, or one names no line, a state line that is no input, or one that is named before", "record") \
+    each(ULLIMAQSU_UNFOLDED_SIZE,  19, "the circuit has more than 2,048 lines or 64 inputs when it is unfolded", "") \
+    each(ULLIMAQSU_STEP_COUNT,     21, "the number of steps is outside 1 to 8", "") \
     each(ULLIMAQSU_NOT_OPENED,     22, "the state of suspects was never opened, or is damaged", "")
 
 /* The fields of a circuit record in layout order: the first byte in the record, the first of the kinds that have the field, its name, and what is
@@ -191,6 +207,32 @@ uint32_t ullimaqsu_dictionary_lanes(const uint8_t *circuit, size_t circuit_len,
                                     uint8_t *table, size_t table_len,
                                     uint64_t *work, size_t work_len,
                                     uint8_t *answer, size_t answer_len);
+
+/* The unfolding of a clocked circuit. Refusals 1, 2, 4, 5, then 21, 18, 19, then 10. N is the number of lines, k that of steps.
+   Writes the unfolded circuit, which ullimaqsu_check accepts: the buffer has exactly 8 k N bytes. Under every pattern line m of step i has the
+   value that the clocked circuit's line m has after i-1 clocks.
+   Answer: the number of its lines, k N. */
+uint32_t ullimaqsu_unfold(const uint8_t *circuit, size_t circuit_len,
+                          const uint8_t *states, size_t states_len,
+                          uint64_t steps,
+                          uint8_t *unfolded, size_t unfolded_len,
+                          uint8_t *answer, size_t answer_len);
+
+/* The dictionary maker for a clocked circuit. Refusals 1, 2, 4, 5, then 21, 18, 19, then 6 to 10. N is the number of lines, k that of steps.
+   The faults are the clocked circuit's, and each is there in all steps at once: a state line that is stuck shows its stuck value in every step,
+   whatever its data line has. A pattern has one byte for each input of the unfolded circuit.
+   Fills the table as ullimaqsu_dictionary does, with the outputs of the unfolded circuit: its size is exactly faults times patterns. The work
+   memory, exactly 2 k N bytes, then holds the good and after them the faulty values of all lines, step by step, of the last pattern with the
+   last fault.
+   Answer: nothing but that it is done. */
+uint32_t ullimaqsu_unfold_dictionary(const uint8_t *circuit, size_t circuit_len,
+                                     const uint8_t *states, size_t states_len,
+                                     uint64_t steps,
+                                     const uint8_t *faults, size_t faults_len,
+                                     const uint8_t *patterns, size_t patterns_len,
+                                     uint8_t *table, size_t table_len,
+                                     uint8_t *work, size_t work_len,
+                                     uint8_t *answer, size_t answer_len);
 
 /* The compactor. Refusals 12, 13, then 10.
    The needs of the whole table are that each detected fault stays detected, and that each pair of detected faults told apart, one failing

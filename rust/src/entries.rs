@@ -14,6 +14,13 @@ macro_rules! entries {
             DictionaryLanes = ullimaqsu_dictionary_lanes(
                 circuit: &[u8], faults: &[u8], patterns: &[u8], table: &mut [u8], work: &mut [u64], answer: &mut [u8]
             );
+            Unfold = ullimaqsu_unfold(
+                circuit: &[u8], states: &[u8], steps: u64, unfolded: &mut [u8], answer: &mut [u8]
+            );
+            UnfoldDictionary = ullimaqsu_unfold_dictionary(
+                circuit: &[u8], states: &[u8], steps: u64, faults: &[u8], patterns: &[u8], table: &mut [u8], work: &mut [u8],
+                answer: &mut [u8]
+            );
             Compact = ullimaqsu_compact(
                 fault_count: u64, pattern_count: u64, table: &[u8], marks: &mut [u8], answer: &mut [u8]
             );

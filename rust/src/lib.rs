@@ -2,6 +2,7 @@
 //!
 //! Circuits are the bytes of their records, as `include/ullimaqsu.h` describes them; [`bench`] makes them of a text in the bench notation, and
 //! [`bench_names`] says what the text calls their lines. Every call takes any bytes; what is wrong with them comes back as a [`Refusal`].
+//! [`unfold`] makes one circuit of several clock steps of another, and [`unfold_dictionary`] makes the dictionary of that.
 //! Calls keep nothing; what a tester's reports leave of the suspects is held by the caller, in [`Suspects`]. [`raw`] has the same entries with
 //! nothing interpreted.
 //!
@@ -12,6 +13,7 @@ mod entries;
 mod field;
 pub mod raw;
 mod refusal;
+mod steps;
 mod suspects;
 
 #[cfg(any(not(direct), test))]
@@ -21,6 +23,7 @@ mod direct;
 
 pub use field::BadField;
 pub use refusal::{refusals, Meaning, Refusal};
+pub use steps::{unfold, unfold_dictionary};
 pub use suspects::{Suspects, SUSPECTS};
 
 use raw::{enter, Call};

@@ -36,13 +36,17 @@ fn the_table_of_refusals() {
     let rows = read("include/ullimaqsu.h").lines().filter(|line| line.trim_start().starts_with("each(ULLIMAQSU_")).count();
     let all: Vec<Meaning> = refusals().collect();
     assert_eq!(all.len(), rows);
-    assert_eq!(all.iter().map(|meaning| meaning.number).collect::<Vec<_>>(), [1, 2, 4, 5, 6, 7, 8, 9, 10, 11, 12, 13, 14, 15, 16, 17, 22]);
+    assert_eq!(
+        all.iter().map(|meaning| meaning.number).collect::<Vec<_>>(),
+        [1, 2, 4, 5, 6, 7, 8, 9, 10, 11, 12, 13, 14, 15, 16, 17, 18, 19, 21, 22]
+    );
     for Meaning { name, says, counts, .. } in &all {
         assert!(name.starts_with("ULLIMAQSU_") && !name.contains(' ') && says.contains(' ') && !says.contains('"'), "{name}: {says}");
         assert!(counts.is_none_or(|counts| !counts.contains('"') && counts.trim() == counts), "{name}: {counts:?}");
     }
     assert_eq!(Refusal::new(13, 5).to_string(), "refusal 13: a table byte is above 2 (byte 5)");
     assert_eq!(Refusal::new(5, 0).to_string(), "refusal 5: the circuit has no output");
+    assert_eq!(Refusal::new(21, 0).to_string(), "refusal 21: the number of steps is outside 1 to 8");
     assert_eq!(Refusal::new(2, 34).to_string(), "refusal 2: a circuit record breaks its layout (byte 34)");
     assert_eq!(Refusal::new(3, 0).to_string(), "refusal 3: unknown (place 0)");
     assert_eq!(Refusal::new(256, 0).to_string(), "refusal 256: unknown (place 0)");
@@ -209,6 +213,8 @@ fn words_of_fields() {
             ullimaqsu::check(&circuit).err(),
             ullimaqsu::dictionary(&circuit, &fault, &pattern, &mut [0], &mut [0; 36]).err(),
             ullimaqsu::dictionary_lanes(&circuit, &fault, &pattern, &mut [0], &mut [0; 72]).err(),
+            ullimaqsu::unfold(&circuit, &[], 1, &mut [0; 144]).err(),
+            ullimaqsu::unfold_dictionary(&circuit, &[], 1, &fault, &pattern, &mut [0], &mut [0; 36]).err(),
             ullimaqsu::search(&circuit, &fault, 0, &mut [0; 2], &mut [0; 36]).err(),
             ullimaqsu::search_heads(&circuit, &fault, 0, &mut [0; 2], &mut [0; 36]).err(),
             ullimaqsu::search_all(&circuit, &fault, &[0], &mut [0; 2], &mut [0; 36]).err(),

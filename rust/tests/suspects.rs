@@ -2,6 +2,8 @@
 //! answer. Here are single calls, in `suspects/` areas that may or may not be opened states, and whole sessions.
 #[path = "wrong/answered.rs"]
 mod answered;
+#[path = "wrong/but_for.rs"]
+mod but_for;
 #[path = "suspects/calls.rs"]
 mod calls;
 #[path = "suspects/courses.rs"]

@@ -14,6 +14,8 @@ pub mod search_all;
 pub mod search_heads;
 mod simulate;
 pub mod suspects;
+pub mod unfold;
+pub mod unfold_dictionary;
 
 /// Writes the numbers of an answer.
 fn report(returned: u32, numbers: [u64; 3], answer: &mut [u8; 32]) -> u32 {

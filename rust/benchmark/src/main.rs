@@ -5,7 +5,8 @@
 //! at the largest sizes dictionary and searches are also timed beside Rust that looks gates up in a table (`baseline/gates.rs`). Some rows have
 //! proved code in place of Rust: single calls of the search, whose ratio says what a list in one call brings, and the compactor beside the audit
 //! of its list, whose ratio is at least 0.5 where the audit takes at most twice the compactor's time; and the search over patterns beside that over
-//! head lines where there are no trees, whose ratio says what it costs to look for them.
+//! head lines where there are no trees, whose ratio says what it costs to look for them; and the dictionary of the unfolded circuit, in which each
+//! fault is in step 1 alone, beside that of several clock steps.
 //!
 //! The dictionary that carries 64 patterns at once has tables of its own. It runs beside the same in Rust, whose gates choose or branch
 //! (`baseline/lanes/gates.rs`): branches are faster where the processor learns the circuit's kinds, choices where it does not. And it runs
@@ -13,6 +14,7 @@
 //! a fault, which come out of one word, stand a row apart.
 
 mod baseline;
+mod clocked;
 mod large;
 mod parts;
 mod small;
@@ -27,6 +29,8 @@ fn main() {
     print("small calls", NANOSECONDS, ["proved", "Rust"], small::rows());
     print("search_heads: all faults, 100 nodes each", MICROSECONDS, ["proved", "Rust"], small::heads());
     print("the same beside the proved search", MICROSECONDS, ["heads", "inputs"], small::heads_beside_search());
+    print("8 clock steps of 256 lines", MICROSECONDS, ["proved", "Rust"], clocked::rows());
+    print("4 clock steps of s27", NANOSECONDS, ["proved", "Rust"], clocked::small_rows());
     print("64 patterns at once", MICROSECONDS, BESIDE_LANES, large::lanes());
     print("64 patterns at once, small calls", NANOSECONDS, BESIDE_LANES, small::lanes());
     print("the order of their entries, in Rust", MICROSECONDS, ORDERS, large::orders());

@@ -81,6 +81,34 @@ pub fn faults(random: &mut Random, bytes: &mut Vec<u8>, lines: usize) {
     }
 }
 
+/// Does one damage to the state records of a circuit of so many lines: a byte too many or too few, a record more, a line that may be none, no
+/// input or another record's, also by its second byte alone.
+pub fn states(random: &mut Random, bytes: &mut Vec<u8>, lines: usize) {
+    let records = bytes.len() / 4;
+    match random.below(8) {
+        0 => bytes.truncate(bytes.len().saturating_sub(1 + random.below(3))),
+        1 => bytes.extend(vec![0; 1 + random.below(4)]),
+        2 => bytes.extend([random.below(lines + 2), random.below(lines + 2)].map(|line| (line as u16).to_le_bytes()).concat()),
+        3 if records > 0 => bytes.extend_from_within(4 * random.below(records)..),
+        4..=6 if records > 0 => {
+            let field = &mut bytes[4 * random.below(records) + 2 * random.below(2)..][..2];
+            match random.below(3) {
+                0 => field.copy_from_slice(&((lines + random.pick(&[0, 1, 256])) as u16).to_le_bytes()),
+                1 => field.copy_from_slice(&(random.below(lines) as u16).to_le_bytes()),
+                _ => field[1] = random.pick(&[1, 128, 255]),
+            }
+        }
+        _ => change(random, bytes),
+    }
+}
+
+/// Another number of steps, near to the right one or far from it.
+pub fn steps(random: &mut Random, right: u64) -> u64 {
+    let near = [right.wrapping_add(1), right.wrapping_sub(1), right.wrapping_add(256), right.wrapping_add(1 << 32)];
+    let far = [0, 8, 9, 1 << 63, u64::MAX];
+    random.pick(&[&near[..], &far].concat())
+}
+
 /// Does one damage to patterns.
 pub fn patterns(random: &mut Random, bytes: &mut Vec<u8>) {
     match random.below(16) {

@@ -35,10 +35,15 @@ pub fn some(random: &mut Random, circuit: &[u8], count: usize) -> Vec<u8> {
 
 /// So many patterns, in which X is rare, frequent or everything; where inputs are selects, often it stands at them alone.
 pub fn patterns(random: &mut Random, circuit: &[u8], count: usize) -> Vec<u8> {
-    let known = random.pick(&[0, 1, 2, 8, 100]);
     let selects: HashSet<usize> = selectors(circuit).map(|[.., select]| select).collect();
     let is_input = |(_, record): &(usize, &[u8])| record[0] == INPUT;
     let inputs: Vec<bool> = circuit.chunks_exact(8).enumerate().filter(is_input).map(|(line, _)| selects.contains(&line)).collect();
+    patterns_of(random, &inputs, count)
+}
+
+/// The same for these inputs, of which some are selects.
+pub fn patterns_of(random: &mut Random, inputs: &[bool], count: usize) -> Vec<u8> {
+    let known = random.pick(&[0, 1, 2, 8, 100]);
     let mut all = vec![];
     for _ in 0..count {
         let at_selects = inputs.contains(&true) && random.once_in(4);

@@ -2,6 +2,7 @@
 //! was seen, directories to run commands in, and what these say. Everything is bytes: nothing here knows the library or the second program.
 
 pub mod circuits;
+pub mod clocked;
 pub mod damage;
 pub mod directory;
 pub mod faults;

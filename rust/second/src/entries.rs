@@ -1,6 +1,6 @@
 //! What the C entries return and leave behind.
 use crate::search_all::Lent;
-use crate::{Dictionary, Refusal, Searched, Slice, Suspects, Written};
+use crate::{Clocked, Dictionary, Refusal, Searched, Slice, Suspects, Written};
 
 /// What a caller in C sees: the number returned, the answer area, and the lent memory in order.
 #[derive(Clone, Debug, PartialEq, Eq)]
@@ -37,6 +37,23 @@ pub fn dictionary(circuit: &[u8], faults: &[u8], patterns: &[u8], table: &[u8], 
 
 pub fn dictionary_lanes(circuit: &[u8], faults: &[u8], patterns: &[u8], table: &[u8], work: &[u64], answer: &[u8]) -> Seen {
     made(table, work, answer, crate::dictionary_lanes(circuit, faults, patterns, table.len(), work.len()))
+}
+
+pub fn unfold(circuit: &[u8], states: &[u8], steps: u64, unfolded: &[u8], answer: &[u8]) -> Seen {
+    let written = crate::unfold(circuit, states, steps, unfolded.len());
+    seen(answer, vec![unfolded.to_vec().into()], written.map(|records| (vec![records.len() as u64 / 8], vec![records.into()])))
+}
+
+pub fn unfold_dictionary(
+    clocked: Result<Clocked, Refusal>,
+    faults: &[u8],
+    patterns: &[u8],
+    table: &[u8],
+    work: &[u8],
+    answer: &[u8],
+) -> Seen {
+    let dictionary = |clocked| crate::unfold_dictionary(clocked, faults, patterns, table.len(), work.len());
+    made(table, work, answer, clocked.and_then(dictionary))
 }
 
 /// What the entry of a dictionary maker does, whatever its work memory is of.

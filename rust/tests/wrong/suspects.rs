@@ -1,7 +1,8 @@
 //! Reports to suspects that are wrong in one way each.
 use super::answered::{number, refuse, set_number, then};
+use super::but_for::{but_for, clearing, Wrong};
 use super::harness::{Case, SuspectsReport};
-use super::wrong_states::{but_for, clearing, number_of, Wrong};
+use super::wrong_states::number_of;
 use cases::suspects::{state, MARKS, STATE};
 use second::entries::{suspects_open, Seen};
 

@@ -1,22 +1,9 @@
 //! What is done with a state of suspects beside reports, wrong in one way each: it is opened, it is found to be open, its marks are read.
 use super::answered::{number, refuse, set_number, then};
+use super::but_for::{but_for, clearing, Wrong};
 use super::harness::{Case, SuspectsMarks, SuspectsOpen, SuspectsReport};
 use cases::suspects::{state, MARKS, STATE};
 use second::entries::Seen;
-
-pub type Wrong<C> = (&'static str, fn(&C) -> Seen);
-
-/// What is said of the same call but for something.
-pub fn but_for<C: Case>(case: &C, change: impl FnOnce(&mut C)) -> Seen {
-    let mut other = case.clone();
-    change(&mut other);
-    other.second()
-}
-
-/// A refusal of this number that clears what is lent first.
-pub fn clearing<C: Case>(case: &C, refused: u32) -> Seen {
-    then(case, refused, |seen| seen.lent[0].u8().fill(0))
-}
 
 /// One of a state's four numbers.
 pub fn number_of(state: &[u8], k: usize) -> u64 {

@@ -24,16 +24,22 @@ pub fn check_faults(circuit: &[u8], faults: &[u8], most: usize) -> Result<(), (u
     }
 }
 
+/// Refusals 8 and 9.
+pub fn check_patterns(patterns: &[u8], inputs: usize) -> Result<(), (u32, usize)> {
+    if patterns.is_empty() || !patterns.len().is_multiple_of(inputs) || patterns.len() / inputs > 256 {
+        return Err((8, 0));
+    }
+    match patterns.iter().position(|&v| v > 2) {
+        Some(bad) => Err((9, bad)),
+        None => Ok(()),
+    }
+}
+
 /// Refusals 1, 2 and 4 to 9, or the numbers of lines and inputs.
 pub fn check_given(circuit: &[u8], faults: &[u8], patterns: &[u8]) -> Result<[usize; 2], (u32, usize)> {
     let [n, inputs, _] = check(circuit)?;
     check_faults(circuit, faults, 256)?;
-    if patterns.is_empty() || !patterns.len().is_multiple_of(inputs) || patterns.len() / inputs > 256 {
-        return Err((8, 0));
-    }
-    if let Some(bad) = patterns.iter().position(|&v| v > 2) {
-        return Err((9, bad));
-    }
+    check_patterns(patterns, inputs)?;
     Ok([n, inputs])
 }
 

@@ -1,6 +1,7 @@
 //! Simulation with three values, and the entry of a pattern and a fault.
 use super::gates::Gates;
 use super::{word, SELECTOR};
+use std::ops::Range;
 
 #[derive(Clone, Copy)]
 pub struct Fault {
@@ -31,9 +32,9 @@ fn value<G: Gates>(circuit: &[u8], k: usize, pin: impl Fn(u8) -> u8) -> u8 {
     }
 }
 
-/// Gives every line from `start` on its value; an input's line has it already.
-fn simulate_from<G: Gates>(circuit: &[u8], values: &mut [u8], start: usize) {
-    for k in start..values.len() {
+/// Gives each of these lines its value; an input's line has it already.
+fn simulate<G: Gates>(circuit: &[u8], values: &mut [u8], lines: Range<usize>) {
+    for k in lines {
         if circuit[8 * k] != 0 {
             values[k] = value::<G>(circuit, k, |site| values[word(circuit, 8 * k + 2 * site as usize)]);
         }
@@ -51,21 +52,32 @@ pub fn good_values<G: Gates>(circuit: &[u8], pattern: &[u8], work: &mut [u8], n:
             used += 1;
         }
     }
-    simulate_from::<G>(circuit, values, 0);
+    simulate::<G>(circuit, values, 0..n);
 }
 
-/// The faulty values, in the second half: those below the fault's line are the good ones.
-pub fn faulty_values<G: Gates>(circuit: &[u8], fault: Fault, work: &mut [u8], n: usize) {
-    let (good, values) = work.split_at_mut(n);
-    values.copy_from_slice(good);
-    let line = fault.line;
+/// The value of a line where the fault is.
+fn stuck_value<G: Gates>(circuit: &[u8], fault: Fault, line: usize, values: &[u8]) -> u8 {
     let v = if circuit[8 * line] == 0 {
         values[line]
     } else {
         value::<G>(circuit, line, |site| fault.seen(site, values[word(circuit, 8 * line + 2 * site as usize)]))
     };
-    values[line] = fault.seen(0, v);
-    simulate_from::<G>(circuit, values, line + 1);
+    fault.seen(0, v)
+}
+
+/// The faulty values, in the second half: those below the fault's line are the good ones.
+pub fn faulty_values<G: Gates>(circuit: &[u8], fault: Fault, work: &mut [u8], n: usize) {
+    faulty_in_steps::<G>(circuit, fault, work, n, n);
+}
+
+/// The same where the fault is in each step of so many lines.
+pub fn faulty_in_steps<G: Gates>(circuit: &[u8], fault: Fault, work: &mut [u8], n: usize, each: usize) {
+    let (good, values) = work.split_at_mut(n);
+    values.copy_from_slice(good);
+    for line in (fault.line..n).step_by(each) {
+        values[line] = stuck_value::<G>(circuit, fault, line, values);
+        simulate::<G>(circuit, values, line + 1..n.min(line + each));
+    }
 }
 
 /// 1 fail, 0 pass, 2 unknown. Where the good value is X, an output is masked or makes unknown.
