@@ -1,4 +1,2 @@
 pub mod OneResult
-pub mod Engines
-pub mod Lent
 pub mod Found

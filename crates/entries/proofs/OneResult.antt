@@ -1,28 +1,13 @@
--- The promise of an entry allows one result only.
+-- The promise of a search entry allows one result only; that of the others does so as they are parts with one lent memory (`one-lent`) or dictionary
+-- makers (`one-made`), in `replies`.
 -- Assumes nothing.
 use mathlib.Core.Path.{_≡_, sym, _∙_}
 use mathlib.Core.List.{List}
 use Prim.Native.Nat.{ℕ}
 use Rattle.answers.specs.Rules.{Rule}
-use Rattle.answers.specs.Area.{Numbers}
 use Rattle.nodes.specs.declared.Verdict.{Verdict}
 use Rattle.replies.proofs.Entered.{one-return}
-use Rattle.entries.specs.Entries.{EngineEntered, LentEntered, FoundEntered, SearchAllEntered}
-
--- of either engine
-module _ {places : ℕ} {left c fs ps t w a : List ℕ} {r s : ℕ} {t₁ w₁ a₁ t₂ w₂ a₂ : List ℕ} where
-  pub one-made :
-      EngineEntered places left c fs ps t w a r t₁ w₁ a₁
-      → EngineEntered places left c fs ps t w a s t₂ w₂ a₂
-      → (r ≡ s) × (t₁ ≡ t₂) × (w₁ ≡ w₂) × (a₁ ≡ a₂)
-  one-made p q =
-      let o = one-return (p .answer) (q .answer) in
-      (o .0, p .table ∙ sym (q .table), p .work ∙ sym (q .work), o .1)
-
--- of a part with one lent memory: compactor, suspects, clause writer, reader and names
-module _ {A : Type 0} {rules : List Rule} {good : Numbers} {m new : List A} {a : List ℕ} {r s : ℕ} {m₁ m₂ : List A} {a₁ a₂ : List ℕ} where
-  pub one-lent : LentEntered rules good m new a r m₁ a₁ → LentEntered rules good m new a s m₂ a₂ → (r ≡ s) × (m₁ ≡ m₂) × (a₁ ≡ a₂)
-  one-lent p q = let o = one-return (p .answer) (q .answer) in (o .0, p .lent ∙ sym (q .lent), o .1)
+use Rattle.entries.specs.Entries.{FoundEntered, SearchAllEntered}
 
 -- of either search for one fault
 module _ {rules : List Rule} {found : Verdict} {t test w work a : List ℕ} {r s : ℕ} {t₁ w₁ a₁ t₂ w₂ a₂ : List ℕ} where

@@ -13,7 +13,7 @@ use Rattle.answers.specs.Area.{Numbers, success, told, done, Entered, entered}
 use Rattle.circuit.specs.Record.{linesOf, inputsOf, outputsOf}
 use Rattle.circuit.specs.Promise.{circuitRules}
 use Rattle.rows.specs.Table.{tableOf, tableWork}
-use Rattle.dictionary.specs.Promise.{dictionaryRuling}
+use Rattle.dictionary.specs.Promise.{dictionaryRules}
 use Rattle.groups.specs.Work.{laneWork}
 use Rattle.tables.specs.Entries.{entriesOf}
 use Rattle.tables.specs.Marks.{keptRules}
@@ -35,17 +35,16 @@ use Rattle.bench.specs.Promise.{benchRules, recordsIn}
 use Rattle.bench_names.specs.Promise.{placeRules}
 use Rattle.ground.specs.Put.{laidOn}
 use Rattle.clauses.specs.Promise.{clauseRules, clausesFor, wordsFor}
+use Rattle.replies.specs.Entered.{LentEntered, MadeEntered}
 
 -- the circuit check: lines, inputs, outputs
 abbrev pub checkNumbers : List ℕ → Numbers
 checkNumbers c = told (refusal (circuitRules c)) (success (linesOf c) (inputsOf c) (outputsOf c))
 
--- the dictionary maker, of an engine with so many places for each line in the work memory: done; the table t and the work memory w, lent with the
--- answer area a, become t′ and w′, which is to hold `left`
-pub record EngineEntered (places : ℕ) (left c fs ps t w a : List ℕ) (r : ℕ) (t′ w′ a′ : List ℕ) : Type 0 where
-  pub answer : Entered a (told (dictionaryRuling places c fs ps t w) done) r a′
-  pub table : t′ ≡ entered a t (unless (dictionaryRuling places c fs ps t w) t (tableOf c (linesOf c) (inputsOf c) fs ps))
-  pub work : w′ ≡ entered a w (unless (dictionaryRuling places c fs ps t w) w left)
+-- the dictionary maker, of an engine with so many places for each line in the work memory, which is to hold `left`
+abbrev pub EngineEntered : ℕ → List ℕ → List ℕ → List ℕ → List ℕ → List ℕ → List ℕ → List ℕ → ℕ → List ℕ → List ℕ → List ℕ → Type 0
+EngineEntered places left c fs ps t w a r t′ w′ a′ =
+    MadeEntered (dictionaryRules places c fs ps (length t) (length w)) (tableOf c (linesOf c) (inputsOf c) fs ps) left t w a r t′ w′ a′
 
 -- a byte for each line's good value, and one for its faulty value
 abbrev pub DictionaryEntered : List ℕ → List ℕ → List ℕ → List ℕ → List ℕ → List ℕ → ℕ → List ℕ → List ℕ → List ℕ → Type 0
@@ -54,12 +53,6 @@ DictionaryEntered c fs ps t w a r t′ w′ a′ = EngineEntered 2 (tableWork c 
 -- a word each for a line's 1-lanes and 0-lanes, good and faulty, of 64 patterns
 abbrev pub DictionaryLanesEntered : List ℕ → List ℕ → List ℕ → List ℕ → List ℕ → List ℕ → ℕ → List ℕ → List ℕ → List ℕ → Type 0
 DictionaryLanesEntered c fs ps t w a r t′ w′ a′ = EngineEntered 4 (laneWork c (linesOf c) (inputsOf c) fs ps) c fs ps t w a r t′ w′ a′
-
--- a part with one lent memory, and its answer in numbers where none of the rules refuses: the memory m, lent with the answer area a, becomes
--- m′, which is to hold `new`
-pub record LentEntered {A : Type 0} (rules : List Rule) (good : Numbers) (m new : List A) (a : List ℕ) (r : ℕ) (m′ : List A) (a′ : List ℕ) : Type 0 where
-  pub answer : Entered a (told (refusal rules) good) r a′
-  pub lent : m′ ≡ entered a m (unless (refusal rules) m new)
 
 -- the compactor: done; the marks m
 abbrev pub CompactEntered : ℕ → ℕ → List ℕ → List ℕ → List ℕ → ℕ → List ℕ → List ℕ → Type 0

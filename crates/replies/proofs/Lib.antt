@@ -1,1 +1,3 @@
 pub mod Entered
+pub mod Lent
+pub mod Made

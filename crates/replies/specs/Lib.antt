@@ -1,1 +1,2 @@
 pub mod Replies
+pub mod Entered

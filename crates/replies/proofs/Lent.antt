@@ -1,6 +1,6 @@
 -- What an entry owes whose part has one lent memory, whatever the part.
 -- Assumes nothing.
-use mathlib.Core.Path.{_≡_}
+use mathlib.Core.Path.{_≡_, sym, _∙_}
 use mathlib.Core.Bool.{true, false}
 use mathlib.Core.List.{List}
 use Prim.Native.Nat.{ℕ}
@@ -8,8 +8,8 @@ use lib.Dec.{eqb}
 use lib.ListN.{length}
 use Rattle.answers.specs.Rules.{Rule, refusal, unless}
 use Rattle.answers.specs.Area.{Numbers, told, Entered}
-use Rattle.replies.proofs.Entered.{other-size, stays, reported, becomes}
-use Rattle.entries.specs.Entries.{LentEntered}
+use Rattle.replies.proofs.Entered.{other-size, stays, reported, becomes, one-return}
+use Rattle.replies.specs.Entered.{LentEntered}
 
 module _ {A : Type 0} {rules : List Rule} {good : Numbers} {m new : List A} {a : List ℕ} where
   -- an area of another size
@@ -25,3 +25,8 @@ module _ {A : Type 0} {rules : List Rule} {good : Numbers} {m new : List A} {a :
       → m′ ≡ unless (refusal rules) m new
       → LentEntered rules good m new a r m′ a′
   lent-reported right p replied numbers lent = record { answer = reported p replied numbers; lent = becomes _ right lent }
+
+-- the promise allows one result only
+module _ {A : Type 0} {rules : List Rule} {good : Numbers} {m new : List A} {a : List ℕ} {r s : ℕ} {m₁ m₂ : List A} {a₁ a₂ : List ℕ} where
+  pub one-lent : LentEntered rules good m new a r m₁ a₁ → LentEntered rules good m new a s m₂ a₂ → (r ≡ s) × (m₁ ≡ m₂) × (a₁ ≡ a₂)
+  one-lent p q = let o = one-return (p .answer) (q .answer) in (o .0, p .lent ∙ sym (q .lent), o .1)
