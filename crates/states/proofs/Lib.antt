@@ -1,1 +1,4 @@
 pub mod Records
+pub mod Says
+pub mod Seen
+pub mod Steps
