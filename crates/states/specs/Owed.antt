@@ -14,7 +14,7 @@ use Rattle.circuit.specs.Record.{linesOf}
 use Rattle.states.specs.declared.Clocked.{Clocked}
 use Rattle.states.specs.declared.Clocked.the-variants.{Accepted, Refused}
 use Rattle.states.specs.States.{stateCount, stateLine}
-use Rattle.states.specs.Rules.{stateOk, StateLayout, inputsAfter, stepRules, clockedRules}
+use Rattle.states.specs.Rules.{stateOk, StateLayout, inputsAfter, clockedRules}
 
 -- a whole record stands at place r of these bytes
 pub record StateInside (st : List ℕ) (r : ℕ) : Type 0 where

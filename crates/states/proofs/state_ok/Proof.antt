@@ -1,11 +1,11 @@
 -- `states::state_ok` meets its contract: one answer for each part of the layout.
 -- Assumes nothing.
-use mathlib.Core.Path.{_≡_, sym, _∙_}
-use mathlib.Core.Bool.{Bool, true}
-use lib.Dec.{eqb, ltb}
+use mathlib.Core.Path.{_≡_}
+use mathlib.Core.Bool.{true}
+use lib.Dec.{ltb}
 use borrow.Author.Needs.{needs}
 use borrow.Author.Tests.{eq-eqb, ne-eqb, lt-ltb, le-ltb}
-use Rattle.circuit.specs.Record.{linesOf, isInput}
+use Rattle.circuit.specs.Record.{linesOf}
 use Rattle.states.specs.States.{dataLine, stateLine}
 use Rattle.states.specs.Rules.{stateOk}
 use Rattle.states.proofs.Seen.{not-seen}
