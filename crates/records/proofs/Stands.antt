@@ -1,4 +1,4 @@
--- What stands on a line: an input, or a gate in its place of the order; and the line's record in four numbers.
+-- What stands on a line: an input, or a gate in its place of the order; and the line's record in its numbers.
 -- Assumes nothing.
 use mathlib.Core.Path.{_≡_, refl}
 use Prim.Native.Nat.{ℕ, suc, _+_, _-_, _≤_, _<_}
@@ -17,7 +17,7 @@ module _ (net : Net) (k : ℕ) where
   unfolding netSource
   source-lacks s l = rw (lt-leb s (pinsOf (netKind net k)) l)
 
-  pub record-is : recordOn net k ≡ recordOf (netKind net k) (one (elem (net .outputs) (numberOn net k))) (netSource net k 1) (netSource net k 2)
+  pub record-is : recordOn net k ≡ recordOf (netKind net k) (one (elem (net .outputs) (numberOn net k))) (netSource net k 1) (netSource net k 2) 0
   unfolding recordOn recordOf
   record-is = refl
 

@@ -67,15 +67,16 @@ lineBy line x = choose (ltb x (length line)) (getD line x 0) (x - length line)
 unfoldable pub sourceBy : List ℕ → ℕ → ℕ → ℕ → ℕ
 sourceBy line kind pin x = choose (leb pin (pinsOf kind)) (lineBy line x) 0
 
-unfoldable pub recordOf : ℕ → ℕ → ℕ → ℕ → List ℕ
-recordOf kind flag first second = kind ∷ flag ∷ (le 2 first ++ (le 2 second ++ le 2 0))
+unfoldable pub recordOf : ℕ → ℕ → ℕ → ℕ → ℕ → List ℕ
+recordOf kind flag first second third = kind ∷ flag ∷ (le 2 first ++ (le 2 second ++ le 2 third))
 
--- of gate g
+-- of gate g; no gate of a net has a third source
 unfoldable pub gateRecord : List ℕ → List ℕ → List ℕ → List ℕ → List ℕ → ℕ → List ℕ
 gateRecord kinds firsts seconds line flag g =
     recordOf (getD kinds g 0) (getD flag g 0)
     (sourceBy line (getD kinds g 0) 1 (getD firsts g 0))
     (sourceBy line (getD kinds g 0) 2 (getD seconds g 0))
+    0
 
 -- a net's gates in their order, with lines and flags
 pub record Lined : Type 0 where
@@ -98,7 +99,7 @@ lineCount l = l .inputs + length (l .order)
 unfoldable pub recordBy : Lined → ℕ → List ℕ
 recordBy l k =
     choose (ltb k (l .inputs))
-    (recordOf 0 (getD (l .flag) (length (l .line) + k) 0) 0 0)
+    (recordOf 0 (getD (l .flag) (length (l .line) + k) 0) 0 0 0)
     (gateRecord (l .kinds) (l .firsts) (l .seconds) (l .line) (l .flag) (getD (l .order) (k - l .inputs) 0))
 
 abbrev pub recordsBy : Lined → ℕ → List ℕ

@@ -64,18 +64,26 @@ fn source(line: &[u16], kind: u8, pin: usize, number: u16) -> u16
 
 // ---- writing: each writer answers the place after what it wrote
 
-// A record; no gate of a net has a third source.
-fn put_record(records: &mut [u8], at: usize, kind: u8, flag: u8, first: u16, second: u16) -> usize
+// A record.
+pub fn put_record(
+    records: &mut [u8],
+    at: usize,
+    kind: u8,
+    flag: u8,
+    first: u16,
+    second: u16,
+    third: u16,
+) -> usize
     requires { ⌜ at + 8 ≤ length (now records) ⌝ }
-    ensures { λ r. ⌜ Put (now (records .entry)) (now (records .exit)) at (recordOf kind flag first second) r ⌝ }
+    ensures { λ r. ⌜ Put (now (records .entry)) (now (records .exit)) at (recordOf kind flag first second third) r ⌝ }
 {
     let one = put_pair(records, at, kind, flag);
     let two = put_two(records, one, first);
     let three = put_two(records, two, second);
-    put_two(records, three, 0)
+    put_two(records, three, third)
 }
 
-// The record of gate g.
+// The record of gate g; no gate of a net has a third source.
 fn put_gate(
     kinds: &[u8],
     firsts: &[u16],
@@ -93,7 +101,7 @@ fn put_gate(
     let kind = kinds[g];
     let first = source(line, kind, 1, firsts[g]);
     let second = source(line, kind, 2, seconds[g]);
-    put_record(records, at, kind, flag[g], first, second)
+    put_record(records, at, kind, flag[g], first, second, 0)
 }
 
 // The record of line k: an input has kind 0 and no source.
@@ -115,7 +123,7 @@ fn put_line(
 {
     if k < inputs {
         let number = line.len() + k;
-        return put_record(records, at, 0, flag[number], 0, 0);
+        return put_record(records, at, 0, flag[number], 0, 0, 0);
     }
     let i = k - inputs;
     let g = wide16(order[i]);
