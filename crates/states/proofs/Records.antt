@@ -7,7 +7,7 @@ use mathlib.Core.List.{List}
 use Prim.Native.Nat.{ℕ, _≤_, _<_}
 use native.Mathlib.Omega.{arith}
 use lib.Dec.{eqb}
-use borrow.Author.Tests.{eqb-true, eqb-false, ltb-true, lt-ltb, not-true, not-false}
+use borrow.Author.Tests.{eqb-true, eqb-false, ltb-true, ltb-false, lt-ltb, not-true, not-false}
 use Rattle.ground.proofs.First.{first-cases}
 use Rattle.ground.proofs.Tests.{either}
 use Rattle.answers.specs.Rules.{Same}
@@ -41,6 +41,13 @@ module _ (st : List ℕ) (m : ℕ) where
     where
       distinct : not (eqb (stateLine st r) m) ≡ true → ⊥
       distinct e = eqb-false _ _ (not-true _ e) is
+
+  -- the others have none
+  pub no-record : isState st m ≡ false → stateRecord st m ≡ stateCount st
+  unfolding isState stateRecord
+  no-record e =
+      ⊎-elim (λ l. absurd (omega (arith, ltb-false (stateRecord st m) (stateCount st) e, l .inside))) (λ a. a .0)
+      (first-cases (stateCount st) (λ r. not (eqb (stateLine st r) m)))
 
   -- a line is a state line exactly if it is that of a record
   pub state-same : Same (isState st m) ((r : ℕ) × (r < stateCount st) × (stateLine st r ≡ m))

@@ -1,0 +1,3 @@
+pub mod Promise
+pub mod Words
+pub mod Owed
