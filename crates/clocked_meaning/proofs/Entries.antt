@@ -1,7 +1,6 @@
 -- Fail, pass and unknown over several steps in the Boolean meaning: of any pattern and fault of an accepted clocked circuit, and of the table's bytes.
 -- Assumes nothing.
 use mathlib.Core.Path.{_≡_, sym, ap, _∙_}
-use mathlib.Core.Bool.{Bool}
 use mathlib.Core.List.{List}
 use Prim.Native.Nat.{ℕ, _+_, _*_, _<_}
 use native.Mathlib.Omega.{arith}
@@ -10,7 +9,6 @@ use Rattle.ground.specs.Choose.{one}
 use Rattle.ground.proofs.Tests.{one-same}
 use Rattle.answers.specs.declared.Ruling.the-variants.{Fine}
 use Rattle.answers.specs.Rules.{refusal}
-use Rattle.gates.specs.Gate.{Refines}
 use Rattle.circuit.specs.Record.{linesOf}
 use Rattle.circuit.specs.Promise.{circuitRules}
 use Rattle.circuit.specs.Formed.{WellFormed, Good}
@@ -18,7 +16,7 @@ use Rattle.circuit.proofs.Accepted.{good}
 use Rattle.lists.specs.Faults.{faultCount, faultAt, FaultLayout}
 use Rattle.lists.specs.Patterns.{patternCount, patternAt}
 use Rattle.lists.proofs.Patterns.{pattern-whole}
-use Rattle.simulate.specs.Simulate.{unforced, stuckAt}
+use Rattle.simulate.specs.Simulate.{unforced, stuckAt, valuesTo}
 use Rattle.simulate.specs.Boolean.{Vector}
 use Rattle.simulate.specs.Vectors.{NoX, Fills}
 use Rattle.simulate.specs.Work.{goodOf}
@@ -36,53 +34,44 @@ use Rattle.unfolded.specs.Unfolded.{unfolded}
 use Rattle.unfolded.proofs.Accepted.{unfolded-formed}
 use Rattle.clocked.proofs.EveryStep.{good-filled, faulty-filled}
 use Rattle.unfold_dictionary.specs.Promise.{inEveryStep, stepsTable, StepsDictionary}
-use Rattle.unfold_dictionary.specs.Words.{valuesIn}
+use Rattle.unfold_dictionary.specs.Words.{LookedAt, valuesIn, ThereHolds}
 use Rattle.unfold_dictionary.proofs.Checked.{steps-taken}
 use Rattle.unfold_dictionary.proofs.Entries.{good-there, fail-looked, pass-looked}
 use Rattle.unfold_dictionary.proofs.Says.{layout, small, made-by-rows}
-use Rattle.clocked_meaning.specs.Entries.{DetectsInSteps, ExposesInSteps, ClearsInSteps, StepsMean}
+use Rattle.clocked_meaning.specs.Entries.{EqualThere, DetectsInSteps, ExposesInSteps, ClearsInSteps, StepsMean}
 
--- values that are known are so in the truths s and t of a filling
-module _ {a b : ℕ} {s t : Bool} (first : Refines a (one s)) (second : Refines b (one t)) where
-  truths-differ : Differ a b → s ≡ t → ⊥
-  truths-differ d q = d .differ (sym (first (d .good-known)) ∙ ap one q ∙ second (d .faulty-known))
-
-  truths-agree : Agree a b → s ≡ t
-  truths-agree h = one-same s t (first (h .good-known) ∙ h .equal ∙ sym (second (h .faulty-known)))
-
-module _
-    {c st : List ℕ}
-    {k : ℕ}
-    (fine : refusal (circuitRules c) ≡ Fine)
-    (steps : GoodSteps c st k)
-    (fs : List ℕ)
-    (j : ℕ)
-    (keeps : FaultLayout c fs j)
-    (p : List ℕ)
-    (three : AllSmall p)
-    (long : length p ≡ inputsAfter c st k) where
-  abbrev entry : ℕ
-  entry = entryUnder (inEveryStep c (faultAt fs j)) (unfolded c st k) p (linesAfter c k)
-
+module _ {c st : List ℕ} {k : ℕ} (fine : refusal (circuitRules c) ≡ Fine) (steps : GoodSteps c st k) (fs : List ℕ) (j : ℕ) (keeps : FaultLayout c fs j) (p : List ℕ)
+    (three : AllSmall p) (long : length p ≡ inputsAfter c st k) where
   accepted : Good c
   accepted = good c fine
+
+  -- what the values of a line in a step say of the truths there, under every filling of the pattern's X's
+  module _ (x : Vector) (fills : Fills p x) (i m : ℕ) (w : LookedAt c st k i m) where
+    differ-there : ThereHolds Differ (faultAt fs j) c st p i m → EqualThere c st (faultAt fs j) x i m → ⊥
+    differ-there d q =
+        d .differ
+        (sym (good-filled accepted steps p three long x fills i m (w .step) (w .line) (d .good-known))
+        ∙ ap one q
+        ∙ faulty-filled accepted steps p three long x fills i m (w .step) (w .line) fs j keeps (d .faulty-known))
+
+    agree-there : ThereHolds Agree (faultAt fs j) c st p i m → EqualThere c st (faultAt fs j) x i m
+    agree-there h =
+        one-same _ _
+        (good-filled accepted steps p three long x fills i m (w .step) (w .line) (h .good-known)
+        ∙ h .equal
+        ∙ sym (faulty-filled accepted steps p three long x fills i m (w .step) (w .line) fs j keeps (h .faulty-known)))
+
+  abbrev entry : ℕ
+  entry = entryUnder (inEveryStep c (faultAt fs j)) (unfolded c st k) p (linesAfter c k)
 
   exposes-is : entry ≡ fail → ExposesInSteps c st (faultAt fs j) k p
   exposes-is e =
       let w = fail-looked accepted steps p three fs j keeps e in
-      let i = w .0 in
-      let m = w .1 in
-      let looked = w .2 in
-      let d = w .3 in
       record {
-        step = i;
-        line = m;
-        compared = record { looked = looked; known = d .good-known };
-        differ = λ x fills.
-            truths-differ
-            (good-filled accepted steps p three long x fills i m (looked .step) (looked .line))
-            (faulty-filled accepted steps p three long x fills i m (looked .step) (looked .line) fs j keeps)
-            d;
+        step = w .0;
+        line = w .1;
+        compared = record { looked = w .2; known = w .3 .good-known };
+        differ = λ x fills. differ-there x fills (w .0) (w .1) (w .2) (w .3);
       }
 
   each : entry ≡ fail → (x : Vector) → Fills p x → DetectsInSteps c st (faultAt fs j) k x
@@ -91,28 +80,23 @@ module _
       record { step = s .step; line = s .line; looked = s .compared .looked; differ = s .differ x fills }
 
   clears-is : entry ≡ pass → ClearsInSteps c st (faultAt fs j) k p
-  clears-is e x fills i m h =
-      truths-agree
-      (good-filled accepted steps p three long x fills i m (h .looked .step) (h .looked .line))
-      (faulty-filled accepted steps p three long x fills i m (h .looked .step) (h .looked .line) fs j keeps)
-      (pass-looked accepted steps p three fs j keeps e i m (h .looked) (h .known))
+  clears-is e x fills i m h = agree-there x fills i m (h .looked) (pass-looked accepted steps p three fs j keeps e i m (h .looked) (h .known))
 
+  -- without X every value is known
   formed : WellFormed (unfolded c st k) (length p) (linesAfter c k)
   formed = rw long (unfolded-formed fine steps)
 
-  -- without X every value is known
   good-known : NoX p → (q : ℕ) → getD (goodOf (unfolded c st k) p (linesAfter c k)) q 0 < 2
   good-known = values-known unforced (unforced-keeps 2) (unfolded c st k) p (linesAfter c k) formed
 
+  faulty-known : NoX p → (q : ℕ) → getD (valuesTo (inEveryStep c (faultAt fs j)) (unfolded c st k) p (linesAfter c k)) q 0 < 2
+  faulty-known =
+      let kept = stuck-keeps 2 (faultAt fs j) (omega (arith, keeps .value)) in
+      values-known (inEveryStep c (faultAt fs j)) (steps-keep 2 (linesOf c) (stuckAt (faultAt fs j)) kept) (unfolded c st k) p (linesAfter c k) formed
+
   decided-is : NoX p → entry ≡ unknown → ⊥
   unfolding entryUnder
-  decided-is full =
-      known-decided expected-passes (unfolded c st k) _ _ (linesAfter c k)
-      (λ q _ _. (
-        good-known full q,
-        values-known (inEveryStep c (faultAt fs j)) (steps-keep 2 (linesOf c) (stuckAt (faultAt fs j)) (stuck-keeps 2 (faultAt fs j) (omega (arith, keeps .value))))
-        (unfolded c st k) p (linesAfter c k) formed full q,
-      ))
+  decided-is full = known-decided expected-passes (unfolded c st k) _ _ (linesAfter c k) (λ q _ _. (good-known full q, faulty-known full q))
 
   -- so every line that is looked at is compared
   none : NoX p → entry ≡ pass → (x : Vector) → Fills p x → DetectsInSteps c st (faultAt fs j) k x → ⊥
@@ -122,7 +106,7 @@ module _
       d .differ (clears-is e x fills (d .step) (d .line) (record { looked = d .looked; known = known }))
 
   -- of an accepted clocked circuit, a fault in its layout, and any pattern of the inputs after unfolding
-  pub entry-mean : StepsMean (entryUnder (inEveryStep c (faultAt fs j)) (unfolded c st k) p (linesAfter c k)) c st (faultAt fs j) k p
+  pub entry-mean : StepsMean entry c st (faultAt fs j) k p
   entry-mean = record {
     each-detects = each;
     exposes = exposes-is;

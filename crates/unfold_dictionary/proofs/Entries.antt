@@ -8,9 +8,9 @@ use lib.ListN.{getD}
 use Rattle.circuit.specs.Record.{linesOf, outAt}
 use Rattle.circuit.specs.Formed.{Good}
 use Rattle.lists.specs.Faults.{FaultLayout, faultAt}
-use Rattle.simulate.specs.Simulate.{unforced, stuckAt, inSteps, stuckInSteps, valuesTo}
+use Rattle.simulate.specs.Simulate.{unforced, stuckAt, inSteps, valuesTo}
 use Rattle.simulate.specs.Work.{goodOf}
-use Rattle.simulate.specs.Owed.{AllSmall, ThreeValued}
+use Rattle.simulate.specs.Owed.{AllSmall}
 use Rattle.simulate.proofs.Keeps.{unforced-keeps, stuck-keeps}
 use Rattle.tables.specs.Entries.{pass, fail}
 use Rattle.entry.specs.Entry.{entryUnder}
