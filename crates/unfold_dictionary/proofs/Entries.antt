@@ -8,13 +8,14 @@ use lib.ListN.{getD}
 use Rattle.circuit.specs.Record.{linesOf, outAt}
 use Rattle.circuit.specs.Formed.{Good}
 use Rattle.lists.specs.Faults.{FaultLayout, faultAt}
-use Rattle.simulate.specs.Simulate.{unforced, stuckAt, inSteps, stuckInSteps, valuesTo}
+use Rattle.simulate.specs.Simulate.{unforced, stuckAt, inSteps, valuesTo}
 use Rattle.simulate.specs.Work.{goodOf}
-use Rattle.simulate.specs.Owed.{AllSmall, ThreeValued}
+use Rattle.simulate.specs.Owed.{AllSmall}
 use Rattle.simulate.proofs.Keeps.{unforced-keeps, stuck-keeps}
+use Rattle.tables.specs.Entries.{pass, fail}
 use Rattle.entry.specs.Entry.{entryUnder}
 use Rattle.entry.specs.Words.{Differ, AsExpected, AtOutput, SomeOutput, EveryOutput, Chosen}
-use Rattle.entry.proofs.Words.{entry-says, says-entry}
+use Rattle.entry.proofs.Words.{expected-passes, fail-some, pass-every, entry-says, says-entry}
 use Rattle.states.specs.Rules.{linesAfter, GoodSteps}
 use Rattle.unfolded.specs.Unfolded.{unfolded}
 use Rattle.unfolded.proofs.Steps.{line-inside, by-steps}
@@ -100,3 +101,12 @@ module _ {c st : List ℕ} {k : ℕ} (good : Good c) (steps : GoodSteps c st k) 
     one-entry w =
         says-entry u (goodOf u p (linesAfter c k)) forced (linesAfter c k)
         (chosen-by (some-looked Differ) (looked-some Differ) (every-looked AsExpected) (looked-every AsExpected) w)
+
+    -- and read backwards
+    pub fail-looked : entry ≡ fail → (i m : ℕ) × LookedAt c st k i m × There Differ i m
+    unfolding entryUnder
+    fail-looked e = some-looked Differ (fail-some expected-passes u (goodOf u p (linesAfter c k)) forced (linesAfter c k) e)
+
+    pub pass-looked : entry ≡ pass → (i m : ℕ) → LookedAt c st k i m → There AsExpected i m
+    unfolding entryUnder
+    pass-looked e = every-looked AsExpected (pass-every expected-passes u (goodOf u p (linesAfter c k)) forced (linesAfter c k) e)

@@ -27,13 +27,13 @@ use Rattle.unfold_dictionary.proofs.Checked.{StepsTaken, steps-say, ste
 use Rattle.unfold_dictionary.proofs.Entries.{steps-entry, one-entry}
 
 module _ {c st : List ℕ} {k : ℕ} {fs ps : List ℕ} {table work : ℕ} (t : StepsTaken c st k fs ps table work) where
-  layout : (j : ℕ) → j < faultCount fs → FaultLayout c fs j
+  pub layout : (j : ℕ) → j < faultCount fs → FaultLayout c fs j
   layout = t .rest .faults .faults
 
-  small : (i : ℕ) → AllSmall (patternAt (inputsAfter c st k) ps i)
+  pub small : (i : ℕ) → AllSmall (patternAt (inputsAfter c st k) ps i)
   small i = part-small ps (inputsAfter c st k) (i * inputsAfter c st k) (all-small ps (t .rest .patterns .bytes))
 
-  made-by-rows : MadeUnder (inEveryStep c) (unfolded c st k) (linesAfter c k) (inputsAfter c st k) fs ps (stepsTable c st k fs ps)
+  pub made-by-rows : MadeUnder (inEveryStep c) (unfolded c st k) (linesAfter c k) (inputsAfter c st k) fs ps (stepsTable c st k fs ps)
   made-by-rows = made (inEveryStep c) (unfolded c st k) (linesAfter c k) (inputsAfter c st k) fs ps
 
   -- the table is the one that the words ask for
