@@ -18,7 +18,7 @@ module _ {rules : List Rule} {made left t w a : List ℕ} where
   nothing-made other = record { answer = other-size _ other; table = stays _ other; work = stays _ other }
 
   -- the answer of the part, in numbers, reported
-  pub made-reported : {v : Ruling} {reply : Numbers} {r : ℕ} {t′ w′ a′ : List ℕ}
+  pub made-reported : (v : Ruling) {reply : Numbers} {r : ℕ} {t′ w′ a′ : List ℕ}
       → eqb (length a) 32 ≡ true
       → Entered a reply r a′
       → reply ≡ told v done
@@ -26,7 +26,7 @@ module _ {rules : List Rule} {made left t w a : List ℕ} where
       → t′ ≡ unless (refusal rules) t made
       → w′ ≡ unless (refusal rules) w left
       → MadeEntered rules made left t w a r t′ w′ a′
-  made-reported right p replied numbers table work = record {
+  made-reported v right p replied numbers table work = record {
     answer = reported p replied numbers;
     table = becomes _ right table;
     work = becomes _ right work;
