@@ -66,7 +66,13 @@ fn entries_from(circuit: &[u8], work: &[u64], n: usize, start: usize) -> EntryLa
 
 // The entries of a group of patterns and a fault that is in each step of so many lines, where the first half of the work memory has the good
 // lines; the second gets the faulty ones. Below the fault's line in the first step no output differs, so these are not looked at.
-pub fn fault_entries(circuit: &[u8], fault: Fault, step: usize, work: &mut [u64], n: usize) -> EntryLanes
+pub fn fault_entries(
+    circuit: &[u8],
+    fault: Fault,
+    step: usize,
+    work: &mut [u64],
+    n: usize,
+) -> EntryLanes
     requires { ⌜ FaultyWordsReady (now circuit) fault step n (length (now work)) ⌝ }
     ensures { λ r. ⌜ FaultEntriesDone (stuckInSteps step fault) (now (circuit .entry)) n (now (work .entry)) (now (work .exit)) r ⌝ }
 {

@@ -23,9 +23,11 @@ cells c = entries-fit (entry c .pre .0) (entry c .pre .2)
 
 fill-group-requires : tie.Need-fill-group-requires
 fill-group-requires c κs =
-    let s = c .before .before .before .before .before .before .before .before in
-    (group-ready (s .args .circuit .now) (s .args .n) (s .args .inputs) (s .args .faults .now) (s .args .patterns .now) (s .args .table .now)
-    (s .args .from) (s .args .rows) (s .pre .0) (s .pre .2), s .pre .1)
+    let s = c .before .before .before .before .before .before .before .before in (
+      group-ready (s .args .circuit .now) (s .args .n) (s .args .inputs) (s .args .faults .now) (s .args .patterns .now) (s .args .table .now)
+          (s .args .from) (s .args .rows) (s .pre .0) (s .pre .2),
+      s .pre .1,
+    )
 
 returns : tie.Need-returns
 returns c =
