@@ -14,7 +14,7 @@ use Rattle.simulate.specs.Work.{goodOf, faultyOf}
 use Rattle.rows.specs.Table.{lastFault}
 use Rattle.lane_lines.specs.Lines.{lineWords}
 use Rattle.lane_lines.proofs.Words.{words-long, words-ones, words-zeros, words-are}
-use Rattle.groups.specs.Work.{laneWork}
+use Rattle.groups.specs.Work.{laneWorkUnder, laneWork}
 use Rattle.dictionary_lanes.specs.Words.{lastLane, LineBits, LeftWords}
 use Rattle.dictionary_lanes.proofs.Lanes.{last-lane}
 
@@ -48,7 +48,7 @@ module _ (c : List ℕ) (n : ℕ) {m : ℕ} (fs ps : List ℕ) (some : 1 ≤ m) 
   faulties = lineWords (λ i. faultyOf (lastFault fs) c (lastLane m ps i) n) n
 
   work-is : laneWork c n m fs ps ≡ goods ++ faulties
-  unfolding laneWork goods faulties
+  unfolding laneWorkUnder goods faulties
   work-is =
       ap (λ (p : ℕ → List ℕ). lineWords (λ i. goodOf c (p i) n) n ++ lineWords (λ i. faultyOf (lastFault fs) c (p i) n) n)
       (fun-ext (last-lane ps some records))

@@ -13,8 +13,8 @@ use Rattle.lists.specs.Patterns.{patternCount, patternAt}
 use Rattle.lists.proofs.Patterns.{part-fits}
 use Rattle.lists.proofs.Parts.{lent, back, width-is, lent-long}
 use Rattle.simulate.proofs.Small.{part-small}
-use Rattle.lane_lines.specs.Lines.{bothWords}
-use Rattle.rows.specs.Table.{lastFault}
+use Rattle.lane_lines.specs.Lines.{bothWordsUnder}
+use Rattle.rows.specs.Table.{Forces, lastFault}
 use Rattle.rows.specs.Owed.{TableReady}
 use Rattle.groups.specs.Owed.{GroupDone, patternsFrom, Next, PutGroupDone}
 
@@ -89,10 +89,10 @@ module _ (c : List ℕ) (n m : ℕ) (fs ps t : List ℕ) (from rows : ℕ) where
         room = r .room;
       })
 
-  pub put : (u w′ : List ℕ) → GroupDone c n m fs (lent (from * m) (rows * m) ps) u w′
-      → PutGroupDone c n m fs ps from rows t (back (from * faultCount fs) (rows * faultCount fs) t u) w′
-  put u w′ d = record {
+  pub put : (forces : Forces) (u w′ : List ℕ) → GroupDone forces c n m fs (lent (from * m) (rows * m) ps) u w′
+      → PutGroupDone forces c n m fs ps from rows t (back (from * faultCount fs) (rows * faultCount fs) t u) w′
+  put forces u w′ d = record {
     table-is =
         rw (d .table-is, lent-patterns, width-is (from * faultCount fs) (rows * faultCount fs), drop-drop (rows * faultCount fs) (from * faultCount fs) t);
-    work-is = d .work-is ∙ ap (λ (x : List ℕ). bothWords (lastFault fs) c m x n) lent-patterns;
+    work-is = d .work-is ∙ ap (λ (x : List ℕ). bothWordsUnder (forces (lastFault fs)) c m x n) lent-patterns;
   }

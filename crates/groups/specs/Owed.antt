@@ -5,14 +5,14 @@ use mathlib.Core.List.{List, _++_}
 use Prim.Native.Nat.{ℕ, _+_, _*_, _≤_, _<_}
 use lib.ListN.{take, drop}
 use Rattle.lists.specs.Faults.{faultCount}
-use Rattle.lane_lines.specs.Lines.{bothWords}
-use Rattle.rows.specs.Table.{tableOf, lastFault}
-use Rattle.groups.specs.Work.{laneWork}
+use Rattle.lane_lines.specs.Lines.{bothWordsUnder}
+use Rattle.rows.specs.Table.{Forces, tableUnder, lastFault}
+use Rattle.groups.specs.Work.{laneWorkUnder}
 
 -- the table of one group, and the words of all lines with the last fault
-pub record GroupDone (c : List ℕ) (n m : ℕ) (fs ps t w : List ℕ) : Type 0 where
-  pub table-is : t ≡ tableOf c n m fs ps
-  pub work-is : w ≡ bothWords (lastFault fs) c m ps n
+pub record GroupDone (forces : Forces) (c : List ℕ) (n m : ℕ) (fs ps t w : List ℕ) : Type 0 where
+  pub table-is : t ≡ tableUnder forces c n m fs ps
+  pub work-is : w ≡ bothWordsUnder (forces (lastFault fs)) c m ps n
 
 -- so many patterns from one on
 abbrev pub patternsFrom : ℕ → List ℕ → ℕ → ℕ → List ℕ
@@ -31,11 +31,11 @@ pub record GroupCount (count groups : ℕ) : Type 0 where
   pub enough : count ≤ 64 * groups
 
 -- the rows of so many patterns from one on are put into the table
-pub record PutGroupDone (c : List ℕ) (n m : ℕ) (fs ps : List ℕ) (from rows : ℕ) (t t′ w′ : List ℕ) : Type 0 where
+pub record PutGroupDone (forces : Forces) (c : List ℕ) (n m : ℕ) (fs ps : List ℕ) (from rows : ℕ) (t t′ w′ : List ℕ) : Type 0 where
   pub table-is :
-      t′ ≡ take (from * faultCount fs) t ++ (tableOf c n m fs (patternsFrom m ps from rows) ++ drop (from * faultCount fs + rows * faultCount fs) t)
-  pub work-is : w′ ≡ bothWords (lastFault fs) c m (patternsFrom m ps from rows) n
+      t′ ≡ take (from * faultCount fs) t ++ (tableUnder forces c n m fs (patternsFrom m ps from rows) ++ drop (from * faultCount fs + rows * faultCount fs) t)
+  pub work-is : w′ ≡ bothWordsUnder (forces (lastFault fs)) c m (patternsFrom m ps from rows) n
 
-pub record GroupsDone (c : List ℕ) (n m : ℕ) (fs ps t w : List ℕ) : Type 0 where
-  pub table-is : t ≡ tableOf c n m fs ps
-  pub work-is : w ≡ laneWork c n m fs ps
+pub record GroupsDone (forces : Forces) (c : List ℕ) (n m : ℕ) (fs ps t w : List ℕ) : Type 0 where
+  pub table-is : t ≡ tableUnder forces c n m fs ps
+  pub work-is : w ≡ laneWorkUnder forces c n m fs ps

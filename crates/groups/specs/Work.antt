@@ -4,8 +4,9 @@ use mathlib.Core.List.{List}
 use Prim.Native.Nat.{ℕ, _*_, _-_, _/_}
 use lib.ListN.{take, drop}
 use Rattle.lists.specs.Patterns.{patternCount}
-use Rattle.lane_lines.specs.Lines.{bothWords}
-use Rattle.rows.specs.Table.{lastFault}
+use Rattle.simulate.specs.Simulate.{stuckAt}
+use Rattle.lane_lines.specs.Lines.{bothWordsUnder}
+use Rattle.rows.specs.Table.{Forces, lastFault}
 
 -- group g: 64 patterns, or as many as are left
 abbrev pub groupAt : ℕ → List ℕ → ℕ → List ℕ
@@ -16,5 +17,9 @@ abbrev pub lastGroup : ℕ → List ℕ → List ℕ
 lastGroup m ps = groupAt m ps ((patternCount m ps - 1) / 64)
 
 -- good, then faulty lines of the last group with the last fault
-unfoldable pub laneWork : List ℕ → ℕ → ℕ → List ℕ → List ℕ → List ℕ
-laneWork c n m fs ps = bothWords (lastFault fs) c m (lastGroup m ps) n
+unfoldable pub laneWorkUnder : Forces → List ℕ → ℕ → ℕ → List ℕ → List ℕ → List ℕ
+laneWorkUnder forces c n m fs ps = bothWordsUnder (forces (lastFault fs)) c m (lastGroup m ps) n
+
+-- of the dictionary maker: each fault is a stuck site
+abbrev pub laneWork : List ℕ → ℕ → ℕ → List ℕ → List ℕ → List ℕ
+laneWork = laneWorkUnder stuckAt

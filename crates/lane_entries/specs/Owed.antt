@@ -7,11 +7,11 @@ use Prim.Native.Nat.{ℕ, suc, _*_, _<_}
 use lib.ListN.{length, getD, take}
 use Rattle.lanes.specs.declared.Lanes.{Lanes}
 use Rattle.lanes.specs.Lanes.{lanesOf, laid}
-use Rattle.lists.specs.declared.Fault.{Fault}
-use Rattle.entry.specs.Entry.{Test, differ, asExpected, someOutput, entryOf, entryAt}
+use Rattle.simulate.specs.Simulate.{Forcing}
+use Rattle.entry.specs.Entry.{Test, differ, asExpected, someOutput, entryOf, entryUnder}
 use Rattle.columns.specs.declared.EntryLanes.{EntryLanes}
 use Rattle.columns.specs.Entries.{entryLanes}
-use Rattle.lane_lines.specs.Lines.{lanePattern, lineWords, goodWords, bothWords}
+use Rattle.lane_lines.specs.Lines.{lanePattern, lineWords, goodWords, bothWordsUnder}
 use Rattle.lane_entries.specs.declared.Said.{Said}
 
 -- the values of an output are not as expected
@@ -54,11 +54,11 @@ abbrev pub EntriesFromDone : List ℕ → ℕ → List ℕ → ℕ → EntryLane
 EntriesFromDone c n w start r =
     (g f : ℕ → List ℕ) → w ≡ halvesOf g f n → SameBelow g f start → r ≡ entryLanes (λ i. entryOf c (g i) (f i) n)
 
--- the entries of a fault and a group of patterns, and the words that they were read from
-pub record EntriesRead (fault : Fault) (c : List ℕ) (m : ℕ) (ps : List ℕ) (n : ℕ) (w : List ℕ) (r : EntryLanes) : Type 0 where
-  pub entries-are : r ≡ entryLanes (λ i. entryAt fault c (lanePattern m ps i) n)
-  pub words-are : w ≡ bothWords fault c m ps n
+-- the entries of a group of patterns under a forcing, and the words that they were read from
+pub record EntriesRead (f : Forcing) (c : List ℕ) (m : ℕ) (ps : List ℕ) (n : ℕ) (w : List ℕ) (r : EntryLanes) : Type 0 where
+  pub entries-are : r ≡ entryLanes (λ i. entryUnder f c (lanePattern m ps i) n)
+  pub words-are : w ≡ bothWordsUnder f c m ps n
 
 -- where the first half of w has the good lines of a group
-abbrev pub FaultEntriesDone : Fault → List ℕ → ℕ → List ℕ → List ℕ → EntryLanes → Type 0
-FaultEntriesDone fault c n w w′ r = (m : ℕ) (ps : List ℕ) → take (2 * n) w ≡ goodWords c m ps n → EntriesRead fault c m ps n w′ r
+abbrev pub FaultEntriesDone : Forcing → List ℕ → ℕ → List ℕ → List ℕ → EntryLanes → Type 0
+FaultEntriesDone f c n w w′ r = (m : ℕ) (ps : List ℕ) → take (2 * n) w ≡ goodWords c m ps n → EntriesRead f c m ps n w′ r

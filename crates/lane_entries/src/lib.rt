@@ -7,6 +7,7 @@ use lanes::Lanes;
 use lists::Fault;
 ghost use Prim.Native.Nat.{_<_, _≤_};
 ghost use lib.ListN.{length};
+ghost use Rattle.simulate.specs.Simulate.{stuckInSteps};
 ghost use Rattle.lane_lines.specs.Owed.{FaultyWordsReady};
 ghost use Rattle.lane_entries.specs.Owed.{OutputsRoom, CompareDone, NextLineDone, EntriesFromDone, FaultEntriesDone};
 
@@ -63,12 +64,18 @@ fn entries_from(circuit: &[u8], work: &[u64], n: usize, start: usize) -> EntryLa
     }
 }
 
-// The entries of a fault and a group of patterns, where the first half of the work memory has the good lines; the second gets the faulty
-// ones. Below the fault's line no output differs, so these are not looked at.
-pub fn fault_entries(circuit: &[u8], fault: Fault, work: &mut [u64], n: usize) -> EntryLanes
-    requires { ⌜ FaultyWordsReady (now circuit) fault n (length (now work)) ⌝ }
-    ensures { λ r. ⌜ FaultEntriesDone fault (now (circuit .entry)) n (now (work .entry)) (now (work .exit)) r ⌝ }
+// The entries of a group of patterns and a fault that is in each step of so many lines, where the first half of the work memory has the good
+// lines; the second gets the faulty ones. Below the fault's line in the first step no output differs, so these are not looked at.
+pub fn fault_entries(
+    circuit: &[u8],
+    fault: Fault,
+    step: usize,
+    work: &mut [u64],
+    n: usize,
+) -> EntryLanes
+    requires { ⌜ FaultyWordsReady (now circuit) fault step n (length (now work)) ⌝ }
+    ensures { λ r. ⌜ FaultEntriesDone (stuckInSteps step fault) (now (circuit .entry)) n (now (work .entry)) (now (work .exit)) r ⌝ }
 {
-    faulty_words(circuit, fault, work, n);
+    faulty_words(circuit, fault, step, work, n);
     entries_from(circuit, work, n, fault.line)
 }

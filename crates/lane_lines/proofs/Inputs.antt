@@ -3,7 +3,7 @@
 use mathlib.Core.Path.{_≡_, refl, sym, ap, subst, _∙_}
 use mathlib.Core.Bool.{Bool, true, false}
 use mathlib.Core.List.{List}
-use Prim.Native.Nat.{ℕ, _+_, _*_, _-_, _≤_, _<_}
+use Prim.Native.Nat.{ℕ, _+_, _*_, _≤_, _<_}
 use native.Mathlib.Numerals.{add-one}
 use native.Mathlib.Omega.{arith}
 use lib.Dec.{ltb}
@@ -24,13 +24,11 @@ use Rattle.lane_inputs.specs.Owed.{inputLane}
 use Rattle.lanes.specs.declared.Lanes.{Lanes}
 use Rattle.lanes.specs.Lanes.{lanesOf, laid}
 use Rattle.lanes.proofs.Values.{laid-same}
-use Rattle.simulate.specs.Work.{goodOf}
-use Rattle.simulate.specs.Owed.{Ordered, inputOr, InputsFrom}
+use Rattle.simulate.specs.Owed.{inputOr, InputsFrom}
 use Rattle.simulate.proofs.Settled.{ordered, all-good}
 use Rattle.lane_lines.specs.Lines.{lanePattern, goodWords}
-use Rattle.lane_lines.specs.Owed.{lanesAt, PairInside, Carries, LinesReady, lineTurns, SimulateWordsDone, InputWordsDone}
+use Rattle.lane_lines.specs.Owed.{lanesAt, PairInside, Carries, LinesReady, SimulateWordsDone, InputWordsDone}
 use Rattle.lane_lines.proofs.Words.{putAt, put-long, put-here, put-other, words-are, carries-same}
-use Rattle.lane_lines.proofs.Turns.{turns-simulate, turns-long}
 
 pub lines-ready : {c : List ℕ} {m n : ℕ} → WellFormed c m n → LinesReady c n (2 * n)
 lines-ready w = record { ordered = ordered w; kinds = w .kinds; two = refl }
@@ -116,12 +114,7 @@ module _ (c : List ℕ) (m n : ℕ) (ps : List ℕ) where
       ∙ rw e
 
   -- with the inputs' lines set, all lines simulated are the good ones
-  pub good-lines-made : {w w′ : List ℕ} → WellFormed c m n → length w ≡ 2 * n → InputWordsDone c m n ps w → SimulateWordsDone c n w 0 w′ → w′ ≡ goodWords c m ps n
-  good-lines-made well long done simulated = words-are _ n (carries-same lane (simulated inputsIn (carried long done)))
-    where
-      lane : (i : ℕ) → lineTurns c (inputsIn i) 0 (n - 0) ≡ goodOf c (lanePattern m ps i) n
-      lane i =
-          let size = inputs-long i in
-          let ready : Ordered c (length (inputsIn i)) = rw size (ordered well) in
-          all-good c (lanePattern m ps i) tt (turns-long c (inputsIn i) 0 n ready (omega arith) (omega arith) ∙ size) (inputs-from i)
-          (turns-simulate c (inputsIn i) 0 n ready (omega arith) (omega arith))
+  pub good-lines-made : {w w′ : List ℕ} → length w ≡ 2 * n → InputWordsDone c m n ps w → SimulateWordsDone c n w 0 n w′ → w′ ≡ goodWords c m ps n
+  good-lines-made long done simulated =
+      let made = simulated inputsIn (carried long done) in
+      words-are _ n (carries-same (λ i. all-good c (lanePattern m ps i) tt (made .carries .values i) (inputs-from i) (made .each i)) (made .carries))

@@ -3,3 +3,4 @@ pub mod Line
 pub mod Turns
 pub mod Inputs
 pub mod Faults
+pub mod Steps

@@ -10,7 +10,7 @@ use Rattle.gates.specs.Gate.{X}
 use Rattle.lanes.specs.Lanes.{onesOf, zerosOf}
 use Rattle.lists.specs.declared.Fault.{Fault}
 use Rattle.lists.specs.Patterns.{patternCount, patternAt}
-use Rattle.simulate.specs.Work.{goodOf, faultyOf}
+use Rattle.simulate.specs.Simulate.{Forcing, unforced, stuckAt, valuesTo}
 
 -- lane i has pattern i of the group; a lane to spare carries a pattern of all X
 unfoldable pub lanePattern : ℕ → List ℕ → ℕ → List ℕ
@@ -20,12 +20,17 @@ lanePattern m ps i = choose (ltb i (patternCount m ps)) (patternAt m ps i) (repl
 abbrev pub lineWords : (ℕ → List ℕ) → ℕ → List ℕ
 lineWords vs n = gather (λ k. onesOf (λ i. getD (vs i) k 0) ∷ zerosOf (λ i. getD (vs i) k 0) ∷ []) n
 
+-- where something is forced in the circuit, in every lane
+abbrev pub forcedWords : Forcing → List ℕ → ℕ → List ℕ → ℕ → List ℕ
+forcedWords f c m ps n = lineWords (λ i. valuesTo f c (lanePattern m ps i) n) n
+
 abbrev pub goodWords : List ℕ → ℕ → List ℕ → ℕ → List ℕ
-goodWords c m ps n = lineWords (λ i. goodOf c (lanePattern m ps i) n) n
+goodWords = forcedWords unforced
 
-abbrev pub faultyWords : Fault → List ℕ → ℕ → List ℕ → ℕ → List ℕ
-faultyWords fault c m ps n = lineWords (λ i. faultyOf fault c (lanePattern m ps i) n) n
+-- good lines, then those of the circuit in which something is forced
+abbrev pub bothWordsUnder : Forcing → List ℕ → ℕ → List ℕ → ℕ → List ℕ
+bothWordsUnder f c m ps n = goodWords c m ps n ++ forcedWords f c m ps n
 
--- good lines, then faulty
+-- a fault
 abbrev pub bothWords : Fault → List ℕ → ℕ → List ℕ → ℕ → List ℕ
-bothWords fault c m ps n = goodWords c m ps n ++ faultyWords fault c m ps n
+bothWords fault = bothWordsUnder (stuckAt fault)

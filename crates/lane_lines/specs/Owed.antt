@@ -2,8 +2,8 @@
 -- Assumes nothing.
 use mathlib.Core.Path.{_≡_}
 use mathlib.Core.List.{List}
-use Prim.Native.Nat.{ℕ, zero, suc, _+_, _*_, _-_, _≤_, _<_}
-use lib.ListN.{length, getD, set, take}
+use Prim.Native.Nat.{ℕ, _+_, _*_, _≤_, _<_}
+use lib.ListN.{length, getD, take}
 use Rattle.gates.specs.Gate.{lastKind}
 use Rattle.circuit.specs.Record.{kindAt, inputsBefore}
 use Rattle.circuit.specs.Formed.{WellFormed}
@@ -11,10 +11,9 @@ use Rattle.lane_inputs.specs.Owed.{GroupReady}
 use Rattle.lanes.specs.declared.Lanes.{Lanes}
 use Rattle.lanes.specs.Lanes.{laid}
 use Rattle.lists.specs.declared.Fault.{Fault}
-use Rattle.simulate.specs.Simulate.{Forcing, unforced}
-use Rattle.simulate.specs.Work.{goodOf, faultyOf}
-use Rattle.simulate.specs.Owed.{Ordered, inputOr, lineIn}
-use Rattle.lane_lines.specs.Lines.{lanePattern, lineWords, goodWords, bothWords}
+use Rattle.simulate.specs.Simulate.{Forcing}
+use Rattle.simulate.specs.Owed.{Ordered, StepsReady, inputOr, lineIn, Any, SimulateDone, SimulateFaultDone, ForcedDone}
+use Rattle.lane_lines.specs.Lines.{lanePattern, goodWords, bothWordsUnder}
 
 -- the words of line k
 abbrev pub lanesAt : List ℕ → ℕ → Lanes
@@ -44,22 +43,31 @@ LineDone f c n w k r = (vs : ℕ → List ℕ) → Carries vs n w → r ≡ laid
 
 -- ---- all lines
 
--- so many lines from start on get their values, one after the other
-abbrev pub lineTurns : List ℕ → List ℕ → ℕ → ℕ → List ℕ
-lineTurns c vs start zero = vs
-lineTurns c vs start (suc j) = set (lineTurns c vs start j) (start + j) (lineIn unforced c (lineTurns c vs start j) (start + j))
+-- w has in every lane values that became of those before as R says
+pub record Became (R : List ℕ → List ℕ → Type 0) (vs : ℕ → List ℕ) (n : ℕ) (w : List ℕ) : Type 0 where
+  pub lane : ℕ → List ℕ
+  pub carries : Carries lane n w
+  pub each : (i : ℕ) → R (vs i) (lane i)
 
--- in every lane
-abbrev pub SimulateWordsDone : List ℕ → ℕ → List ℕ → ℕ → List ℕ → Type 0
-SimulateWordsDone c n w start w′ = (vs : ℕ → List ℕ) → Carries vs n w → Carries (λ i. lineTurns c (vs i) start (n - start)) n w′
+-- what w has in a lane became what w′ has there
+abbrev pub EachLane : (List ℕ → List ℕ → Type 0) → ℕ → List ℕ → List ℕ → Type 0
+EachLane R n w w′ = (vs : ℕ → List ℕ) → Carries vs n w → Became R vs n w′
+
+-- in each lane the simulation of the lines from start to end
+abbrev pub SimulateWordsDone : List ℕ → ℕ → List ℕ → ℕ → ℕ → List ℕ → Type 0
+SimulateWordsDone c n w start end w′ = EachLane (λ vs vs′. SimulateDone Any c vs start end vs′) n w w′
+
+-- from the fault's line on
+abbrev pub FaultLinesDone : Fault → List ℕ → ℕ → List ℕ → ℕ → List ℕ → Type 0
+FaultLinesDone fault c n w end w′ = EachLane (λ vs vs′. SimulateFaultDone Any fault c vs end vs′) n w w′
+
+-- from good values to those that the forcing f makes
+abbrev pub ForcedLinesDone : Forcing → List ℕ → ℕ → List ℕ → List ℕ → Type 0
+ForcedLinesDone f c n w w′ = EachLane (λ vs vs′. ForcedDone Any f c vs vs′) n w w′
 
 -- each input's line has its values of the patterns, every other line X
 abbrev pub InputWordsDone : List ℕ → ℕ → ℕ → List ℕ → List ℕ → Type 0
 InputWordsDone c m n ps w = (k : ℕ) → k < n → lanesAt w k ≡ laid (λ i. inputOr c (lanePattern m ps i) k (inputsBefore c k))
-
--- where w has the good lines, under whatever patterns, w′ has the faulty ones
-abbrev pub FaultLinesDone : Fault → List ℕ → ℕ → List ℕ → List ℕ → Type 0
-FaultLinesDone fault c n w w′ = (p : ℕ → List ℕ) → w ≡ lineWords (λ i. goodOf c (p i) n) n → w′ ≡ lineWords (λ i. faultyOf fault c (p i) n) n
 
 -- ---- the work memory
 
@@ -68,13 +76,13 @@ pub record GoodWordsReady (c : List ℕ) (m n : ℕ) (ps : List ℕ) (room : ℕ
   pub group : GroupReady m ps
   pub four : room ≡ 4 * n
 
-pub record FaultyWordsReady (c : List ℕ) (fault : Fault) (n room : ℕ) : Type 0 where
+-- and a fault on a line of the first step, which is stuck at 0 or 1
+pub record FaultyWordsReady (c : List ℕ) (fault : Fault) (step n room : ℕ) : Type 0 where
   pub lines : LinesReady c n (2 * n)
-  pub line : fault .line < n
+  pub steps : StepsReady fault step n
   pub value : fault .value ≤ 1
-  pub most : n ≤ 2048
   pub four : room ≡ 4 * n
 
--- where the first half of w has the good lines of a group, w′ has these and then the faulty ones
-abbrev pub FaultyWordsDone : Fault → List ℕ → ℕ → List ℕ → List ℕ → Type 0
-FaultyWordsDone fault c n w w′ = (m : ℕ) (ps : List ℕ) → take (2 * n) w ≡ goodWords c m ps n → w′ ≡ bothWords fault c m ps n
+-- where the first half of w has the good lines of a group, w′ has these and then those that the forcing f makes
+abbrev pub ForcedWordsDone : Forcing → List ℕ → ℕ → List ℕ → List ℕ → Type 0
+ForcedWordsDone f c n w w′ = (m : ℕ) (ps : List ℕ) → take (2 * n) w ≡ goodWords c m ps n → w′ ≡ bothWordsUnder f c m ps n

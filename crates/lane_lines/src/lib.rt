@@ -1,5 +1,6 @@
 // The words of all lines for a group of up to 64 patterns, a lane each: of the good circuit, and of one with a single stuck-at fault.
-// As in `simulate`, the loop over the lines knows no fault: the faulty circuit is simulated from the line after the fault's on.
+// As in `simulate`, the loop over the lines knows no fault: the faulty circuit is simulated from the line after the fault's on, and where the circuit
+// has several steps with the fault in each, from there to the fault's line in the next.
 use circuit::equal;
 use circuit::source;
 use lane_inputs::input_lanes;
@@ -7,6 +8,7 @@ use lanes::Lanes;
 use lanes::gate_lanes;
 use lanes::same_lanes;
 use lists::Fault;
+use simulate::smaller;
 ghost use mathlib.Core.Path.{_≡_};
 ghost use mathlib.Core.List.{_++_};
 ghost use Prim.Native.Nat.{_+_, _*_, _<_, _≤_};
@@ -16,10 +18,10 @@ ghost use Rattle.circuit.specs.Formed.{WellFormed};
 ghost use Rattle.lane_inputs.specs.Owed.{GroupReady};
 ghost use Rattle.lanes.specs.Lanes.{laid};
 ghost use Rattle.lanes.specs.Owed.{Lanewise};
-ghost use Rattle.simulate.specs.Simulate.{unforced, stuckAt};
-ghost use Rattle.simulate.specs.Owed.{inputOr};
+ghost use Rattle.simulate.specs.Simulate.{unforced, stuckAt, stuckInSteps};
+ghost use Rattle.simulate.specs.Owed.{EndInside, StepsReady, inputOr};
 ghost use Rattle.lane_lines.specs.Lines.{lanePattern, goodWords};
-ghost use Rattle.lane_lines.specs.Owed.{lanesAt, PairInside, LinesReady, LineDone, SimulateWordsDone, InputWordsDone, FaultLinesDone, GoodWordsReady, FaultyWordsReady, FaultyWordsDone};
+ghost use Rattle.lane_lines.specs.Owed.{lanesAt, PairInside, LinesReady, LineDone, SimulateWordsDone, InputWordsDone, FaultLinesDone, ForcedLinesDone, GoodWordsReady, FaultyWordsReady, ForcedWordsDone};
 
 // The words of line k.
 pub fn lanes_at(words: &[u64], k: usize) -> Lanes
@@ -81,13 +83,13 @@ fn line_lanes(circuit: &[u8], words: &[u64], n: usize, k: usize) -> Lanes
     gate_lanes(kind, a, b, c)
 }
 
-// Gives every line from `start` on its words.
-fn simulate_words(circuit: &[u8], words: &mut [u64], n: usize, start: usize)
-    requires { ⌜ LinesReady (now circuit) n (length (now words)) × (start ≤ n) ⌝ }
-    ensures { λ _. ⌜ SimulateWordsDone (now (circuit .entry)) n (now (words .entry)) start (now (words .exit)) ⌝ }
+// Gives every line from `start` on its words, up to the line before `end`.
+fn simulate_words(circuit: &[u8], words: &mut [u64], n: usize, start: usize, end: usize)
+    requires { ⌜ LinesReady (now circuit) n (length (now words)) × (start ≤ end) × (end ≤ n) ⌝ }
+    ensures { λ _. ⌜ SimulateWordsDone (now (circuit .entry)) n (now (words .entry)) start end (now (words .exit)) ⌝ }
 {
     let mut k = start;
-    while k < n {
+    while k < end {
         let lanes = line_lanes(circuit, words, n, k);
         put_lanes(words, k, lanes);
         k += 1;
@@ -100,7 +102,7 @@ fn good_lines(circuit: &[u8], inputs: usize, patterns: &[u8], words: &mut [u64],
     ensures { λ _. ⌜ now (words .exit) ≡ goodWords (now (circuit .entry)) inputs (now (patterns .entry)) n ⌝ }
 {
     put_input_words(circuit, patterns, inputs, words, n);
-    simulate_words(circuit, words, n, 0);
+    simulate_words(circuit, words, n, 0, n);
 }
 
 // The first half of the work memory gets the good words.
@@ -142,15 +144,33 @@ fn stuck_lanes(circuit: &[u8], fault: Fault, words: &[u64], n: usize) -> Lanes
     seen_lanes(fault, 0, gate_lanes(kind, a, b, c))
 }
 
-// Turns good words into faulty ones, from the fault's line on.
-fn fault_lines(circuit: &[u8], fault: Fault, words: &mut [u64], n: usize)
-    requires { ⌜ LinesReady (now circuit) n (length (now words)) × (fault .line < n) × (fault .value ≤ 1) ⌝ }
-    ensures { λ _. ⌜ FaultLinesDone fault (now (circuit .entry)) n (now (words .entry)) (now (words .exit)) ⌝ }
+// Gives the fault's line its words, and then the lines after it, up to the line before `end`.
+fn fault_lines(circuit: &[u8], fault: Fault, words: &mut [u64], n: usize, end: usize)
+    requires { ⌜ LinesReady (now circuit) n (length (now words)) × EndInside fault n end × (fault .value ≤ 1) ⌝ }
+    ensures { λ _. ⌜ FaultLinesDone fault (now (circuit .entry)) n (now (words .entry)) end (now (words .exit)) ⌝ }
 {
     let line = fault.line;
     let lanes = stuck_lanes(circuit, fault, words, n);
     put_lanes(words, line, lanes);
-    simulate_words(circuit, words, n, line + 1);
+    simulate_words(circuit, words, n, line + 1, end);
+}
+
+// Turns good words into faulty ones, with the fault in each step of so many lines: from its line in one to its line in the next.
+fn step_lines(circuit: &[u8], fault: Fault, step: usize, words: &mut [u64], n: usize)
+    requires { ⌜ LinesReady (now circuit) n (length (now words)) × StepsReady fault step n × (fault .value ≤ 1) ⌝ }
+    ensures { λ _. ⌜ ForcedLinesDone (stuckInSteps step fault) (now (circuit .entry)) n (now (words .entry)) (now (words .exit)) ⌝ }
+{
+    let mut line = fault.line;
+    while line < n {
+        let here = Fault {
+            line,
+            site: fault.site,
+            value: fault.value,
+        };
+        let next = line + step;
+        fault_lines(circuit, here, words, n, smaller(next, n));
+        line = next;
+    }
 }
 
 // The second half of the work memory gets what the first has.
@@ -165,12 +185,12 @@ fn copy_words(work: &mut [u64], half: usize)
     }
 }
 
-// The second half of the work memory gets the faulty words, where the first has the good ones.
-pub fn faulty_words(circuit: &[u8], fault: Fault, work: &mut [u64], n: usize)
-    requires { ⌜ FaultyWordsReady (now circuit) fault n (length (now work)) ⌝ }
-    ensures { λ _. ⌜ FaultyWordsDone fault (now (circuit .entry)) n (now (work .entry)) (now (work .exit)) ⌝ }
+// The second half of the work memory gets the faulty words, with the fault in each step of so many lines, where the first has the good ones.
+pub fn faulty_words(circuit: &[u8], fault: Fault, step: usize, work: &mut [u64], n: usize)
+    requires { ⌜ FaultyWordsReady (now circuit) fault step n (length (now work)) ⌝ }
+    ensures { λ _. ⌜ ForcedWordsDone (stuckInSteps step fault) (now (circuit .entry)) n (now (work .entry)) (now (work .exit)) ⌝ }
 {
     let half = 2 * n;
     copy_words(work, half);
-    fault_lines(circuit, fault, &mut work[half..], n);
+    step_lines(circuit, fault, step, &mut work[half..], n);
 }

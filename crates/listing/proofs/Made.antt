@@ -17,6 +17,7 @@ use Rattle.lists.specs.Faults.{faultCount}
 use Rattle.lists.specs.Patterns.{patternCount}
 use Rattle.lists.specs.Both.{listRules}
 use Rattle.lists.proofs.Both.{good-lists, lists-few}
+use Rattle.simulate.specs.Simulate.{stuckAt}
 use Rattle.rows.specs.Table.{tableOf}
 use Rattle.rows.proofs.Entries.{made}
 use Rattle.dictionary.specs.Promise.{dictionaryRestRules, dictionaryRules, Answered}
@@ -78,7 +79,7 @@ fine-sized c fs ps e =
       few-faults = faults .few;
       some-pattern = patterns .some;
       few-patterns = patterns .few;
-      product = made c (linesOf c) (inputsOf c) fs ps .size;
+      product = made stuckAt c (linesOf c) (inputsOf c) fs ps .size;
     }
 
 module _ {c fs ps t t′ : List ℕ} {r : Ruling} (made-so : MakeDone c fs ps t r t′) (is-fine : r ≡ Fine) where

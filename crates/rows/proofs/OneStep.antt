@@ -23,7 +23,7 @@ module _ (c : List ℕ) (n m : ℕ) (fs ps : List ℕ) where
   same-row : (p : List ℕ) → rowUnder (stuckInSteps n) c n fs p ≡ rowUnder stuckAt c n fs p
   same-row p = grow-same _ _ (faultCount fs) (λ k l. same-entry (faultAt fs k) c p n)
 
-  same-table : tableUnder (stuckInSteps n) c n m fs ps ≡ tableUnder stuckAt c n m fs ps
+  pub same-table : tableUnder (stuckInSteps n) c n m fs ps ≡ tableUnder stuckAt c n m fs ps
   unfolding tableUnder
   same-table = gather-same _ _ (patternCount m ps) (λ i l. same-row (patternAt m ps i))
 

@@ -14,7 +14,7 @@ use Rattle.lists.specs.declared.Fault.{Fault}
 use Rattle.simulate.specs.Simulate.{Forcing, stuckAt, inSteps, stuckInSteps, lineValue, gateValue, valuesTo}
 use Rattle.simulate.specs.Boolean.{Truths, truthsInSteps}
 use Rattle.simulate.specs.Work.{goodOf}
-use Rattle.simulate.specs.Owed.{SimulatedTo, Leaves, Keeps, ThreeValued, EndInside, Smaller, StepsReady, SimulateFaultDone, ForcedDone}
+use Rattle.simulate.specs.Owed.{SimulatedTo, Leaves, Keeps, Scope, ThreeValued, EndInside, Smaller, StepsReady, SimulateFaultDone, ForcedDone}
 use Rattle.simulate.proofs.Mono.{Monotone}
 use Rattle.simulate.proofs.Alike.{Alike}
 use Rattle.simulate.proofs.Settled.{settled-all}
@@ -75,7 +75,7 @@ module _ (fault : Fault) (step : ℕ) where
       off l s v (λ q. let at : l ≡ line + (l - line) = omega arith in
       apart line (l - line) step (omega arith) (omega arith) (ap (λ (x : ℕ). x % step) (sym at) ∙ q ∙ sym e))
 
-  below : fault .line < step → Leaves inAll 0 (fault .line)
+  pub below : fault .line < step → Leaves inAll 0 (fault .line)
   below h l s v _ b = off l s v (λ q. omega (arith, mod-eq-of-lt {n = l} {m = step} (omega arith)))
 
   -- the next end lies behind the line
@@ -87,30 +87,30 @@ module _ (fault : Fault) (step : ℕ) where
 
   -- ---- the loop: vs₀ at the start, vs when it comes to the fault's line in some step, or to the end
 
-  abbrev Settled : List ℕ → List ℕ → List ℕ → ℕ → Type 0
-  Settled c vs₀ vs end = (p : List ℕ) → ThreeValued inAll p → vs₀ ≡ goodOf c p (length vs₀) → SimulatedTo inAll c p vs end
+  abbrev Settled : Scope → List ℕ → List ℕ → List ℕ → ℕ → Type 0
+  Settled scope c vs₀ vs end = (p : List ℕ) → scope inAll p → vs₀ ≡ goodOf c p (length vs₀) → SimulatedTo inAll c p vs end
 
-  pub record SoFar (c vs₀ vs : List ℕ) (line : ℕ) : Type 0 where
+  pub record SoFar (scope : Scope) (c vs₀ vs : List ℕ) (line : ℕ) : Type 0 where
     pub on : line % step ≡ fault .line
     pub long : length vs ≡ length vs₀
-    pub here : line ≤ length vs₀ → Settled c vs₀ vs line
-    pub over : length vs₀ ≤ line → Settled c vs₀ vs (length vs₀)
+    pub here : line ≤ length vs₀ → Settled scope c vs₀ vs line
+    pub over : length vs₀ ≤ line → Settled scope c vs₀ vs (length vs₀)
 
-  pub start : (c vs : List ℕ) → StepsReady fault step (length vs) → SoFar c vs vs (fault .line)
-  start c vs r = record {
+  pub start : (scope : Scope) (c vs : List ℕ) → StepsReady fault step (length vs) → SoFar scope c vs vs (fault .line)
+  start scope c vs r = record {
     on = mod-eq-of-lt (r .line);
     long = refl;
     here = λ l p _ q. rw q (good-settled inAll c p (fault .line) (below (r .line)) (length vs) l);
     over = λ l. absurd (omega (arith, r .line, r .inside));
   }
 
-  module _ {c vs₀ vs : List ℕ} {line : ℕ} (so : SoFar c vs₀ vs line) where
+  module _ {scope : Scope} {c vs₀ vs : List ℕ} {line : ℕ} (so : SoFar scope c vs₀ vs line) where
     pub more : {vs′ : List ℕ} {end : ℕ}
         → line < length vs₀
         → Smaller (line + step) (length vs₀) end
         → length vs′ ≡ length vs
-        → SimulateFaultDone ThreeValued (onLine line) c vs end vs′
-        → SoFar c vs₀ vs′ (line + step)
+        → SimulateFaultDone scope (onLine line) c vs end vs′
+        → SoFar scope c vs₀ vs′ (line + step)
     more {vs′} {end} l small same sim = record {
       on = add-mod-right line step ∙ so .on;
       long = same ∙ so .long;
@@ -121,8 +121,8 @@ module _ (fault : Fault) (step : ℕ) where
         at-most : end ≤ line + step
         at-most = ⊎-elim (λ h. omega (arith, small .first (omega arith))) (λ h. omega (arith, small .second h)) (either (line + step) (length vs₀))
 
-        settled : Settled c vs₀ vs′ end
+        settled : Settled scope c vs₀ vs′ end
         settled p inside q = sim inAll p inside (shows line (so .on)) (leaves line end (so .on) at-most) (so .here (omega arith) p inside q)
 
-    pub finished : length vs₀ ≤ line → ForcedDone ThreeValued inAll c vs₀ vs
+    pub finished : length vs₀ ≤ line → ForcedDone scope inAll c vs₀ vs
     finished l p inside q = settled-all (so .long) (so .over l p inside q)

@@ -126,7 +126,7 @@ fn simulate_fault(circuit: &[u8], fault: Fault, values: &mut [u8], end: usize)
 }
 
 // The smaller of two numbers.
-fn smaller(a: usize, b: usize) -> usize
+pub fn smaller(a: usize, b: usize) -> usize
     ensures { λ r. ⌜ Smaller a b r ⌝ }
 {
     if a < b { a } else { b }

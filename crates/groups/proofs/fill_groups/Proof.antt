@@ -1,81 +1,15 @@
--- `groups::fill_groups` meets its contract. The invariant: the rows of the groups passed are in the table.
+-- `groups::fill_groups` meets its contract: one step of all lines.
 -- Assumes nothing.
-use native.Mathlib.Omega.{arith}
-use mathlib.Core.Path.{_≡_, refl, sym, _∙_}
-use Prim.Native.Nat.{_-_}
-use Rattle.lists.specs.Patterns.{patternCount}
-use Rattle.groups.specs.Owed.{GroupCount}
-use Rattle.groups.proofs.Groups.{SoFar, start, still, more, finished}
+use borrow.Author.Needs.{needs}
+use Rattle.groups.proofs.OneStep.{one-step-done}
 use Rattle.groups.proofs.fill_groups.Statement.{statement}
 use Rattle.groups.proofs.fill_groups.Tie as tie
 
-abbrev Inv-loop : tie.InvT-loop
-Inv-loop circuit n inputs faults patterns table₀ work₀ count groups g₀ table work g =
-    (count ≡ patternCount inputs patterns) × GroupCount (patternCount inputs patterns) groups × SoFar circuit n inputs faults patterns table work groups g
-
-abbrev μ-loop : tie.MeasureT-loop
-μ-loop circuit n inputs faults patterns table₀ work₀ count groups g₀ table work g = groups - g
-
-group-count-requires : tie.Need-group-count-requires Inv-loop μ-loop
-group-count-requires c κs = c .before .before .before .before .before .pre .patterns .few
-
-loop-holds : tie.Need-loop-holds Inv-loop μ-loop
-loop-holds c = (refl, c .group-count .ensures, start _ _ _ (c .before .before .before .before .before .before .pre))
-
--- the function's entry, from where the loop's test is reached
-abbrev entry : tie.At-loop Inv-loop μ-loop → tie.Start Inv-loop μ-loop
-entry c = c .before .before .before .before .before .before .before
-
-mul-from : tie.Need-mul-from Inv-loop μ-loop
-mul-from c =
-    let inv = c .before .loop .inv in
-    omega (arith, inv .1 .begun (c .before .loop .g) (omega arith), entry (c .before) .pre .patterns .few)
-
-group-rows-requires : tie.Need-group-rows-requires Inv-loop μ-loop
-group-rows-requires c κs =
-    let inv = c .before .loop .inv in
-    rw (inv .0) (inv .1 .begun (c .before .loop .g) (omega arith))
-
-put-group-requires : tie.Need-put-group-requires Inv-loop μ-loop
-put-group-requires c κs =
-    let turn = c .before .before .before .before in
-    let inv = turn .loop .inv in
-    (still (inv .2) (entry turn .pre), rw (inv .0) at (c .before .before .group-rows .ensures))
-
-loop-again : tie.Need-loop-again Inv-loop μ-loop
-loop-again c =
-    let put = c .before .before .before .before in
-    let rows = put .before .before .before in
-    let turn = rows .before .before in
-    let inv = turn .loop .inv in
-    (inv .0, inv .1, more (inv .2) (still (inv .2) (entry turn .pre)) (omega arith) (inv .1) (rw (inv .0) at (rows .group-rows .ensures)) (put .put-group .ensures))
-
-same-length : tie.Need-same-length Inv-loop μ-loop
-same-length c = c .before .loop .inv .2 .long ∙ sym (entry (c .before) .pre .entries)
-
-same-length-2 : tie.Need-same-length-2 Inv-loop μ-loop
-same-length-2 c = c .before .loop .inv .2 .room ∙ sym (entry (c .before) .pre .room)
-
-returns : tie.Need-returns Inv-loop μ-loop
+returns : tie.Need-returns
 returns c =
-    let inv = c .before .loop .inv in
-    finished (inv .2) (omega arith) (entry (c .before) .pre .patterns .some) (inv .1)
+    let called = c .before .before .before .before in
+    let s = called .before .before .before .before .before .before .before .before in
+    one-step-done (s .args .circuit .now) (s .args .n) (s .args .inputs) (s .args .faults .now) (s .args .patterns .now) (called .fill-groups-in-steps .ensures)
 
 pub fill-groups-spec : {M : Type 1} → statement M
-fill-groups-spec =
-    tie.close
-    (tie.spec
-    Inv-loop
-    μ-loop
-    (λ c. omega arith)
-    group-count-requires
-    loop-holds
-    mul-from
-    group-rows-requires
-    put-group-requires
-    (λ c. omega arith)
-    (λ c. omega arith)
-    loop-again
-    same-length
-    same-length-2
-    returns)
+fill-groups-spec = tie.close (tie.spec (λ c κs. search needs) (λ c. search needs) (λ c. search needs) returns)

@@ -9,8 +9,8 @@ returns : tie.Need-returns
 returns c =
     let s = c .before .before .before .before .before .before .before .before in
     let words = c .before .before .before .before .faulty-words in
-    entries-made (s .args .fault) (s .args .circuit .now) (s .args .n) (s .pre .line) (s .args .work .now) (words .last .1 .1 .0) (words .ensures)
-    (c .entries-from .ensures)
+    entries-made (s .args .fault) (s .args .step) (s .args .circuit .now) (s .args .n) (s .pre .steps) (s .args .work .now) (words .last .1 .1 .1 .0)
+    (words .ensures) (c .entries-from .ensures)
 
 pub fault-entries-spec : {M : Type 1} → statement M
 fault-entries-spec =

@@ -9,14 +9,14 @@ use Rattle.lane_lines.proofs.fault_lines.Tie as tie
 simulate-words-requires : tie.Need-simulate-words-requires
 simulate-words-requires c κs =
     let s = c .before .before .before .before .before .before .before .before .before in
-    (rw (c .before .before .before .put-lanes .kept .0) (s .pre .0), omega arith)
+    (rw (c .before .before .before .put-lanes .kept .0) (s .pre .0), omega (arith, s .pre .1 .line), s .pre .1 .at-most)
 
 returns : tie.Need-returns
 returns c =
     let simulated = c .before .before in
     let put = simulated .before .before .before .before in
     let s = put .before .before .before .before .before .before in
-    fault-lines-made (s .args .fault) (s .pre .0) (s .pre .1) (put .before .before .stuck-lanes .ensures)
+    fault-lines-made (s .args .fault) (s .pre .0) (omega (arith, s .pre .1 .line, s .pre .1 .at-most)) (put .before .before .stuck-lanes .ensures)
     (rw (put .put-lanes .ensures) at (simulated .simulate-words .ensures))
 
 pub fault-lines-spec : {M : Type 1} → statement M

@@ -7,6 +7,7 @@ use mathlib.Core.List.{List, _++_}
 use mathlib.Core.Path.{sym, ap}
 use native.Mathlib.Omega.{arith}
 use borrow.Author.Needs.{needs}
+use Rattle.lane_lines.specs.Lines.{goodWords}
 use Rattle.lane_lines.proofs.good_words.Statement.{statement}
 use Rattle.lane_lines.proofs.good_words.Tie as tie
 
@@ -21,7 +22,8 @@ good-lines-requires c κs =
 returns : tie.Need-returns
 returns c =
     let s = c .before .before .before .before .before .before .before in
-    ap (λ (x : List ℕ). x ++ drop (2 * s .args .n) (s .args .work .now)) (c .before .before .good-lines .ensures)
+    ap (λ (x : List ℕ). x ++ drop (2 * s .args .n) (s .args .work .now)) {y = goodWords (s .args .circuit .now) (s .args .inputs) (s .args .patterns .now) (s .args .n)}
+    (c .before .before .good-lines .ensures)
 
 pub good-words-spec : {M : Type 1} → statement M
 good-words-spec =

@@ -7,27 +7,29 @@ use Rattle.lane_lines.proofs.simulate_words.Statement.{statement}
 use Rattle.lane_lines.proofs.simulate_words.Tie as tie
 
 abbrev Inv-loop : tie.InvT-loop
-Inv-loop circuit words₀ n start k₀ words k = SoFar circuit n words₀ start words k
+Inv-loop circuit words₀ n start end k₀ words k = SoFar circuit n words₀ start end words k
 
 abbrev μ-loop : tie.MeasureT-loop
-μ-loop circuit words₀ n start k₀ words k = n - k
+μ-loop circuit words₀ n start end k₀ words k = end - k
 
 loop-holds : tie.Need-loop-holds Inv-loop μ-loop
-loop-holds c = start _ _ _ _ (c .before .before .pre .1)
+loop-holds c = start _ _ _ _ _ (c .before .before .pre .1)
 
 line-lanes-requires : tie.Need-line-lanes-requires Inv-loop μ-loop
-line-lanes-requires c κs = (still (c .before .before .loop .inv) (c .before .before .before .before .before .pre .0), omega arith)
+line-lanes-requires c κs = let s = c .before .before .before .before .before in (still (c .before .before .loop .inv) (s .pre .0), omega (arith, s .pre .2))
 
 put-lanes-requires : tie.Need-put-lanes-requires Inv-loop μ-loop
 put-lanes-requires c κs =
     let so = c .before .before .before .before .loop .inv in
-    record { inside = omega (arith, so .long, c .before .before .before .before .before .before .before .pre .0 .two) }
+    let s = c .before .before .before .before .before .before .before in
+    record { inside = omega (arith, so .long, s .pre .0 .two, s .pre .2) }
 
 loop-again : tie.Need-loop-again Inv-loop μ-loop
 loop-again c =
     let put = c .before .before in
     let line = put .before .before in
-    rw (put .put-lanes .ensures) (more (line .before .before .before .loop .inv) (omega arith) (line .line-lanes .ensures))
+    let s = line .before .before .before .before .before .before in
+    rw (put .put-lanes .ensures) (more (line .before .before .before .loop .inv) (s .pre .0) (s .pre .2) (omega arith) (line .line-lanes .ensures))
 
 same-length : tie.Need-same-length Inv-loop μ-loop
 same-length c = c .before .loop .inv .long

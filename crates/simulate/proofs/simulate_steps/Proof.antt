@@ -3,19 +3,20 @@
 use Prim.Native.Nat.{_-_}
 use native.Mathlib.Omega.{arith}
 use lib.ListN.{length}
+use Rattle.simulate.specs.Owed.{ThreeValued}
 use Rattle.simulate.proofs.Steps as steps
 use Rattle.simulate.proofs.Steps.{SoFar, after-line, more, finished}
 use Rattle.simulate.proofs.simulate_steps.Statement.{statement}
 use Rattle.simulate.proofs.simulate_steps.Tie as tie
 
 abbrev Inv-loop : tie.InvT-loop
-Inv-loop circuit fault step values₀ line₀ values line = SoFar fault step circuit values₀ values line
+Inv-loop circuit fault step values₀ line₀ values line = SoFar fault step ThreeValued circuit values₀ values line
 
 abbrev μ-loop : tie.MeasureT-loop
 μ-loop circuit fault step values₀ line₀ values line = length values₀ - line
 
 loop-holds : tie.Need-loop-holds Inv-loop μ-loop
-loop-holds c = let s = c .before .before in steps.start (s .args .fault) (s .args .step) _ _ (s .pre .1)
+loop-holds c = let s = c .before .before in steps.start (s .args .fault) (s .args .step) ThreeValued _ _ (s .pre .1)
 
 add-next : tie.Need-add-next Inv-loop μ-loop
 add-next c =
