@@ -14,6 +14,8 @@ pub struct Circuit {
     pub file: String,
     pub records: Vec<u8>,
     pub counts: Counts,
+    /// What it is in messages about its inputs.
+    pub called: &'static str,
     names: Vec<String>,
     lines: HashMap<String, usize>,
 }
@@ -41,10 +43,11 @@ impl Circuit {
         Circuit::named(file, records, names)
     }
 
-    fn named(file: &str, records: Vec<u8>, names: Vec<String>) -> Result<Circuit, Problem> {
+    /// Of records whose lines have these names.
+    pub fn named(file: &str, records: Vec<u8>, names: Vec<String>) -> Result<Circuit, Problem> {
         let counts = ullimaqsu::check(&records).map_err(|refusal| Problem::Refused(format!("{file}: {refusal}")))?;
         let lines = names.iter().cloned().zip(0..).collect();
-        Ok(Circuit { file: file.to_string(), records, counts, names, lines })
+        Ok(Circuit { file: file.to_string(), records, counts, called: "circuit", names, lines })
     }
 
     pub fn size(&self) -> usize {
@@ -83,6 +86,12 @@ impl Circuit {
         (1..=self.kind(line).pins()).map(|pin| self.source(line, pin)).collect()
     }
 
+    /// Its name, its kind and the names of its sources, as tables have them.
+    pub fn cells(&self, line: usize) -> [String; 3] {
+        let sources: Vec<&str> = self.sources(line).into_iter().map(|source| self.name(source)).collect();
+        [self.name(line).to_string(), self.kind(line).word().to_string(), sources.join(" ")]
+    }
+
     pub fn is_output(&self, line: usize) -> bool {
         self.record(line)[1] == 1
     }
@@ -108,7 +117,7 @@ pub fn counted(counts: &Counts) -> String {
 }
 
 /// The records of a text, and the names of their lines.
-fn read_text(text: &[u8]) -> Result<(Vec<u8>, Vec<String>), Refusal> {
+pub fn read_text(text: &[u8]) -> Result<(Vec<u8>, Vec<String>), Refusal> {
     let mut records = vec![0; LARGEST_CIRCUIT];
     let count = ullimaqsu::bench(text, &mut records)? as usize;
     records.truncate(8 * count);

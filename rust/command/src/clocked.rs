@@ -1,0 +1,81 @@
+//! Clocked circuits: texts with flip-flops, `Q = DFF(D)`, as the ISCAS sequential circuits are written.
+//!
+//! The library reads no flip-flops. Each becomes an input of its name before the library sees the text, and a state record. `INPUT(Q)` is never
+//! longer than `Q=DFF(D)`, and blanks fill what is left: every other byte stands where it stood, and the text is as long as it was.
+use crate::circuit::{is_records, read_text, Circuit, NO_TEXT};
+use crate::edit::{Edit, Edited, Piece};
+use crate::explain::{explain_statements, explain_stuck, MOST_BYTES, NAME};
+use crate::files;
+use crate::notation::{FlipFlop, Spelling, Text};
+use crate::problem::{shown, Problem};
+use std::path::Path;
+use ullimaqsu::Refusal;
+
+#[derive(Debug)]
+pub struct Clocked {
+    /// The circuit of one step, whose state lines are inputs.
+    pub circuit: Circuit,
+    /// Its state records.
+    pub states: Vec<u8>,
+}
+
+impl Clocked {
+    /// Of a file that is a text.
+    pub fn load(path: &Path) -> Result<Clocked, Problem> {
+        // one byte above the limit: what is longer is refused, whatever follows
+        let (file, bytes) = (shown(path), files::read(path, MOST_BYTES + 1)?);
+        let refused = |says: String| Problem::Refused(format!("{file}: {says}"));
+        if is_records(&bytes) {
+            return Err(refused(NO_TEXT.to_string()));
+        }
+        let text = Text::read(&bytes, Spelling::Clocked).map_err(|stuck| refused(explain_stuck(&bytes, &stuck)))?;
+        let read = read(&text).map_err(|refusal| refused(explain_statements(&text, &refusal)))?;
+        Ok(Clocked { circuit: Circuit::named(&file, read.records, read.names)?, states: read.states })
+    }
+}
+
+/// What a text with flip-flops comes to.
+pub struct Read {
+    /// The circuit of one step.
+    pub records: Vec<u8>,
+    /// The names of its lines.
+    pub names: Vec<String>,
+    /// Its state records, in the order of the flip-flops.
+    pub states: Vec<u8>,
+}
+
+/// Reads it, or gives the refusal, with its place in this text. What the library refuses comes before data lines that are defined nowhere.
+pub fn read(text: &Text) -> Result<Read, Refusal> {
+    let plain = plain(text);
+    let of_the_text = |refusal: Refusal| match refusal.number {
+        NAME => Refusal::new(NAME, plain.origin(refusal.place as usize) as u64),
+        _ => refusal,
+    };
+    let (records, names) = read_text(&plain.bytes).map_err(of_the_text)?;
+    let states = text.flip_flops().map(|flip_flop| state_record(flip_flop, &names)).collect::<Result<Vec<_>, _>>()?;
+    Ok(Read { records, names, states: states.concat() })
+}
+
+/// The text with an input for each flip-flop.
+fn plain(text: &Text) -> Edited {
+    Edited::new(text.bytes, &text.flip_flops().map(as_input).collect::<Vec<_>>())
+}
+
+fn as_input<'a>(flip_flop: &FlipFlop<'a>) -> Edit<'a> {
+    const BEFORE: &str = "INPUT(";
+    let FlipFlop { state, end, .. } = *flip_flop;
+    // as many as `=DFF(D)` has bytes more than the brackets of the input
+    let blanks = end - state.end() - BEFORE.len() - 1;
+    let put = vec![Piece::New(BEFORE.to_string()), Piece::Kept(state), Piece::New(format!("){:blanks$}", ""))];
+    Edit { from: state.at, to: end, put }
+}
+
+/// Data line and state line by the names that the library has given. The state line is there, as an input.
+fn state_record(flip_flop: &FlipFlop, names: &[String]) -> Result<[u8; 4], Refusal> {
+    let [data, state] = [flip_flop.data, flip_flop.state].map(|word| {
+        let line = names.iter().position(|name| name.as_bytes() == word.name);
+        line.map(|line| (line as u16).to_le_bytes()).ok_or(Refusal::new(NAME, word.at as u64))
+    });
+    let ([low, high], [state_low, state_high]) = (data?, state?);
+    Ok([low, high, state_low, state_high])
+}
