@@ -38,7 +38,7 @@ and then those of each later step that are no flip-flops. The outputs of all ste
 take over.
 
 Of a directory it prints a line for each pattern instead: its number, K if compaction keeps it and else D, and a letter for each fault; or `refused`, the
-number of the refusal and its place. A file that is absent counts as empty. With --steps the directory also has states.rec, 4 bytes for each state
+number of the refusal and its place. A file that is absent counts as empty. With --steps there must also be states.rec, with 4 bytes for each state
 line: the number of its data line and then its own, the low byte first.",
     example: "ullimaqsu dictionary examples/a",
     run,

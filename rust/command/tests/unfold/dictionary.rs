@@ -164,7 +164,11 @@ fn s27() {
     let given = Given { faults: drawn.named.faults(false), patterns };
     assert_eq!(read(&faults), drawn.named.fault_lines(&given.faults));
     let names: Vec<String> = given.faults.iter().map(|&fault| drawn.named.word(fault)).collect();
-    assert_eq!(table(&read(&output), &names).0, given.right(&drawn.clocked()));
+    let rows = table(&read(&output), &names).0;
+    assert_eq!(rows, given.right(&drawn.clocked()));
+    // as examples/README.md says
+    assert!(rows.iter().all(|row| row[..2].contains('F')), "the first two detect every fault");
+    assert_eq!(given.patterns.iter().filter(|pattern| pattern[4..7] == [None; 3]).count(), 3);
 }
 
 /// What is wrong in lists is told as without steps, by the names of the clocked circuit and the inputs of the unfolded one.
