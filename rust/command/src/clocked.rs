@@ -4,7 +4,7 @@
 //! longer than `Q=DFF(D)`, and blanks fill what is left: every other byte stands where it stood, and the text is as long as it was.
 use crate::circuit::{is_records, read_text, Circuit, NO_TEXT};
 use crate::edit::{Edit, Edited, Piece};
-use crate::explain::{explain_statements, explain_stuck, MOST_BYTES, NAME};
+use crate::explain::{explain_statements, explain_stuck, MOST_BYTES, NAME, SYNTAX};
 use crate::files;
 use crate::notation::{FlipFlop, Spelling, Text};
 use crate::problem::{shown, Problem};
@@ -44,16 +44,24 @@ pub struct Read {
     pub states: Vec<u8>,
 }
 
-/// Reads it, or gives the refusal, with its place in this text. What the library refuses comes before data lines that are defined nowhere.
+/// Reads it, or gives the refusal, with its place in this text.
 pub fn read(text: &Text) -> Result<Read, Refusal> {
     let plain = plain(text);
-    let of_the_text = |refusal: Refusal| match refusal.number {
-        NAME => Refusal::new(NAME, plain.origin(refusal.place as usize) as u64),
-        _ => refusal,
-    };
-    let (records, names) = read_text(&plain.bytes).map_err(of_the_text)?;
+    let (records, names) = read_text(&plain.bytes).map_err(|refusal| of_the_clocked(text, &plain, refusal))?;
     let states = text.flip_flops().map(|flip_flop| state_record(flip_flop, &names)).collect::<Result<Vec<_>, _>>()?;
     Ok(Read { records, names, states: states.concat() })
+}
+
+/// A refusal of the plain text as one of the clocked text. The library does not see data lines: where one is defined nowhere, this is refused as
+/// the library refuses other names, the lowest place first, and before what it asks after names.
+fn of_the_clocked(text: &Text, plain: &Edited, refusal: Refusal) -> Refusal {
+    let mut data = text.flip_flops().map(|flip_flop| flip_flop.data);
+    let undefined = data.find(|data| text.definitions().all(|defined| defined.name != data.name)).map(|data| data.at);
+    let seen = (refusal.number == NAME).then(|| plain.origin(refusal.place as usize));
+    match undefined.into_iter().chain(seen).min() {
+        Some(place) if refusal.number != SYNTAX => Refusal::new(NAME, place as u64),
+        _ => refusal,
+    }
 }
 
 /// The text with an input for each flip-flop.

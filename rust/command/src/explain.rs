@@ -15,7 +15,7 @@ use ullimaqsu::Refusal;
 /// The most bytes of a text.
 pub const MOST_BYTES: usize = 32_768;
 
-const SYNTAX: u32 = 14;
+pub const SYNTAX: u32 = 14;
 pub const NAME: u32 = 15;
 pub const CYCLE: u32 = 16;
 

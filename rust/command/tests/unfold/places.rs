@@ -82,6 +82,46 @@ fn names_defined_twice() {
     }
 }
 
+/// The same text with NOT for DFF, which is of the same form and as long.
+fn with_gates(text: &[u8]) -> Vec<u8> {
+    let mut same = text.to_vec();
+    places_of(text, "DFF").into_iter().for_each(|at| same[at..at + 3].copy_from_slice(b"NOT"));
+    same
+}
+
+/// Wrong names of every sort, several of them too: the first is that of the same text with NOT for DFF, by the second program.
+#[test]
+fn wrong_names() {
+    let directory = Directory::new("names");
+    let case = |random: &mut Random| {
+        let mut all = clocked(random);
+        for _ in 0..1 + random.below(3) {
+            let names: Vec<[usize; 2]> = (0..all.len()).flat_map(|number| names_of(&all[number]).map(move |at| [number, at])).collect();
+            let [[number, at], [other, from]] = [random.pick(&names), random.pick(&names)];
+            all[number][at] = if random.once_in(3) { "defined_nowhere".to_string() } else { all[other][from].clone() };
+        }
+        written(random, &all)
+    };
+    let (mut wrong, mut right) = (0, 0);
+    for text in drawn(4, 300, case) {
+        let name = second::bench::placed(&with_gates(&text)).err().filter(|refusal| refusal.number == 15);
+        let said = place(&directory, &text).filter(|(_, says)| says.starts_with('`'));
+        assert_eq!(said.as_ref().map(|(at, _)| *at), name.map(|refusal| refusal.place), "{said:?}: {}", String::from_utf8_lossy(&text));
+        *(if said.is_some() { &mut wrong } else { &mut right }) += 1;
+    }
+    assert!(wrong > 150 && right > 20, "{wrong} {right}");
+}
+
+/// Where names stand in a statement.
+fn names_of(statement: &Statement) -> impl Iterator<Item = usize> {
+    let places: &[usize] = match (statement[1].as_str(), statement.len()) {
+        ("=", 6) => &[0, 4],
+        ("=", _) => &[0, 4, 6],
+        _ => &[2],
+    };
+    places.iter().copied()
+}
+
 /// Damage: the first byte that can't go on is that of the same text with NOT for DFF, which has the same form; unless the word of a flip-flop is
 /// itself damaged, where a letter or two may be right.
 #[test]
@@ -95,8 +135,7 @@ fn damaged_texts() {
     };
     let (mut compared, mut words) = (0, 0);
     for text in drawn(3, 400, case).filter(|text| !matches!(text.first(), Some(0..=9))) {
-        let mut same = text.clone();
-        places_of(&text, "DFF").into_iter().for_each(|at| same[at..at + 3].copy_from_slice(b"NOT"));
+        let same = with_gates(&text);
         let Err(right) = parse(&same) else { continue };
         let (at, says) = place(&directory, &text).expect("refused at a place");
         if same.get(right) == Some(&b'D') && at > right {

@@ -61,7 +61,10 @@ fn words() {
         ("q = DFF(a)\ny = NOT(b)", "line 4, column 9 (byte 38): `b` is used here and defined nowhere"),
         ("q  =  DFF  (  a  )  # q\r\ny = NOT(b)", "line 4, column 9 (byte 52): `b` is used here and defined nowhere"),
         ("q = DFF(a)\nOUTPUT(b)", "line 4, column 8 (byte 37): `b` is used here and defined nowhere"),
-        ("q = DFF(b)\ny = NOT(c)", "line 4, column 9 (byte 38): `c` is used here and defined nowhere"),
+        ("q = DFF(b)\ny = NOT(c)", "line 3, column 9 (byte 27): `b` is used here and defined nowhere"),
+        ("y = NOT(c)\nq = DFF(b)", "line 3, column 9 (byte 27): `c` is used here and defined nowhere"),
+        ("a = NOT(a)\nq = DFF(b)", "line 3, column 1 (byte 19): `a` is defined here a second time, after line 1"),
+        ("y = NOT(y)\nq = DFF(b)", "line 4, column 9 (byte 38): `b` is used here and defined nowhere"),
         ("q = DFF(a)\ny = AND(a)", "line 4, column 10 (byte 39): after the first of the two sources of `AND` there must be `,`, and here is `)`"),
         (
             "q = DFF(a)\ny = AND(a,a,a)",
@@ -101,6 +104,7 @@ fn texts_of_wrong_sizes() {
     row(String::new(), "there is no INPUT and no gate in this text");
     row("# q = DFF(q)\n".to_string(), "there is no INPUT and no gate in this text");
     row(flip_flops(3), "there is no OUTPUT in this text");
+    row("q = DFF(a)".to_string(), "line 1, column 9 (byte 8): `a` is used here and defined nowhere");
     row(flip_flops(65) + "OUTPUT(f0)", "this circuit has 65 inputs and flip-flops, and a circuit has at most 64");
     let gates: String = (1..2049).map(|number| format!("{number}=NOT(0)\n")).collect();
     row(format!("0=DFF(1)\nOUTPUT(0)\n{gates}"), "this circuit has 2,049 inputs, flip-flops and gates, and a circuit has at most 2,048");
