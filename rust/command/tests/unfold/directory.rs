@@ -90,12 +90,12 @@ fn compare(name: &str, cases: impl IntoIterator<Item = Given>) -> Tally {
 
 #[test]
 fn sound_directories() {
-    assert_eq!(compare("sound", draw(1, 100, Given::new)).seen(), [0]);
+    assert_eq!(compare("sound records", draw(1, 100, Given::new)).seen(), [0]);
 }
 
 #[test]
 fn damaged_directories() {
-    assert_eq!(compare("damaged", draw(2, 500, Given::damaged)).seen(), [0, 1, 2, 4, 5, 6, 7, 8, 9, 18, 19, 21]);
+    assert_eq!(compare("damaged records", draw(2, 500, Given::damaged)).seen(), [0, 1, 2, 4, 5, 6, 7, 8, 9, 18, 19, 21]);
 }
 
 /// A bit that counts: line 0 counts up, line 1 is the state, line 2 their XOR. Which file a refusal is about, or that it is about the steps.
