@@ -72,7 +72,7 @@ fn plain(text: &Text) -> Edited {
 fn as_input<'a>(flip_flop: &FlipFlop<'a>) -> Edit<'a> {
     const BEFORE: &str = "INPUT(";
     let FlipFlop { state, end, .. } = *flip_flop;
-    // as many as `=DFF(D)` has bytes more than the brackets of the input
+    // `=DFF(D)` has seven bytes at least, as many as `INPUT()`
     let blanks = end - state.end() - BEFORE.len() - 1;
     let put = vec![Piece::New(BEFORE.to_string()), Piece::Kept(state), Piece::New(format!("){:blanks$}", ""))];
     Edit { from: state.at, to: end, put }
