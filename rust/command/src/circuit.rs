@@ -23,8 +23,7 @@ pub struct Circuit {
 impl Circuit {
     /// Of a file that is a text or records.
     pub fn load(path: &Path) -> Result<Circuit, Problem> {
-        // one byte above the limit: what is longer, a text or records, is refused by the same number, whatever follows
-        let (file, bytes) = (shown(path), files::read(path, MOST_BYTES + 1)?);
+        let (file, bytes) = read_file(path)?;
         match is_records(&bytes) {
             true => Circuit::of_records(&file, bytes),
             false => Circuit::of_text(&file, &bytes),
@@ -100,6 +99,12 @@ impl Circuit {
     pub fn inputs(&self) -> Vec<usize> {
         (0..self.size()).filter(|&line| self.kind(line) == Kind::Input).collect()
     }
+}
+
+/// The name of a circuit's file as it is shown, and its bytes.
+pub fn read_file(path: &Path) -> Result<(String, Vec<u8>), Problem> {
+    // one byte above the limit: what is longer, a text or records, is refused by the same number, whatever follows
+    Ok((shown(path), files::read(path, MOST_BYTES + 1)?))
 }
 
 /// Accepted records begin with a 0: their first line is an input. Records whose first line is a gate are told as such too: no right text begins

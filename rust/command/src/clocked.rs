@@ -2,12 +2,11 @@
 //!
 //! The library reads no flip-flops. Each becomes an input of its name before the library sees the text, and a state record. `INPUT(Q)` is never
 //! longer than `Q=DFF(D)`, and blanks fill what is left: every other byte stands where it stood, and the text is as long as it was.
-use crate::circuit::{is_records, read_text, Circuit, NO_TEXT};
+use crate::circuit::{is_records, read_file, read_text, Circuit, NO_TEXT};
 use crate::edit::{Edit, Edited, Piece};
-use crate::explain::{explain_statements, explain_stuck, MOST_BYTES, NAME, SYNTAX};
-use crate::files;
+use crate::explain::{explain_statements, explain_stuck, NAME, SYNTAX};
 use crate::notation::{FlipFlop, Spelling, Text};
-use crate::problem::{shown, Problem};
+use crate::problem::Problem;
 use std::path::Path;
 use ullimaqsu::Refusal;
 
@@ -22,15 +21,19 @@ pub struct Clocked {
 impl Clocked {
     /// Of a file that is a text.
     pub fn load(path: &Path) -> Result<Clocked, Problem> {
-        // one byte above the limit: what is longer is refused, whatever follows
-        let (file, bytes) = (shown(path), files::read(path, MOST_BYTES + 1)?);
-        let refused = |says: String| Problem::Refused(format!("{file}: {says}"));
-        if is_records(&bytes) {
-            return Err(refused(NO_TEXT.to_string()));
+        let (file, bytes) = read_file(path)?;
+        match is_records(&bytes) {
+            true => Err(Problem::Refused(format!("{file}: {NO_TEXT}"))),
+            false => Clocked::of_text(&file, &bytes),
         }
-        let text = Text::read(&bytes, Spelling::Clocked).map_err(|stuck| refused(explain_stuck(&bytes, &stuck)))?;
+    }
+
+    /// Of a text with flip-flops or without.
+    pub fn of_text(file: &str, bytes: &[u8]) -> Result<Clocked, Problem> {
+        let refused = |says: String| Problem::Refused(format!("{file}: {says}"));
+        let text = Text::read(bytes, Spelling::Clocked).map_err(|stuck| refused(explain_stuck(bytes, &stuck)))?;
         let read = read(&text).map_err(|refusal| refused(explain_statements(&text, &refusal)))?;
-        Ok(Clocked { circuit: Circuit::named(&file, read.records, read.names)?, states: read.states })
+        Ok(Clocked { circuit: Circuit::named(file, read.records, read.names)?, states: read.states })
     }
 }
 

@@ -1,5 +1,5 @@
 //! A clocked circuit over several steps, as one circuit.
-use crate::circuit::Circuit;
+use crate::circuit::{is_records, read_file, Circuit};
 use crate::clocked::Clocked;
 use crate::commands::Command;
 use crate::explain::{too_large, MOST_INPUTS};
@@ -46,6 +46,17 @@ impl Unfolded {
             .expect("a circuit that was unfolded, faults and patterns that were read, and memory of its exact size, are never refused");
         table
     }
+}
+
+/// The circuit of a file that is a text, with flip-flops or without, or records: of one step, in which a data line is seen as an output is.
+pub fn one_step(path: &Path) -> Result<Circuit, Problem> {
+    let (file, bytes) = read_file(path)?;
+    if is_records(&bytes) {
+        return Circuit::of_records(&file, bytes);
+    }
+    let Clocked { circuit, states } = Clocked::of_text(&file, &bytes)?;
+    let records = unfolded(&circuit.records, &states, 1).expect("one step of a circuit that was read is never refused");
+    Circuit::named(&file, records, circuit.names().to_vec())
 }
 
 /// The records of a circuit over so many steps.

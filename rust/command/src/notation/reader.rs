@@ -150,7 +150,7 @@ impl<'a> Reader<'a> {
             stuck.says += "; the notation has no name for a selector, and a circuit with selectors comes as records";
         }
         if !self.reads_flip_flops() && whole.eq_ignore_ascii_case(FLIP_FLOP) {
-            stuck.says += "; flip-flops are read by `ullimaqsu unfold` and `ullimaqsu dictionary --steps`";
+            stuck.says += "; flip-flops are read by unfold, dictionary --steps, faults and narrow alone";
         }
         stuck
     }

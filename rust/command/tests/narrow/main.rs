@@ -54,6 +54,7 @@ fn trees() {
         ("y = xnor(a, b, c)\r", "y_1 = XOR(a, b)\r\ny = XNOR(y_1, c)\r"),
         ("y = buf(a)", "y = BUFF(a)"),
         ("y = nand(a, b)", "y = NAND(a, b)"),
+        ("y = AND(a, b, c)\ny_1 = DFF(y)", "y_2 = AND(a, b)\ny = AND(y_2, c)\ny_1 = DFF(y)"),
         ("y_1 = dff(y)\ny = AND(a, b, y_1)", "y_1 = DFF(y)\ny_2 = AND(a, b)\ny = AND(y_2, y_1)"),
         ("y = AND(a, b, y_2)\n\ty_2\t= DFF ( y )\r", "y_1 = AND(a, b)\ny = AND(y_1, y_2)\n\ty_2\t= DFF ( y )\r"),
     ];

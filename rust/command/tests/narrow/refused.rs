@@ -28,6 +28,7 @@ fn words() {
         ("input(a,a)", "line 3, column 8 (byte 26): after the name in `input` there must be `)`, and here is `,`"),
         ("y = DFF(a,a)", "line 3, column 10 (byte 28): after the only source of `DFF` there must be `)`, and here is `,`"),
         ("y = dfg(a)", "line 3, column 7 (byte 25): after `df` there must be the rest of DFF, and here is `g`"),
+        ("z = OR(a,a,y)\ny = DFF(z_1)", "line 4, column 9 (byte 41): `z_1` is used here and defined nowhere"),
         ("z = OR(a,a,y)\ny = dff(b)", "line 4, column 9 (byte 41): `b` is used here and defined nowhere"),
         ("z = OR(a,a,y)\ny = dff(z)\ny = DFF(a)", "line 5, column 1 (byte 44): `y` is defined here a second time, after line 4"),
         (

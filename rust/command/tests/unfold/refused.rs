@@ -211,12 +211,11 @@ fn commands_without_flip_flops() {
     let kinds = KINDS.replace("XOR, XNOR or DFF", "XOR or XNOR");
     let says = format!(
         "{}: line 3, column 5 (byte 23): after `=` there must be {kinds}, and here is `D`; \
-         flip-flops are read by `ullimaqsu unfold` and `ullimaqsu dictionary --steps`",
+         flip-flops are read by unfold, dictionary --steps, faults and narrow alone",
         file.display()
     );
-    for command in ["check", "faults"] {
-        assert_eq!(ullimaqsu(&[Path::new(command), &file]), refused(&says));
-    }
+    assert_eq!(ullimaqsu(&[Path::new("check"), &file]), refused(&says));
+    assert_eq!(ullimaqsu(&[Path::new("search"), &file, Path::new("--all")]), refused(&says));
 }
 
 /// Texts that `unfold` reads are not changed by it, and an example without flip-flops has none.
