@@ -6,16 +6,13 @@
 use crate::drawn::{line_of, with_flip_flops, Drawn};
 use crate::harness::Directory;
 use crate::unfold;
-use cases::circuits::{source, without_selectors, INPUT};
+use cases::circuits::{without_selectors, INPUT};
 use cases::clocked::pairs;
-use cases::texts::{dense, gate, input, output};
-use cases::{drawn as draw, Random};
+use cases::texts::{dense, of_records};
+use cases::{blif, drawn as draw, Random};
 use std::process::Command;
 
 const ABC: &str = "berkeley-abc";
-
-/// Where each kind, from 1, is 1: what its pins read, `-` for either.
-const ONES: [&str; 8] = ["1 1", "0 1", "11 1", "0- 1\n-0 1", "1- 1\n-1 1", "00 1", "01 1\n10 1", "00 1\n11 1"];
 
 /// The lines of the outputs in the order of the text, which is ABC's.
 fn outputs(case: &Drawn) -> Vec<usize> {
@@ -25,7 +22,7 @@ fn outputs(case: &Drawn) -> Vec<usize> {
 }
 
 /// The unfolded records as BLIF.
-fn blif(case: &Drawn, unfolded: &[u8]) -> String {
+fn model(case: &Drawn, unfolded: &[u8]) -> String {
     let (lines, each, states) = (unfolded.len() / 8, case.named.names.len(), pairs(&case.states));
     let record = |line: usize| &unfolded[8 * line..8 * line + 8];
     let is_state = |line: usize| states.iter().any(|[_, state]| *state == line);
@@ -37,16 +34,15 @@ fn blif(case: &Drawn, unfolded: &[u8]) -> String {
     assert!((0..lines).all(|line| (record(line)[1] == 1) == shown.contains(&line)));
     let mut text = format!(".model m\n.inputs{inputs}\n.outputs{}\n", (0..shown.len()).map(|k| format!(" o{k}")).collect::<String>());
     for line in (0..lines).filter(|line| record(*line)[0] != INPUT) {
-        let second = if record(line)[0] > 2 { format!("l{}", source(record(line), 2)) } else { String::new() };
-        text += &format!(".names l{} {second} l{line}\n{}\n", source(record(line), 1), ONES[usize::from(record(line)[0]) - 1]);
+        text += &blif::gate(record(line), &format!("l{line}"), |source| format!("l{source}"));
     }
     text += &shown.iter().enumerate().map(|(k, line)| format!(".names l{line} o{k}\n1 1\n")).collect::<String>();
     text + ".end\n"
 }
 
 /// What ABC says of its own frames of the text that was unfolded last and of this BLIF.
-fn verdict(directory: &Directory, steps: u64, blif: &str) -> String {
-    directory.write("unfolded.blif", blif);
+fn verdict(directory: &Directory, steps: u64, model: &str) -> String {
+    directory.write("unfolded.blif", model);
     let script =
         format!("read_bench text.bench; strash; frames -F {steps}; comb; write_blif frames.blif; cec -n frames.blif unfolded.blif");
     let run = Command::new(ABC).args(["-q", &script]).current_dir(&directory.0).output().expect("ABC runs");
@@ -63,18 +59,7 @@ fn spoilt(case: &Drawn, unfolded: &[u8]) -> Vec<u8> {
 /// A circuit with plain names, as ABC reads them and does not make up itself, and some inputs as flip-flops.
 fn plain(random: &mut Random) -> Drawn {
     let (lines, inputs) = (2 + random.below(30), 1 + random.below(6));
-    let records = without_selectors(random, lines.max(inputs + 1), inputs);
-    let name = |line: usize| format!("G{line}");
-    let mut all = vec![];
-    for (line, record) in records.chunks_exact(8).enumerate() {
-        all.push(match record[0] {
-            INPUT => input(&name(line)),
-            kind => gate(&name(line), kind, [1, 2].map(|pin| name(source(record, pin))).each_ref().map(String::as_str)),
-        });
-        if record[1] == 1 {
-            all.push(output(&name(line)));
-        }
-    }
+    let all = of_records(&without_selectors(random, lines.max(inputs + 1), inputs), 'G');
     let all = with_flip_flops(random, &all);
     let text = dense(&all);
     Drawn::of(random, &all, text)
@@ -92,7 +77,7 @@ fn frames_are_equivalent() {
     let with_gates = |case: &Drawn| case.flip_flops() > 0 && case.named.circuit.outputs().any(|line| line >= case.named.inputs().len());
     for case in (1..=8).map(Drawn::s27).chain(draw(1, 60, plain).filter(with_gates)) {
         let unfolded = unfold(&directory, &case.text, case.steps).1;
-        let said = |records: &[u8]| verdict(&directory, case.steps, &blif(&case, records));
+        let said = |records: &[u8]| verdict(&directory, case.steps, &model(&case, records));
         let right = said(&unfolded);
         assert!(right.contains("Networks are equivalent"), "{right}\n{}", String::from_utf8_lossy(&case.text));
         compared += 1;

@@ -11,9 +11,8 @@ mod refused;
 
 use cases::drawn as draw;
 use drawn::Drawn;
-use harness::named::Named;
+use harness::named::{kind, Named};
 use harness::{printed, root, Directory};
-use second::circuit::Gate;
 use second::Circuit;
 use std::fs;
 use std::path::Path;
@@ -25,21 +24,6 @@ fn unfold(directory: &Directory, text: &[u8], steps: u64) -> (String, Vec<u8>) {
     (said, fs::read(&out).expect("records"))
 }
 
-fn word(gate: Gate) -> &'static str {
-    match gate {
-        Gate::Input => "INPUT",
-        Gate::Buffer(_) => "BUFF",
-        Gate::Not(_) => "NOT",
-        Gate::And(..) => "AND",
-        Gate::Nand(..) => "NAND",
-        Gate::Or(..) => "OR",
-        Gate::Nor(..) => "NOR",
-        Gate::Xor(..) => "XOR",
-        Gate::Xnor(..) => "XNOR",
-        Gate::Selector(..) => "SELECTOR",
-    }
-}
-
 /// The words of what is printed, line by line: the numbers of the unfolded circuit, and a row for each of its lines.
 fn rows(unfolded: &Circuit, one: &Named, steps: u64, states: usize) -> Vec<String> {
     let (lines, each) = (unfolded.lines.len(), one.names.len());
@@ -48,7 +32,7 @@ fn rows(unfolded: &Circuit, one: &Named, steps: u64, states: usize) -> Vec<Strin
     let row = |line: usize| {
         let sources = unfolded.lines[line].gate.sources().into_iter().map(name);
         let output = unfolded.lines[line].output.then(|| "output".to_string());
-        let cells = [line.to_string(), name(line), word(unfolded.lines[line].gate).to_string()].into_iter().chain(sources).chain(output);
+        let cells = [line.to_string(), name(line), kind(unfolded.lines[line].gate).to_string()].into_iter().chain(sources).chain(output);
         cells.collect::<Vec<_>>().join(" ")
     };
     let heads = [
