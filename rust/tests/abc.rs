@@ -4,10 +4,10 @@
 #[path = "harness/named.rs"]
 mod named;
 
-use cases::circuits::{source, without_selectors, INPUT};
+use cases::circuits::{without_selectors, INPUT};
 use cases::directory::{root, Directory};
-use cases::texts::{chain, dense, gate, input, output};
-use cases::{drawn, Random};
+use cases::texts::{chain, dense, of_records};
+use cases::{blif, drawn, Random};
 use named::name_at;
 use std::fs;
 use std::process::Command;
@@ -15,18 +15,14 @@ use ullimaqsu::{LARGEST_CIRCUIT, MOST_LINES};
 
 const ABC: &str = "berkeley-abc";
 
-/// Where each kind, from 1, is 1: what its pins read, `-` for either.
-const ONES: [&str; 8] = ["1 1", "0 1", "11 1", "0- 1\n-0 1", "1- 1\n-1 1", "00 1", "01 1\n10 1", "00 1\n11 1"];
-
 /// The records as BLIF, with the text's names.
-fn blif(circuit: &[u8], names: &[&str]) -> String {
+fn model(circuit: &[u8], names: &[&str]) -> String {
     let records = || circuit.chunks_exact(8).zip(names);
     let those =
         |some: fn(&[u8]) -> bool| records().filter(|(record, _)| some(record)).map(|(_, name)| format!(" {name}")).collect::<String>();
     let mut text = format!(".model m\n.inputs{}\n.outputs{}\n", those(|record| record[0] == INPUT), those(|record| record[1] == 1));
     for (record, name) in records().filter(|(record, _)| record[0] != INPUT) {
-        let second = if record[0] > 2 { names[source(record, 2)] } else { "" };
-        text += &format!(".names {} {second} {name}\n{}\n", names[source(record, 1)], ONES[usize::from(record[0]) - 1]);
+        text += &blif::gate(record, name, |source| names[source].to_string());
     }
     text + ".end\n"
 }
@@ -43,7 +39,7 @@ fn verdict(directory: &Directory, text: &[u8], spoil: bool) -> String {
         let last = circuit.chunks_exact_mut(8).rfind(|record| record[1] == 1 && record[0] != INPUT).expect("a gate");
         last[0] = if last[0] % 2 == 1 { last[0] + 1 } else { last[0] - 1 }; // the same gate negated
     }
-    let (one, other) = (directory.write("text.bench", text), directory.write("records.blif", blif(&circuit, &names).as_bytes()));
+    let (one, other) = (directory.write("text.bench", text), directory.write("records.blif", model(&circuit, &names).as_bytes()));
     let run = Command::new(ABC).args(["-q", &format!("cec {} {}", one.display(), other.display())]).output().expect("ABC runs");
     String::from_utf8_lossy(&run.stdout).into_owned()
 }
@@ -51,18 +47,7 @@ fn verdict(directory: &Directory, text: &[u8], spoil: bool) -> String {
 /// A circuit of any kinds that have a name in the notation, with plain names, its gates as they stand or backwards.
 fn plain(random: &mut Random) -> Vec<u8> {
     let (lines, inputs) = (2 + random.below(60), 1 + random.below(8));
-    let records = without_selectors(random, lines.max(inputs + 1), inputs);
-    let name = |line: usize| format!("n{line}");
-    let mut all = vec![];
-    for (line, record) in records.chunks_exact(8).enumerate() {
-        all.push(match record[0] {
-            INPUT => input(&name(line)),
-            kind => gate(&name(line), kind, [1, 2].map(|pin| name(source(record, pin))).each_ref().map(String::as_str)),
-        });
-        if record[1] == 1 {
-            all.push(output(&name(line)));
-        }
-    }
+    let mut all = of_records(&without_selectors(random, lines.max(inputs + 1), inputs), 'n');
     if random.once_in(2) {
         all.reverse();
     }

@@ -1,6 +1,7 @@
 //! What the tests draw their cases from: random numbers, circuits and texts of every kind, damage, lent memory between guards, counts of what
 //! was seen, directories to run commands in, and what these say. Everything is bytes: nothing here knows the library or the second program.
 
+pub mod blif;
 pub mod circuits;
 pub mod clocked;
 pub mod damage;

@@ -1,5 +1,5 @@
 //! Texts in the bench notation, right and wrong, as bytes.
-use crate::circuits::{sources, NOT};
+use crate::circuits::{source, sources, INPUT, NOT};
 use crate::{damage, Random};
 
 /// The most bytes that a text may have.
@@ -36,6 +36,22 @@ pub fn gate(name: &str, kind: u8, [first, second]: [&str; 2]) -> Statement {
         1 => statement(&[name, "=", word, "(", first, ")"]),
         _ => statement(&[name, "=", word, "(", first, ",", second, ")"]),
     }
+}
+
+/// The statements of records without selectors, in their order, an output's behind its line, which is called by this letter and its number.
+pub fn of_records(records: &[u8], letter: char) -> Vec<Statement> {
+    let name = |line: usize| format!("{letter}{line}");
+    let mut all = vec![];
+    for (line, record) in records.chunks_exact(8).enumerate() {
+        all.push(match record[0] {
+            INPUT => input(&name(line)),
+            kind => gate(&name(line), kind, [1, 2].map(|pin| name(source(record, pin))).each_ref().map(String::as_str)),
+        });
+        if record[1] == 1 {
+            all.push(output(&name(line)));
+        }
+    }
+    all
 }
 
 /// The statements a line each, with nothing that could be left out.

@@ -14,6 +14,8 @@ pub struct Circuit {
     pub file: String,
     pub records: Vec<u8>,
     pub counts: Counts,
+    /// What it is in messages about its inputs.
+    pub called: &'static str,
     names: Vec<String>,
     lines: HashMap<String, usize>,
 }
@@ -21,8 +23,7 @@ pub struct Circuit {
 impl Circuit {
     /// Of a file that is a text or records.
     pub fn load(path: &Path) -> Result<Circuit, Problem> {
-        // one byte above the limit: what is longer, a text or records, is refused by the same number, whatever follows
-        let (file, bytes) = (shown(path), files::read(path, MOST_BYTES + 1)?);
+        let (file, bytes) = read_file(path)?;
         match is_records(&bytes) {
             true => Circuit::of_records(&file, bytes),
             false => Circuit::of_text(&file, &bytes),
@@ -41,10 +42,11 @@ impl Circuit {
         Circuit::named(file, records, names)
     }
 
-    fn named(file: &str, records: Vec<u8>, names: Vec<String>) -> Result<Circuit, Problem> {
+    /// Of records whose lines have these names.
+    pub fn named(file: &str, records: Vec<u8>, names: Vec<String>) -> Result<Circuit, Problem> {
         let counts = ullimaqsu::check(&records).map_err(|refusal| Problem::Refused(format!("{file}: {refusal}")))?;
         let lines = names.iter().cloned().zip(0..).collect();
-        Ok(Circuit { file: file.to_string(), records, counts, names, lines })
+        Ok(Circuit { file: file.to_string(), records, counts, called: "circuit", names, lines })
     }
 
     pub fn size(&self) -> usize {
@@ -83,6 +85,12 @@ impl Circuit {
         (1..=self.kind(line).pins()).map(|pin| self.source(line, pin)).collect()
     }
 
+    /// Its name, its kind and the names of its sources, as tables have them.
+    pub fn cells(&self, line: usize) -> [String; 3] {
+        let sources: Vec<&str> = self.sources(line).into_iter().map(|source| self.name(source)).collect();
+        [self.name(line).to_string(), self.kind(line).word().to_string(), sources.join(" ")]
+    }
+
     pub fn is_output(&self, line: usize) -> bool {
         self.record(line)[1] == 1
     }
@@ -91,6 +99,12 @@ impl Circuit {
     pub fn inputs(&self) -> Vec<usize> {
         (0..self.size()).filter(|&line| self.kind(line) == Kind::Input).collect()
     }
+}
+
+/// The name of a circuit's file as it is shown, and its bytes.
+pub fn read_file(path: &Path) -> Result<(String, Vec<u8>), Problem> {
+    // one byte above the limit: what is longer, a text or records, is refused by the same number, whatever follows
+    Ok((shown(path), files::read(path, MOST_BYTES + 1)?))
 }
 
 /// Accepted records begin with a 0: their first line is an input. Records whose first line is a gate are told as such too: no right text begins
@@ -108,7 +122,7 @@ pub fn counted(counts: &Counts) -> String {
 }
 
 /// The records of a text, and the names of their lines.
-fn read_text(text: &[u8]) -> Result<(Vec<u8>, Vec<String>), Refusal> {
+pub fn read_text(text: &[u8]) -> Result<(Vec<u8>, Vec<String>), Refusal> {
     let mut records = vec![0; LARGEST_CIRCUIT];
     let count = ullimaqsu::bench(text, &mut records)? as usize;
     records.truncate(8 * count);

@@ -15,6 +15,13 @@ impl Columns {
     }
 }
 
+/// Rows of as many cells each, their columns as wide as need be.
+pub fn table(rows: &[Vec<String>]) -> String {
+    let cells = rows.first().map_or(0, Vec::len);
+    let columns = Columns::new((0..cells).map(|column| widest(rows.iter().map(|row| &row[column]))));
+    rows.iter().map(|row| columns.row(row)).collect()
+}
+
 /// The width of the widest.
 pub fn widest<S: AsRef<str>>(cells: impl IntoIterator<Item = S>) -> usize {
     cells.into_iter().map(|cell| cell.as_ref().chars().count()).max().unwrap_or(0)

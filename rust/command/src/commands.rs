@@ -9,6 +9,7 @@ mod faults;
 mod narrow;
 mod search;
 mod suspects;
+mod unfold;
 mod values;
 
 use crate::help;
@@ -38,7 +39,7 @@ pub struct Command {
     pub run: fn(&Words, &mut Out) -> Result<(), Problem>,
 }
 
-const COMMANDS: [&Command; 11] = [
+const COMMANDS: [&Command; 12] = [
     &check::COMMAND,
     &faults::COMMAND,
     &search::COMMAND,
@@ -50,6 +51,7 @@ const COMMANDS: [&Command; 11] = [
     &values::COMMAND,
     &narrow::COMMAND,
     &bench::COMMAND,
+    &unfold::COMMAND,
 ];
 
 impl Command {

@@ -34,7 +34,7 @@ const AFTER: &str = "\
 ullimaqsu COMMAND --help says what a command takes, with an example. ullimaqsu --version says what was linked.
 
 A circuit is a text in the bench notation, or records (circuit.rec). The notation has no name for a selector: a circuit with selectors comes as records. A
-fault is NAME/0 or NAME/1, the line of that name stuck at 0 or 1; or at a pin of its gate NAME.1/0 or NAME.1/1, the same with .2, and with .3 at the select
+text with flip-flops, Q = DFF(D), is read by unfold, dictionary --steps, faults and narrow. A fault is NAME/0 or NAME/1, the line of that name stuck at 0 or 1; or at a pin of its gate NAME.1/0 or NAME.1/1, the same with .2, and with .3 at the select
 of a selector. A pattern has 0, 1 or X for each input, in the order of the lines. Files have one fault, one pattern or one report a line; blanks and comments, from # to
 the end of the line, may stand in them.
 

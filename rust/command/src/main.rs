@@ -1,15 +1,17 @@
 //! `ullimaqsu`: the proved test tools as commands, by the names of a circuit's text.
 //!
 //! A command reads its files, calls the library and prints. What the library answers is proved; this program is tested. Made here, besides words,
-//! tables and pictures of the library's answers, are the choice of `faults --collapse`, the texts of `narrow`, the head lines that `check` and
-//! `search` speak of, the numbers of detected faults, the pattern that `audit` names for a lost fault or pair, and the one that `suspects` says to
-//! try.
+//! tables and pictures of the library's answers, are the choice of `faults --collapse`, the texts of `narrow`, the inputs and state records for the
+//! flip-flops of a text, the head lines that `check` and `search` speak of, the numbers of detected faults, the pattern that `audit` names for a
+//! lost fault or pair, and the one that `suspects` says to try.
 mod bar;
 mod circuit;
+mod clocked;
 mod collapse;
 mod columns;
 mod commands;
 mod drawing;
+mod edit;
 mod entry;
 mod explain;
 mod fault;
@@ -32,6 +34,7 @@ mod problem;
 mod replace;
 mod simulation;
 mod table;
+mod unfolded;
 mod value;
 mod words;
 

@@ -6,18 +6,18 @@
 //! every pattern, X's included.
 //!
 //! The gates that are made stand in lines of their own before the line of the wide gate, where its sources alone are put anew. All other bytes
-//! stay, but for keywords in small letters and `BUF`, which are put as the library reads them.
-mod edit;
+//! stay, but for keywords in small letters and `BUF`, which are put as the library reads them. Flip-flops stay flip-flops.
 mod fresh;
 mod tree;
 
+use crate::clocked;
+use crate::edit::{Edit, Edited};
 use crate::explain::{explain_statements, too_large, CYCLE, MOST_BYTES, NAME};
 use crate::notation::{at_place, Gate, Spelling, Text};
-use edit::{Edit, Edited};
 use fresh::Fresh;
-use ullimaqsu::{Refusal, LARGEST_CIRCUIT, MOST_LINES};
+use ullimaqsu::{Refusal, MOST_LINES};
 
-/// The text with gates of two sources, which the library accepts; or what is wrong, in words.
+/// The text with gates of two sources, which the library accepts, flip-flops apart; or what is wrong, in words.
 pub fn narrowed(text: &[u8]) -> Result<Vec<u8>, String> {
     let text = Text::read(text, Spelling::Wide).map_err(|stuck| at_place(text, stuck.at, &stuck.says))?;
     let lines = text.definitions().count() + text.gates().map(made_for).sum::<usize>();
@@ -28,7 +28,7 @@ pub fn narrowed(text: &[u8]) -> Result<Vec<u8>, String> {
     if narrow.bytes.len() > MOST_BYTES {
         return Err(too_large_narrow("text", narrow.bytes.len(), "bytes", MOST_BYTES));
     }
-    match ullimaqsu::bench(&narrow.bytes, &mut [0; LARGEST_CIRCUIT]) {
+    match clocked::read(&Text::read(&narrow.bytes, Spelling::Clocked).expect("a narrow text is right in syntax")) {
         Ok(_) => Ok(narrow.bytes),
         Err(refusal) => Err(explain_statements(&text, &of_the_original(&text, &narrow, refusal))),
     }

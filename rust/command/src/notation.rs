@@ -1,7 +1,7 @@
 //! The bench notation, read by hand: what a text says, or the first byte that can't go on and what should stand there.
 //!
-//! Which texts are accepted the library alone decides. This reading is for what it does not give: words for a refusal, and texts with gates of
-//! three and more sources, which it refuses.
+//! Which texts are accepted the library alone decides. This reading is for what it does not give: words for a refusal, and texts that it refuses,
+//! with gates of three and more sources or with flip-flops.
 mod brackets;
 mod place;
 mod reader;
@@ -19,7 +19,9 @@ pub const LONGEST_NAME: usize = 16;
 pub enum Spelling {
     /// As the library reads it.
     Strict,
-    /// As many files are: with gates of any number of sources above one, keywords in small letters, and `BUF`.
+    /// The same, and flip-flops besides.
+    Clocked,
+    /// As many files are: with flip-flops, gates of any number of sources above one, keywords in small letters, and `BUF`.
     Wide,
 }
 
@@ -57,12 +59,22 @@ pub struct Gate<'a> {
     pub sources: Vec<Word<'a>>,
 }
 
+/// `Q = DFF(D)`: at each clock the state line Q takes the value that the data line D had.
+#[derive(Debug)]
+pub struct FlipFlop<'a> {
+    pub state: Word<'a>,
+    pub data: Word<'a>,
+    /// The byte behind its bracket.
+    pub end: usize,
+}
+
 /// What a line of a text says.
 #[derive(Debug)]
 pub enum Statement<'a> {
     Input(Word<'a>),
     Output(Word<'a>),
     Gate(Gate<'a>),
+    FlipFlop(FlipFlop<'a>),
 }
 
 /// A keyword that is not spelled as the library reads it, and how it should be.
@@ -100,11 +112,20 @@ impl<'a> Text<'a> {
         })
     }
 
-    /// The names where they are defined, as inputs or gates, in the order of the text.
+    /// In the order of the text.
+    pub fn flip_flops(&self) -> impl Iterator<Item = &FlipFlop<'a>> {
+        self.statements.iter().filter_map(|statement| match statement {
+            Statement::FlipFlop(flip_flop) => Some(flip_flop),
+            _ => None,
+        })
+    }
+
+    /// The names where they are defined, as inputs, gates or flip-flops, in the order of the text.
     pub fn definitions(&self) -> impl Iterator<Item = Word<'a>> + '_ {
         self.statements.iter().filter_map(|statement| match statement {
             Statement::Input(name) => Some(*name),
             Statement::Gate(gate) => Some(gate.name),
+            Statement::FlipFlop(flip_flop) => Some(flip_flop.state),
             Statement::Output(_) => None,
         })
     }

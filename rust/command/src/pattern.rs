@@ -21,7 +21,8 @@ impl Pattern {
         if values.len() != inputs {
             // the first value too many, or where the next one would stand
             let at = letters().nth(inputs).map_or(word.trim_end_matches(is_blank).len(), |(at, _)| at);
-            return Err((at, format!("this pattern has {}, and the circuit has {}", count(values.len(), "value"), count(inputs, "input"))));
+            let [has, called] = [count(values.len(), "value"), format!("the {} has {}", circuit.called, count(inputs, "input"))];
+            return Err((at, format!("this pattern has {has}, and {called}")));
         }
         Ok(Pattern(values.into_iter().map(|value| value as u8).collect()))
     }
@@ -39,7 +40,8 @@ pub fn load(path: &Path, circuit: &Circuit) -> Result<Vec<Pattern>, Problem> {
 fn of_records(bytes: &[u8], circuit: &Circuit) -> Result<Vec<Pattern>, String> {
     let inputs = circuit.counts.inputs as usize;
     if !bytes.len().is_multiple_of(inputs) {
-        return Err(format!("the circuit has {}, and {} bytes are no multiple of that", count(inputs, "input"), bytes.len()));
+        let (called, inputs) = (circuit.called, count(inputs, "input"));
+        return Err(format!("the {called} has {inputs}, and {} bytes are no multiple of that", bytes.len()));
     }
     if let Some(place) = bytes.iter().position(|&byte| byte > 2) {
         return Err(Refusal::new(9, place as u64).to_string());
@@ -50,4 +52,9 @@ fn of_records(bytes: &[u8], circuit: &Circuit) -> Result<Vec<Pattern>, String> {
 fn of_text(bytes: &[u8], circuit: &Circuit) -> Result<Vec<Pattern>, String> {
     let written = (1..).zip(lines(bytes)).filter(|(_, line)| !line.trim_matches(is_blank).is_empty());
     written.map(|(number, line)| Pattern::read(&line, circuit).map_err(|(at, says)| place(number, at, &says))).collect()
+}
+
+/// Patterns as the library reads them, one after the other.
+pub fn bytes(patterns: &[Pattern]) -> Vec<u8> {
+    patterns.iter().flat_map(|pattern| pattern.0.iter().copied()).collect()
 }

@@ -1,10 +1,15 @@
 //! `ullimaqsu faults`: every fault by name, and collapsing held to what simulation says.
+#[path = "unfold/drawn.rs"]
+#[allow(dead_code)] // the tests of unfold ask for more
+mod clocked;
 mod harness;
 
 use cases::{circuits, drawn, texts, Directory, Random};
+use clocked::Drawn;
 use harness::named::Named;
 use harness::{example, examples, printed, selectors, stopped, ullimaqsu};
 use second::circuit::Gate;
+use second::clocked::Clocked;
 use second::{Circuit, Fault, Site, Value};
 use std::collections::HashSet;
 use std::fs;
@@ -170,6 +175,30 @@ fn collapsing() {
     assert!(left_out > 100);
     // c17 has 22 classes, as every textbook says
     assert_eq!(faults(&example("c17"), &["--pins", "--collapse"]).lines().count(), 22);
+}
+
+/// Flip-flops have the faults of their lines, and what they take over is seen: a data line is no wire. What is then called equivalent no run over
+/// several steps tells apart, and with data lines as wires this would be seen.
+#[test]
+fn faults_of_flip_flops() {
+    let (directory, random) = (Directory::new("faults of flip-flops"), &mut Random::new(4));
+    let (mut told_apart, mut left_out) = (0, 0);
+    for case in drawn(6, 80, Drawn::new) {
+        let (path, named, clocked) = (directory.write("clocked.bench", &case.text), &case.named, case.clocked());
+        let seen = pairs(&Clocked { steps: 1, ..clocked.clone() }.unfolded(), textbook, wire);
+        for (options, all) in [(&[][..], named.faults(false)), (&["--pins"], named.faults(true))] {
+            assert_eq!(faults(&path, options), named.fault_lines(&all));
+            let firsts = firsts(&all, &seen);
+            assert_eq!(faults(&path, &[options, &["--collapse"]].concat()), named.fault_lines(&firsts));
+            left_out += all.len() - firsts.len();
+        }
+        let vectors: Vec<Vec<Value>> = (0..16).map(|_| (0..clocked.inputs()).map(|_| Some(random.once_in(2))).collect()).collect();
+        let shown = |fault| vectors.iter().map(|vector| clocked.compared(&clocked.run(vector, Some(fault)))).collect::<Vec<_>>();
+        let none_differs = |pairs: &[(Fault, Fault)]| pairs.iter().all(|&(one, other)| shown(one) == shown(other));
+        assert!(none_differs(&seen), "{}", String::from_utf8_lossy(&case.text));
+        told_apart += usize::from(!none_differs(&pairs(&named.circuit, textbook, wire)));
+    }
+    assert!(told_apart > 5 && left_out > 100, "{told_apart} {left_out}");
 }
 
 /// A selector's line has eight faults, of which no two are equivalent. In the example every class is found: with one fault of each, no two

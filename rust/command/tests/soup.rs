@@ -8,8 +8,9 @@ use std::fs;
 use std::process::Command;
 
 /// Files that go with each other, by name.
-const FILES: [(&str, &[u8]); 5] = [
+const FILES: [(&str, &[u8]); 6] = [
     ("circuit", b"INPUT(a)\nINPUT(b)\nOUTPUT(y)\ny = AND(a, b)\n"),
+    ("clocked", b"INPUT(a)\nb = DFF(y)\nOUTPUT(y)\ny = AND(a, b)\n"),
     ("faults", b"y/0\ny.1/1 # a pin\n\na/1\n"),
     ("patterns", b"01\n1X\n x 0\n"),
     ("marks", b"K D\nK\n"),
@@ -17,7 +18,7 @@ const FILES: [(&str, &[u8]); 5] = [
 ];
 
 /// Right command lines on those files, each with its options.
-const LINES: [(&str, &[&str]); 13] = [
+const LINES: [(&str, &[&str]); 15] = [
     ("check circuit", &["--heads"]),
     ("faults circuit", &["--pins", "--collapse", "-o"]),
     ("search circuit y/0", &["--budget", "-o", "--csv", "--json"]),
@@ -31,11 +32,13 @@ const LINES: [(&str, &[&str]); 13] = [
     ("values circuit 1X y.1/0", &["--svg", "--csv", "--json"]),
     ("narrow circuit", &["-o"]),
     ("bench circuit", &[]),
+    ("unfold clocked 2", &["--lines"]),
+    ("dictionary clocked faults patterns --steps 1", &["--csv", "--json"]),
 ];
 
-const FLAGS: [&str; 12] =
-    ["--all", "--heads", "--compare", "--pins", "--collapse", "--csv", "--json", "--comments", "--", "-", "-x", "--help"];
-const TAKE_A_VALUE: [&str; 5] = ["--budget", "--faults", "-o", "--marks", "--svg"];
+const FLAGS: [&str; 13] =
+    ["--all", "--heads", "--compare", "--lines", "--pins", "--collapse", "--csv", "--json", "--comments", "--", "-", "-x", "--help"];
+const TAKE_A_VALUE: [&str; 6] = ["--budget", "--faults", "-o", "--marks", "--svg", "--steps"];
 const WORDS: [&str; 16] =
     ["y/0", "a/1", "y.1/0", "y.3/0", "/", ".", ".1", "", "01", "1X", "0 1", "2", "99", "\u{e9}/\u{1b}0", "0/0", "new"];
 
@@ -114,7 +117,7 @@ fn any_words_and_files() {
         let words = words(random);
         (in_its_directory(random, &words), words)
     };
-    for (((status, printed, said), written), words) in drawn(1, 900, one) {
+    for (((status, printed, said), written), words) in drawn(1, 1200, one) {
         let status = status.expect("no signal");
         tally.count(status as u32);
         // an audit prints what it finds, and suspects go on after a report that is not understood
@@ -138,5 +141,5 @@ fn any_words_and_files() {
     }
     println!("soup: {tally}");
     assert_eq!(tally.seen(), [0, 1, 2]);
-    assert_eq!(Vec::from_iter(&writers), ["bench", "clauses", "compact", "faults", "narrow", "search", "values"]);
+    assert_eq!(Vec::from_iter(&writers), ["bench", "clauses", "compact", "faults", "narrow", "search", "unfold", "values"]);
 }

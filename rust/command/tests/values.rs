@@ -5,7 +5,7 @@ mod xml;
 
 use cases::{circuits, drawn, texts, Directory, Random};
 use harness::json::Json;
-use harness::named::{letters, Named};
+use harness::named::{kind, letters, Named};
 use harness::{example, examples, into_broken, into_full, printed, refused, selectors, stopped, ullimaqsu};
 use second::circuit::Gate;
 use second::{Entry, Fault, Pattern, Value};
@@ -54,18 +54,7 @@ impl Case<'_> {
     }
 
     fn kind(&self, line: usize) -> &'static str {
-        match self.named.circuit.lines[line].gate {
-            Gate::Input => "INPUT",
-            Gate::Buffer(_) => "BUFF",
-            Gate::Not(_) => "NOT",
-            Gate::And(..) => "AND",
-            Gate::Nand(..) => "NAND",
-            Gate::Or(..) => "OR",
-            Gate::Nor(..) => "NOR",
-            Gate::Xor(..) => "XOR",
-            Gate::Xnor(..) => "XNOR",
-            Gate::Selector(..) => "SELECTOR",
-        }
+        kind(self.named.circuit.lines[line].gate)
     }
 
     /// What is written into its body.

@@ -1,11 +1,11 @@
 //! All faults of a circuit.
 use super::Command;
-use crate::circuit::Circuit;
 use crate::collapse::collapsed;
 use crate::fault;
 use crate::out::Out;
 use crate::problem::Problem;
 use crate::replace::write_or_print;
+use crate::unfolded::one_step;
 use crate::words::{Choice, Words};
 
 pub const COMMAND: Command = Command {
@@ -25,14 +25,16 @@ NAME.3/1, as far as it has these pins; pin 3 is the select of a selector.
 
 --collapse leaves out what textbooks call equivalent: a pin of an AND at 0 and its line at 0, of a NAND at 0 and its line at 1, of an OR at 1 and its
 line at 1, of a NOR at 1 and its line at 0, the pin and the line of a BUFF or NOT; and a line that one pin alone reads, and that is no output, with that
-pin.",
+pin.
+
+A text may have flip-flops, as for dictionary --steps. Each has the faults of its line, and none at a pin. What it takes over counts as an output.",
     example: "ullimaqsu faults examples/bench/c17.bench --pins --collapse",
     run,
 };
 
 fn run(words: &Words, out: &mut Out) -> Result<(), Problem> {
     let path = words.at(0);
-    let circuit = Circuit::load(path)?;
+    let circuit = one_step(path)?;
     let mut faults = fault::all(&circuit, words.has("--pins"));
     if words.has("--collapse") {
         faults = collapsed(&circuit, faults);

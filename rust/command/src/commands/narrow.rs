@@ -21,8 +21,8 @@ pub const COMMAND: Command = Command {
     more: "\
 Such a gate becomes a balanced tree: y = NAND(a, b, c, d) becomes y_1 = AND(a, b), y_2 = AND(c, d) and y = NAND(y_1, y_2). The gates that are made
 stand in lines before the gate's own, and their names, of 16 letters at most, are no names of the text. Every name of the text keeps its value under
-every pattern, X's included. Comments, blanks, line ends and all other lines stay as they are; only keywords in small letters are put in capitals,
-and BUF becomes BUFF.
+every pattern, X's included. Comments, blanks, line ends and all other lines, those of flip-flops among them, stay as they are; only keywords in small
+letters are put in capitals, and BUF becomes BUFF.
 
 FILE has at most 1 MiB. What is no text of the notation but for such gates and keywords is refused with line and column, as is an AND or OR of one
 source. What then has more than 32,768 bytes or 2,048 lines is refused too. Of what is refused nothing is written.",

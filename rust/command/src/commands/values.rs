@@ -1,7 +1,7 @@
 //! The values of all lines under a pattern.
 use super::Command;
 use crate::circuit::Circuit;
-use crate::columns::{widest, Columns};
+use crate::columns;
 use crate::drawing;
 use crate::fault::Fault;
 use crate::form::{csv_row, list, quoted, Form, CSV, JSON};
@@ -68,8 +68,7 @@ fn heads(simulation: &Simulation) -> &'static [&'static str] {
 
 /// The cells of a line.
 fn cells(circuit: &Circuit, simulation: &Simulation, line: usize) -> Vec<String> {
-    let sources: Vec<&str> = circuit.sources(line).into_iter().map(|source| circuit.name(source)).collect();
-    let mut cells = vec![circuit.name(line).to_string(), circuit.kind(line).word().to_string(), sources.join(" ")];
+    let mut cells = circuit.cells(line).to_vec();
     cells.push(simulation.good(line).letter().to_string());
     if let Some(faulty) = simulation.faulty(line) {
         cells.extend([faulty.letter().to_string(), simulation.difference(line).mark().to_string()]);
@@ -85,10 +84,8 @@ fn rows(circuit: &Circuit, simulation: &Simulation) -> Vec<Vec<String>> {
 }
 
 fn table(circuit: &Circuit, simulation: &Simulation) -> String {
-    let rows = rows(circuit, simulation);
-    let columns = Columns::new((0..rows[0].len()).map(|column| widest(rows.iter().map(|row| &row[column]))));
     let verdict = simulation.verdict(circuit).map_or(String::new(), |verdict| verdict + "\n");
-    rows.iter().map(|row| columns.row(row)).collect::<String>() + &verdict
+    columns::table(&rows(circuit, simulation)) + &verdict
 }
 
 fn csv(circuit: &Circuit, simulation: &Simulation) -> String {

@@ -3,7 +3,7 @@ use crate::notation::{Statement, Text};
 use ullimaqsu::MOST_LINES;
 
 /// The most inputs of a circuit.
-const MOST_INPUTS: usize = 64;
+pub const MOST_INPUTS: usize = 64;
 
 const LINES: u32 = 1;
 const INPUTS: u32 = 4;
@@ -13,10 +13,15 @@ const OUTPUTS: u32 = 5;
 pub fn explain(text: &Text, number: u32) -> Option<String> {
     let lines = text.definitions().count();
     let inputs = lines - text.gates().count();
+    // a flip-flop is an input of the circuit whose steps are unfolded
+    let [all, those] = match text.flip_flops().next() {
+        None => ["inputs and gates", "inputs"],
+        Some(_) => ["inputs, flip-flops and gates", "inputs and flip-flops"],
+    };
     match number {
         LINES if lines == 0 => Some("there is no INPUT and no gate in this text".to_string()),
-        LINES if lines > MOST_LINES => Some(too_large("circuit", lines, "inputs and gates", MOST_LINES)),
-        INPUTS if inputs > MOST_INPUTS => Some(too_large("circuit", inputs, "inputs", MOST_INPUTS)),
+        LINES if lines > MOST_LINES => Some(too_large("circuit", lines, all, MOST_LINES)),
+        INPUTS if inputs > MOST_INPUTS => Some(too_large("circuit", inputs, those, MOST_INPUTS)),
         OUTPUTS if !has_output(text) => Some("there is no OUTPUT in this text".to_string()),
         _ => None,
     }

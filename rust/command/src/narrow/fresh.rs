@@ -10,6 +10,7 @@ impl Fresh {
         let words = text.statements.iter().flat_map(|statement| match statement {
             Statement::Input(name) | Statement::Output(name) => vec![name],
             Statement::Gate(gate) => gate.sources.iter().chain([&gate.name]).collect(),
+            Statement::FlipFlop(flip_flop) => vec![&flip_flop.state, &flip_flop.data],
         });
         Fresh(words.map(Word::letters).collect())
     }

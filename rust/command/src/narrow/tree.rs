@@ -1,6 +1,6 @@
 //! The tree of one gate.
-use super::edit::{Edit, Piece};
 use super::fresh::Fresh;
+use crate::edit::{Edit, Piece};
 use crate::kind::Kind;
 use crate::notation::{line_begin, Gate, Word};
 

@@ -18,7 +18,7 @@ impl Brackets {
     pub fn of(kind: Kind, spelling: Spelling) -> Brackets {
         match (kind.pins(), spelling) {
             (1, _) => OneSource,
-            (_, Spelling::Strict) => TwoSources,
+            (_, Spelling::Strict | Spelling::Clocked) => TwoSources,
             (_, Spelling::Wide) => Sources,
         }
     }

@@ -1,10 +1,13 @@
 //! A function for each form, which takes what belongs to it and stops at the first byte that can't go on.
 use super::brackets::Brackets;
-use super::{is_of_a_name, word_at, Gate, Misspelled, Spelling, Statement, Stuck, Text, Word, LONGEST_NAME};
+use super::{is_of_a_name, word_at, FlipFlop, Gate, Misspelled, Spelling, Statement, Stuck, Text, Word, LONGEST_NAME};
 use crate::kind::Kind;
 
 /// The kinds of gates that the notation has a word for, in the order in which they are listed. No word begins another.
 const GATES: [Kind; 8] = [Kind::Buffer, Kind::Not, Kind::And, Kind::Nand, Kind::Or, Kind::Nor, Kind::Xor, Kind::Xnor];
+
+/// The word of a flip-flop, which begins no other and which no other begins.
+const FLIP_FLOP: &str = "DFF";
 
 /// What some files have for BUFF.
 const SHORT_BUFFER: &str = "BUF";
@@ -73,13 +76,13 @@ impl<'a> Reader<'a> {
                 let name = self.brackets(first, Brackets::Name)?.remove(0);
                 Ok(if keyword == "INPUT" { Statement::Input(name) } else { Statement::Output(name) })
             }
-            (_, Some(b'=')) => Ok(Statement::Gate(self.gate(first)?)),
+            (_, Some(b'=')) => self.definition(first),
             (Some(_), _) => Err(self.must(&format!("after {first}"), "`(` or `=`")),
             (None, ahead) => {
                 let mut stuck = self.must(&format!("after {first}"), "`=`");
                 if ahead == Some(b'(') {
                     stuck.says += match self.spelling {
-                        Spelling::Strict => "; only INPUT and OUTPUT, in capitals, are followed by `(`",
+                        Spelling::Strict | Spelling::Clocked => "; only INPUT and OUTPUT, in capitals, are followed by `(`",
                         Spelling::Wide => "; only INPUT and OUTPUT are followed by `(`",
                     };
                 }
@@ -89,19 +92,23 @@ impl<'a> Reader<'a> {
     }
 
     /// From `=` on.
-    fn gate(&mut self, name: Word<'a>) -> Read<Gate<'a>> {
+    fn definition(&mut self, name: Word<'a>) -> Read<Statement<'a>> {
         self.at += 1;
         let (word, kind) = self.kind()?;
         self.blanks();
         if self.ahead() != Some(b'(') {
             return Err(self.must(&format!("after {word}"), "`(`"));
         }
-        let sources = self.brackets(word, Brackets::of(kind, self.spelling))?;
-        Ok(Gate { name, kind, sources })
+        let brackets = kind.map_or(Brackets::OneSource, |kind| Brackets::of(kind, self.spelling));
+        let sources = self.brackets(word, brackets)?;
+        Ok(match kind {
+            Some(kind) => Statement::Gate(Gate { name, kind, sources }),
+            None => Statement::FlipFlop(FlipFlop { state: name, data: sources[0], end: self.at }),
+        })
     }
 
-    /// The word of a kind, after blanks: letter by letter, as far as there is a kind that begins so.
-    fn kind(&mut self) -> Read<(Word<'a>, Kind)> {
+    /// The word of a kind, after blanks: letter by letter, as far as there is one that begins so. That of a flip-flop is no kind.
+    fn kind(&mut self) -> Read<(Word<'a>, Option<Kind>)> {
         self.blanks();
         let begin = self.at;
         while self.at < self.text.len() && self.kinds_from(&self.text[begin..=self.at]).next().is_some() {
@@ -110,16 +117,22 @@ impl<'a> Reader<'a> {
         let word = Word { at: begin, name: &self.text[begin..self.at] };
         let wide = self.spelling == Spelling::Wide;
         let kind = match GATES.into_iter().find(|kind| self.is(word.name, kind.word())) {
-            None if wide && self.is(word.name, SHORT_BUFFER) => Kind::Buffer,
+            None if self.reads_flip_flops() && self.is(word.name, FLIP_FLOP) => None,
+            None if wide && self.is(word.name, SHORT_BUFFER) => Some(Kind::Buffer),
             None => return Err(self.no_kind(word)),
-            Some(kind) => kind,
+            kind => kind,
         };
-        self.note(word, kind.word());
+        self.note(word, kind.map_or(FLIP_FLOP, Kind::word));
         Ok((word, kind))
     }
 
+    fn reads_flip_flops(&self) -> bool {
+        self.spelling != Spelling::Strict
+    }
+
     fn kinds_from<'b>(&'b self, begin: &'b [u8]) -> impl Iterator<Item = &'static str> + 'b {
-        GATES.into_iter().map(Kind::word).filter(|word| word.get(..begin.len()).is_some_and(|letters| self.is(begin, letters)))
+        let words = GATES.into_iter().map(Kind::word).chain(self.reads_flip_flops().then_some(FLIP_FLOP));
+        words.filter(|word| word.get(..begin.len()).is_some_and(|letters| self.is(begin, letters)))
     }
 
     fn no_kind(&self, word: Word) -> Stuck {
@@ -135,6 +148,9 @@ impl<'a> Reader<'a> {
         let whole = word_at(self.text, word.at).letters();
         if SELECTOR.iter().any(|selector| whole.eq_ignore_ascii_case(selector)) {
             stuck.says += "; the notation has no name for a selector, and a circuit with selectors comes as records";
+        }
+        if !self.reads_flip_flops() && whole.eq_ignore_ascii_case(FLIP_FLOP) {
+            stuck.says += "; flip-flops are read by unfold, dictionary --steps, faults and narrow alone";
         }
         stuck
     }
@@ -184,7 +200,7 @@ impl<'a> Reader<'a> {
     /// Whether a word is this keyword.
     fn is(&self, word: &[u8], keyword: &str) -> bool {
         match self.spelling {
-            Spelling::Strict => word == keyword.as_bytes(),
+            Spelling::Strict | Spelling::Clocked => word == keyword.as_bytes(),
             Spelling::Wide => word.eq_ignore_ascii_case(keyword.as_bytes()),
         }
     }
@@ -199,7 +215,7 @@ impl<'a> Reader<'a> {
     /// What is asked of keywords, behind them.
     fn in_capitals(&self) -> &'static str {
         match self.spelling {
-            Spelling::Strict => ", in capitals",
+            Spelling::Strict | Spelling::Clocked => ", in capitals",
             Spelling::Wide => "",
         }
     }

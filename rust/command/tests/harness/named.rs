@@ -1,6 +1,7 @@
 //! Circuits of the second program, with the names that a user knows.
 use cases::Random;
 use second::bench::placed;
+use second::circuit::Gate;
 use second::{Circuit, Fault, Given, Pattern, Site};
 use std::fs;
 use std::path::Path;
@@ -73,6 +74,22 @@ impl Named {
     /// Faults as a file, one a line.
     pub fn fault_lines(&self, faults: &[Fault]) -> String {
         faults.iter().map(|&fault| self.word(fault) + "\n").collect()
+    }
+}
+
+/// The word of a gate's kind.
+pub fn kind(gate: Gate) -> &'static str {
+    match gate {
+        Gate::Input => "INPUT",
+        Gate::Buffer(_) => "BUFF",
+        Gate::Not(_) => "NOT",
+        Gate::And(..) => "AND",
+        Gate::Nand(..) => "NAND",
+        Gate::Or(..) => "OR",
+        Gate::Nor(..) => "NOR",
+        Gate::Xor(..) => "XOR",
+        Gate::Xnor(..) => "XNOR",
+        Gate::Selector(..) => "SELECTOR",
     }
 }
 

@@ -54,6 +54,9 @@ fn trees() {
         ("y = xnor(a, b, c)\r", "y_1 = XOR(a, b)\r\ny = XNOR(y_1, c)\r"),
         ("y = buf(a)", "y = BUFF(a)"),
         ("y = nand(a, b)", "y = NAND(a, b)"),
+        ("y = AND(a, b, c)\ny_1 = DFF(y)", "y_2 = AND(a, b)\ny = AND(y_2, c)\ny_1 = DFF(y)"),
+        ("y_1 = dff(y)\ny = AND(a, b, y_1)", "y_1 = DFF(y)\ny_2 = AND(a, b)\ny = AND(y_2, y_1)"),
+        ("y = AND(a, b, y_2)\n\ty_2\t= DFF ( y )\r", "y_1 = AND(a, b)\ny = AND(y_1, y_2)\n\ty_2\t= DFF ( y )\r"),
     ];
     for (wide, right) in rows {
         let text = |statement: &str| format!("INPUT(a)\nINPUT(b)\nINPUT(c)\nINPUT(d)\nOUTPUT(y)\n{statement}\n").into_bytes();
@@ -89,6 +92,25 @@ fn drawn_texts() {
     }
     assert!(made > 5000 && longest > 1000, "{made} {longest}");
     println!("narrow: 400 texts, {made} gates made");
+}
+
+/// Flip-flops stay as they are: a text with flip-flops of themselves for some of its inputs becomes what it becomes with the inputs.
+#[test]
+fn flip_flops() {
+    let directory = Directory::new("flip-flops");
+    let (random, mut count) = (&mut Random::new(8), 0);
+    for statements in drawn(9, 60, |random: &mut Random| wide::plain(random, &wide::MANY, 8)) {
+        let inputs: Vec<String> = statements.iter().filter(|one| one[0] == "INPUT").map(|one| one[2].clone()).collect();
+        let chosen: Vec<&String> = inputs.iter().filter(|_| random.once_in(2)).collect();
+        let held = |text: &[u8]| {
+            let put = |text: String, name: &&String| text.replace(&format!("INPUT({name})\n"), &format!("{name}=DFF({name})\n"));
+            chosen.iter().fold(String::from_utf8(text.to_vec()).expect("text"), put).into_bytes()
+        };
+        let text = texts::dense(&statements);
+        assert_eq!(narrowed(&directory, &held(&text)), held(&narrowed(&directory, &text)));
+        count += chosen.len();
+    }
+    assert!(count > 60, "{count}");
 }
 
 /// What is asked of a narrow text is not there in these, which are wrong in one way each.

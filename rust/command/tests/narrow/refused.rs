@@ -26,10 +26,18 @@ fn words() {
         ("y = NOT(a,a)", "line 3, column 10 (byte 28): after the only source of `NOT` there must be `)`, and here is `,`"),
         ("y = buf(a,a)", "line 3, column 10 (byte 28): after the only source of `buf` there must be `)`, and here is `,`"),
         ("input(a,a)", "line 3, column 8 (byte 26): after the name in `input` there must be `)`, and here is `,`"),
-        ("y = DFF(a)", "line 3, column 5 (byte 23): after `=` there must be BUFF, NOT, AND, NAND, OR, NOR, XOR or XNOR, and here is `D`"),
+        ("y = DFF(a,a)", "line 3, column 10 (byte 28): after the only source of `DFF` there must be `)`, and here is `,`"),
+        ("y = dfg(a)", "line 3, column 7 (byte 25): after `df` there must be the rest of DFF, and here is `g`"),
+        ("z = OR(a,a,y)\ny = DFF(z_1)", "line 4, column 9 (byte 41): `z_1` is used here and defined nowhere"),
+        ("z = OR(a,a,y)\ny = dff(b)", "line 4, column 9 (byte 41): `b` is used here and defined nowhere"),
+        ("z = OR(a,a,y)\ny = dff(z)\ny = DFF(a)", "line 5, column 1 (byte 44): `y` is defined here a second time, after line 4"),
+        (
+            "z = OR(a,a,y)\ny = DFF(z)\nx = NOR(z,z,z,x)",
+            "line 5, column 1 (byte 44): gate 1, `x`, can't be placed: it depends on itself: `x` reads `x`",
+        ),
         (
             "y = mux(a,a,a)",
-            "line 3, column 5 (byte 23): after `=` there must be BUFF, NOT, AND, NAND, OR, NOR, XOR or XNOR, and here is `m`; \
+            "line 3, column 5 (byte 23): after `=` there must be BUFF, NOT, AND, NAND, OR, NOR, XOR, XNOR or DFF, and here is `m`; \
              the notation has no name for a selector, and a circuit with selectors comes as records",
         ),
         ("y = nax(a)", "line 3, column 7 (byte 25): after `na` there must be the rest of NAND, and here is `x`"),

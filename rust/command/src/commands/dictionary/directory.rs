@@ -1,46 +1,26 @@
 //! The dictionary of a directory's records, as the dictionary program prints it.
-use super::COMMAND;
+mod parts;
+
+use super::{COMMAND, STEPS};
 use crate::entry::Entry;
-use crate::files::{read, unreadable};
+use crate::files::unreadable;
 use crate::form::Form;
 use crate::marks;
 use crate::out::Out;
 use crate::problem::{shown, Problem};
+use crate::unfolded::unfolded;
+use parts::Parts;
 use std::fs;
 use std::io::ErrorKind;
-use std::path::{Path, PathBuf};
+use std::path::Path;
 use ullimaqsu::Refusal;
 
-/// A file of records: what is read of it, and whether it is there.
-struct Part {
-    path: PathBuf,
-    bytes: Vec<u8>,
-    absent: bool,
-}
-
-impl Part {
-    /// One byte above the limit is read: what is longer is refused, whatever follows.
-    fn load(directory: &Path, name: &str, limit: usize) -> Result<Part, Problem> {
-        let path = directory.join(name);
-        match fs::metadata(&path) {
-            Err(error) if error.kind() == ErrorKind::NotFound => Ok(Part { path, bytes: Vec::new(), absent: true }),
-            Ok(found) if !found.is_file() && !found.is_dir() => Err(Problem::Stopped(format!("{} is no regular file", shown(&path)))),
-            // where something else is wrong, the reading says what
-            _ => Ok(Part { bytes: read(&path, limit + 1)?, path, absent: false }),
-        }
-    }
-}
-
-pub fn run(directory: &Path, form: Form, out: &mut Out) -> Result<(), Problem> {
+pub fn run(directory: &Path, steps: Option<u64>, form: Form, out: &mut Out) -> Result<(), Problem> {
     is_directory(directory)?;
     if form != Form::Table {
         return Err(COMMAND.misused("prints a directory in no other form"));
     }
-    let parts = [
-        Part::load(directory, "circuit.rec", 16_384)?,
-        Part::load(directory, "faults.rec", 2_048)?,
-        Part::load(directory, "patterns.rec", 16_384)?,
-    ];
+    let parts = Parts::load(directory, steps)?;
     match listing(&parts) {
         Ok(listing) => out.print(&listing),
         Err(refusal) => refuse(&parts, refusal, out),
@@ -58,11 +38,13 @@ fn is_directory(directory: &Path) -> Result<(), Problem> {
 }
 
 /// A line for each pattern: its number, K kept or D dropped, and the letter of each fault.
-fn listing([circuit, faults, patterns]: &[Part; 3]) -> Result<String, Refusal> {
-    let counts = ullimaqsu::check(&circuit.bytes)?;
-    let [fault_count, pattern_count] = [faults.bytes.len() / 8, patterns.bytes.len() / counts.inputs as usize];
-    let (mut table, mut work) = (vec![0; fault_count * pattern_count], vec![0; 4 * counts.lines as usize]);
-    ullimaqsu::dictionary_lanes(&circuit.bytes, &faults.bytes, &patterns.bytes, &mut table, &mut work)?;
+fn listing(parts: &Parts) -> Result<String, Refusal> {
+    let fault_count = parts.faults.bytes.len() / 8;
+    let table = match &parts.clocked {
+        None => entries(parts, fault_count)?,
+        Some((steps, states)) => entries_over(parts, *steps, &states.bytes, fault_count)?,
+    };
+    let pattern_count = table.len() / fault_count;
     let mut marks = vec![0; pattern_count];
     ullimaqsu::compact(fault_count as u64, pattern_count as u64, &table, &mut marks)?;
     let line = |(number, (entries, mark)): (usize, (&[u8], &u8))| {
@@ -72,19 +54,40 @@ fn listing([circuit, faults, patterns]: &[Part; 3]) -> Result<String, Refusal> {
     Ok(table.chunks_exact(fault_count).zip(&marks).enumerate().map(line).collect())
 }
 
+/// The table. Where there is one, there are faults.
+fn entries(Parts { circuit, faults, patterns, .. }: &Parts, fault_count: usize) -> Result<Vec<u8>, Refusal> {
+    let counts = ullimaqsu::check(&circuit.bytes)?;
+    let pattern_count = patterns.bytes.len() / counts.inputs as usize;
+    let (mut table, mut work) = (vec![0; fault_count * pattern_count], vec![0; 4 * counts.lines as usize]);
+    ullimaqsu::dictionary_lanes(&circuit.bytes, &faults.bytes, &patterns.bytes, &mut table, &mut work)?;
+    Ok(table)
+}
+
+/// The same over several clock steps.
+fn entries_over(parts: &Parts, steps: u64, states: &[u8], fault_count: usize) -> Result<Vec<u8>, Refusal> {
+    let Parts { circuit, faults, patterns, .. } = parts;
+    let counts = ullimaqsu::check(&unfolded(&circuit.bytes, states, steps)?)?;
+    let pattern_count = patterns.bytes.len() / counts.inputs as usize;
+    let (mut table, mut work) = (vec![0; fault_count * pattern_count], vec![0; 2 * counts.lines as usize]);
+    ullimaqsu::unfold_dictionary(&circuit.bytes, states, steps, &faults.bytes, &patterns.bytes, &mut table, &mut work)?;
+    Ok(table)
+}
+
 /// Prints the refusal, and says what it means, of which file, and which files are absent.
-fn refuse(parts: &[Part; 3], refusal: Refusal, out: &mut Out) -> Result<(), Problem> {
+fn refuse(parts: &Parts, refusal: Refusal, out: &mut Out) -> Result<(), Problem> {
     out.print(&format!("refused {} {}\n", refusal.number, refusal.place))?;
     out.flush()?;
-    let of = match refusal.number {
-        1..=5 => &parts[0],
-        6 | 7 => &parts[1],
-        _ => &parts[2],
+    let of = match (refusal.number, &parts.clocked) {
+        (21, Some((steps, _))) => format!("{STEPS} {steps}"),
+        (18, Some((_, states))) => shown(&states.path),
+        (1..=5 | 19, _) => shown(&parts.circuit.path),
+        (6 | 7, _) => shown(&parts.faults.path),
+        _ => shown(&parts.patterns.path),
     };
     let words = refusal.to_string();
     let says = words.split_once(": ").map_or(words.as_str(), |(_, says)| says);
-    let absent = parts.iter().filter(|part| part.absent).map(|part| format!("there is no file {}", shown(&part.path)));
-    let mut lines: Vec<String> = [format!("{}: {says}", shown(&of.path))].into_iter().chain(absent).collect();
+    let absent = parts.all().filter(|part| part.absent).map(|part| format!("there is no file {}", shown(&part.path)));
+    let mut lines: Vec<String> = [format!("{of}: {says}")].into_iter().chain(absent).collect();
     let last = lines.pop().expect("one line at least");
     lines.into_iter().for_each(|line| Problem::Refused(line).tell());
     Err(Problem::Refused(last))
