@@ -48,8 +48,9 @@ module _ {c st : List ℕ} {k : ℕ} {fs ps : List ℕ} {table work : ℕ} (t : 
   pub faults-in-steps : FaultsInSteps (linesOf c) (linesAfter c k) fs
   faults-in-steps = record { inside = step-inside c k (t .clocked .steps .some-steps); lines = λ j l. t .rest .faults .faults j l .line }
 
-  pub steps-ready : TableReady 256 2 (unfolded c st k) (linesAfter c k) (inputsAfter c st k) fs ps table work
-  steps-ready = record {
+  -- with so many places for each line
+  pub steps-ready : (places : ℕ) {room : ℕ} → room ≡ places * linesAfter c k → TableReady 256 places (unfolded c st k) (linesAfter c k) (inputsAfter c st k) fs ps table room
+  steps-ready places fits = record {
     well = unfolded-formed (t .clocked .circuit-fine) (t .clocked .steps);
     most-lines = t .clocked .steps .most-lines;
     some-inputs = omega (arith, t .clocked .good .some-inputs);
@@ -60,7 +61,7 @@ module _ {c st : List ℕ} {k : ℕ} {fs ps : List ℕ} {table work : ℕ} (t : 
     patterns = t .rest .patterns .records;
     pattern-values = all-small ps (t .rest .patterns .bytes);
     entries = t .rest .table-is;
-    room = t .rest .work-is;
+    room = fits;
   }
 
 -- ---- the answer of the checks

@@ -2,3 +2,4 @@ pub mod Checked
 pub mod Looked
 pub mod Entries
 pub mod Says
+pub mod Last
