@@ -1,6 +1,6 @@
 -- The loops that write the records, line by line and step by step: where they start, room for the next, one more, and the end.
 -- Assumes nothing.
-use mathlib.Core.Path.{_≡_, refl, sym, ap, _∙_}
+use mathlib.Core.Path.{_≡_, sym, ap, _∙_}
 use mathlib.Core.List.{List, _++_, append-nil}
 use Prim.Native.Nat.{ℕ, suc, _+_, _*_, _/_, _%_, _≤_, _<_}
 use native.Mathlib.Nat.{suc-mul, zero-mul}
@@ -11,17 +11,13 @@ use Rattle.ground.specs.Put.{Put}
 use Rattle.ground.specs.Lists.{gather}
 use Rattle.ground.proofs.Gather.{gather-length, gather-add, gather-same}
 use Rattle.ground.proofs.Put.{put-none, put-then, put-long, put-whole, put-as}
-use Rattle.little.specs.Little.{le}
 use Rattle.circuit.specs.Record.{linesOf}
 use Rattle.states.specs.Rules.{linesAfter}
 use Rattle.unfolded.specs.Unfolded.{stepRecord, unfoldedTo, unfolded}
 use Rattle.unfolded.proofs.Steps.{step-of, place-of}
+use Rattle.unfolded.proofs.Fields.{record-length, front-long}
 use Rattle.unfold.specs.Owed.{stepTo}
 use Rattle.unfold.proofs.Line.{step-fits}
-
-record-length : (c st : List ℕ) (k i m : ℕ) → length (stepRecord c st k i m) ≡ 8
-unfolding stepRecord le
-record-length c st k i m = refl
 
 -- ---- the lines of a step
 
@@ -53,10 +49,6 @@ module _ (c st : List ℕ) (k : ℕ) where
   abbrev on : ℕ → List ℕ
   on j = stepRecord c st k (j / linesOf c) (j % linesOf c)
 
-  unfolded-length : (l : ℕ) → length (unfoldedTo c st k l) ≡ 8 * l
-  unfolding unfoldedTo
-  unfolded-length l = omega (arith, gather-length on 8 (λ j. record-length c st k (j / linesOf c) (j % linesOf c)) l)
-
   -- the lines of step i come behind those of the steps before it
   next-step : (i : ℕ) → unfoldedTo c st k (i * linesOf c) ++ stepTo c st k i (linesOf c) ≡ unfoldedTo c st k (suc i * linesOf c)
   unfolding unfoldedTo
@@ -78,7 +70,7 @@ steps-none c st k w = record { at-most = omega arith; put = rw zero-mul (put-non
 module _ {c st : List ℕ} {k : ℕ} {w₀ w : List ℕ} {at i : ℕ} (so : StepsSoFar c st k w₀ w at i) (room : length w₀ ≡ 8 * linesAfter c k) where
   pub step-room : i < k → at + 8 * linesOf c ≤ length w
   step-room l =
-      omega (arith, room, put-long (so .put), so .put .next-is, unfolded-length c st k (i * linesOf c), step-fits i k (linesOf c) l)
+      omega (arith, room, put-long (so .put), so .put .next-is, front-long c st k (i * linesOf c), step-fits i k (linesOf c) l)
 
   pub steps-more : {w′ : List ℕ} {at′ : ℕ} → i < k → Put w w′ at (stepTo c st k i (linesOf c)) at′ → StepsSoFar c st k w₀ w′ at′ (i + 1)
   steps-more l p = record { at-most = omega arith; put = rw add-one (put-as (next-step c st k i) (put-then (so .put) p)) }
@@ -86,6 +78,6 @@ module _ {c st : List ℕ} {k : ℕ} {w₀ w : List ℕ} {at i : ℕ} (so : Step
   pub steps-all : k ≤ i → w ≡ unfolded c st k
   steps-all l =
       let e : i ≡ k = omega (arith, so .at-most) in
-      let long : length (unfoldedTo c st k (i * linesOf c)) ≡ length w₀ = unfolded-length c st k (i * linesOf c) ∙ ap (λ (j : ℕ). 8 * (j * linesOf c)) e ∙ sym room in
+      let long : length (unfoldedTo c st k (i * linesOf c)) ≡ length w₀ = front-long c st k (i * linesOf c) ∙ ap (λ (j : ℕ). 8 * (j * linesOf c)) e ∙ sym room in
       put-whole (so .put) (omega arith)
       ∙ rw (drop-of-length-le w₀ {i = length (unfoldedTo c st k (i * linesOf c))} (omega arith), append-nil, e)

@@ -1,11 +1,12 @@
 -- The whole: the data lines marked in memory of its size, and that the numbers are small.
 -- Assumes nothing.
-use mathlib.Core.Path.{_≡_, _∙_}
+use mathlib.Core.Path.{_≡_, ap, _∙_}
 use mathlib.Core.List.{List}
 use Prim.Native.Nat.{ℕ, _*_, _≤_}
 use native.Mathlib.Nat.{zero-mul}
 use native.Mathlib.Omega.{arith}
 use lib.ListN.{length}
+use Rattle.states.specs.Rules.{linesAfter}
 use Rattle.unfold.specs.Owed.{StepsReady, UnfoldInReady, MarkDataReady, MarkDataDone, MarkedReady}
 use Rattle.unfold.proofs.Line.{step-few}
 
@@ -13,8 +14,11 @@ module _ {c st : List ℕ} {n k : ℕ} (ready : StepsReady c st n k) where
   pub few-lines : n ≤ 2048
   few-lines = omega (arith, rw zero-mul at (step-few ready 0 (ready .steps .some-steps)))
 
+  pub lines-after : k * n ≡ linesAfter c k
+  lines-after = ap (λ (l : ℕ). k * l) (ready .lines)
+
   pub few-after : k * n ≤ 2048
-  few-after = rw (ready .lines) (ready .steps .most-lines)
+  few-after = omega (arith, lines-after, ready .steps .most-lines)
 
 module _ {c st : List ℕ} {n k : ℕ} {marks u : List ℕ} (m : UnfoldInReady c st n k marks u) where
   pub not-marked : MarkDataReady st marks

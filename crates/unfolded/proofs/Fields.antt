@@ -19,7 +19,7 @@ use Rattle.unfolded.proofs.Sources.{source-most}
 
 -- ---- how long it is
 
-record-length : (c st : List ℕ) (k i m : ℕ) → length (stepRecord c st k i m) ≡ 8
+pub record-length : (c st : List ℕ) (k i m : ℕ) → length (stepRecord c st k i m) ≡ 8
 unfolding stepRecord le
 record-length c st k i m = refl
 
@@ -31,9 +31,13 @@ module _ (c st : List ℕ) (k : ℕ) where
   on-length : (j : ℕ) → length (on j) ≡ 8
   on-length j = record-length c st k (j / linesOf c) (j % linesOf c)
 
-  pub unfolded-long : length (unfolded c st k) ≡ 8 * linesAfter c k
+  -- the first l lines, and all
+  pub front-long : (l : ℕ) → length (unfoldedTo c st k l) ≡ 8 * l
   unfolding unfoldedTo
-  unfolded-long = omega (arith, gather-length on 8 on-length (linesAfter c k))
+  front-long l = omega (arith, gather-length on 8 on-length l)
+
+  pub unfolded-long : length (unfolded c st k) ≡ 8 * linesAfter c k
+  unfolded-long = front-long (linesAfter c k)
 
   pub unfolded-lines : linesOf (unfolded c st k) ≡ linesAfter c k
   unfolded-lines = rw unfolded-long (mul-div-right (linesAfter c k) (omega arith))

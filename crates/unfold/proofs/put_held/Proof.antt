@@ -7,7 +7,7 @@ use Rattle.unfold.proofs.put_held.Tie as tie
 returns : tie.Need-returns
 returns c =
     let from = c .before .before .before .before in
-    rw (← (from .before .data-line .ensures), ← (from .narrow .ensures)) (c .before .before .put-record .ensures)
+    rw (from .narrow .ensures, from .before .data-line .ensures) at (c .before .before .put-record .ensures)
 
 pub put-held-spec : {M : Type 1} → statement M
 put-held-spec =
