@@ -17,9 +17,8 @@ use Rattle.dictionary.proofs.Checked.{RestTaken, rest-says, rest-taken}
 use Rattle.states.specs.declared.Clocked.{Clocked}
 use Rattle.states.specs.declared.Clocked.the-variants.{Accepted, Refused}
 use Rattle.states.specs.Rules.{linesAfter, inputsAfter, clockedRules}
-use Rattle.states.specs.Owed.{ClockedChecked}
 use Rattle.states.proofs.Says.{clocked-says}
-use Rattle.states.proofs.Steps.{rulingOf, ruled, ClockedTaken, clocked-taken, clocked-refuses, clocked-accepts}
+use Rattle.states.proofs.Steps.{rulingOf, ruled, ClockedTaken, clocked-taken}
 use Rattle.unfolded.specs.Unfolded.{unfolded}
 use Rattle.unfolded.proofs.Accepted.{unfolded-formed}
 use Rattle.unfold_dictionary.specs.Promise.{restRules, stepsDictionaryRules}
@@ -65,6 +64,10 @@ module _ {c st : List ℕ} {k : ℕ} {fs ps : List ℕ} {table work : ℕ} (t : 
   }
 
 -- ---- the answer of the checks
+
+-- so few lines that their number fits
+pub few-lines : {c st : List ℕ} {k n : ℕ} → ClockedTaken c st k → n ≡ linesOf c → k * n ≤ 2048
+few-lines t lines = rw lines (t .steps .most-lines)
 
 -- the clocked circuit is accepted, with n lines in a step and m inputs after unfolding
 decides : (c st : List ℕ) (k : ℕ) (fs ps : List ℕ) (table work : ℕ) {n m : ℕ} → ClockedTaken c st k → n ≡ linesOf c → m ≡ inputsAfter c st k

@@ -69,10 +69,10 @@ module _ {c : List ℕ} {n step m : ℕ} {fs ps : List ℕ} {work : ℕ} (r : Le
       },
         record { line = r .steps .lines (faultCount fs - 1) at; inside = r .steps .inside; most = r .ready .most-lines })
 
-  pub left-last : {fault : Fault} {w w₁ w₂ : List ℕ} → fault ≡ lastFault fs
+  pub left-last : {fault : Fault} (w : List ℕ) {w₁ w₂ : List ℕ} → fault ≡ lastFault fs
       → w₁ ≡ goodOf c (behind m ps) n ++ drop n w
       → ForcedValuesDone (stuckInSteps step fault) c n w₁ w₂
       → w₂ ≡ workUnder (stuckInSteps step) c n m fs ps
   unfolding workUnder
-  left-last {w = w} is good faulty =
+  left-last w is good faulty =
       faulty (behind m ps) small (rw good (good-front c (behind m ps) n (drop n w))) ∙ rw (is, behind-is)

@@ -3,3 +3,4 @@ pub mod Looked
 pub mod Entries
 pub mod Says
 pub mod Last
+pub mod Filled

@@ -1,18 +1,16 @@
 -- The promise and the words of the clocked circuit say the same; and two results that the promise allows are equal.
 -- Assumes nothing.
 use mathlib.Core.Path.{_≡_, sym, ap, _∙_}
-use mathlib.Core.List.{List, _++_}
+use mathlib.Core.List.{List}
 use Prim.Native.Nat.{ℕ, _-_, _*_, _<_}
 use native.Mathlib.Omega.{arith}
 use lib.ListN.{length}
 use Rattle.answers.specs.declared.Ruling.{Ruling}
-use Rattle.answers.specs.declared.Ruling.the-variants.{Fine, Refused}
 use Rattle.answers.specs.Area.{told, done}
 use Rattle.answers.proofs.Rules.{refused-applies, applies-refused}
 use Rattle.answers.proofs.Words.{by-words, lent-by-words}
-use Rattle.circuit.specs.Record.{linesOf}
 use Rattle.lists.specs.Faults.{faultCount, FaultLayout}
-use Rattle.lists.specs.Patterns.{patternAt}
+use Rattle.lists.specs.Patterns.{patternCount, patternAt}
 use Rattle.simulate.specs.Owed.{AllSmall}
 use Rattle.simulate.proofs.Small.{all-small, part-small}
 use Rattle.rows.specs.Table.{workUnder, lastPattern}
@@ -58,7 +56,7 @@ module _ {c st : List ℕ} {k : ℕ} {fs ps : List ℕ} {table work : ℕ} (t : 
   pub work-left : StepsLeft c st k fs ps (stepsWork c st k fs ps)
   unfolding workUnder
   work-left =
-      let last = small _ in
+      let last = small (patternCount (inputsAfter c st k) ps - 1) in
       let here = layout (faultCount fs - 1) (omega (arith, t .rest .faults .records .some)) in
       rw (good-values (t .clocked .good) (t .clocked .steps) (lastPattern (inputsAfter c st k) ps) last, faulty-values (t .clocked .good) (t .clocked .steps) (lastPattern (inputsAfter c st k) ps) last fs (faultCount fs - 1) here)
 
