@@ -1,6 +1,6 @@
 -- From the words of good and faulty lines to the entries of a fault: below its line in the first step the faulty circuit has the good values.
 -- Assumes nothing.
-use mathlib.Core.Path.{_≡_, sym, ap, _∙_}
+use mathlib.Core.Path.{sym, ap, _∙_}
 use mathlib.Core.List.{List}
 use Prim.Native.Nat.{ℕ}
 use native.Mathlib.Omega.{arith}

@@ -8,9 +8,8 @@ use Rattle.ground.specs.Choose.{choose}
 use Rattle.ground.specs.Lists.{gather}
 use Rattle.gates.specs.Gate.{X}
 use Rattle.lanes.specs.Lanes.{onesOf, zerosOf}
-use Rattle.lists.specs.declared.Fault.{Fault}
 use Rattle.lists.specs.Patterns.{patternCount, patternAt}
-use Rattle.simulate.specs.Simulate.{Forcing, unforced, stuckAt, valuesTo}
+use Rattle.simulate.specs.Simulate.{Forcing, unforced, valuesTo}
 
 -- lane i has pattern i of the group; a lane to spare carries a pattern of all X
 unfoldable pub lanePattern : ℕ → List ℕ → ℕ → List ℕ
@@ -30,7 +29,3 @@ goodWords = forcedWords unforced
 -- good lines, then those of the circuit in which something is forced
 abbrev pub bothWordsUnder : Forcing → List ℕ → ℕ → List ℕ → ℕ → List ℕ
 bothWordsUnder f c m ps n = goodWords c m ps n ++ forcedWords f c m ps n
-
--- a fault
-abbrev pub bothWords : Fault → List ℕ → ℕ → List ℕ → ℕ → List ℕ
-bothWords fault = bothWordsUnder (stuckAt fault)
