@@ -6,7 +6,6 @@ use mathlib.Core.List.{List}
 use Prim.Native.Nat.{ℕ}
 use lib.Dec.{eqb}
 use lib.ListN.{length}
-use Rattle.answers.specs.declared.Ruling.{Ruling}
 use Rattle.answers.specs.Rules.{Rule, refusal, unless}
 use Rattle.answers.specs.Area.{Numbers, told, done, Entered}
 use Rattle.replies.proofs.Entered.{other-size, stays, reported, becomes, one-return}
@@ -18,15 +17,15 @@ module _ {rules : List Rule} {made left t w a : List ℕ} where
   nothing-made other = record { answer = other-size _ other; table = stays _ other; work = stays _ other }
 
   -- the answer of the part, in numbers, reported
-  pub made-reported : (v : Ruling) {reply : Numbers} {r : ℕ} {t′ w′ a′ : List ℕ}
+  pub made-reported : {reply found : Numbers} {r : ℕ} {t′ w′ a′ : List ℕ}
       → eqb (length a) 32 ≡ true
       → Entered a reply r a′
-      → reply ≡ told v done
-      → told v done ≡ told (refusal rules) done
+      → reply ≡ found
+      → found ≡ told (refusal rules) done
       → t′ ≡ unless (refusal rules) t made
       → w′ ≡ unless (refusal rules) w left
       → MadeEntered rules made left t w a r t′ w′ a′
-  made-reported v right p replied numbers table work = record {
+  made-reported right p replied numbers table work = record {
     answer = reported p replied numbers;
     table = becomes _ right table;
     work = becomes _ right work;

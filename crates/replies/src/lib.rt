@@ -10,6 +10,7 @@ use nodes::Verdict;
 use search::Searched;
 use suspect_areas::Marked;
 use suspects::Narrowed;
+use unfold::Unfolding;
 ghost use mathlib.Core.Path.{_≡_};
 ghost use Rattle.answers.specs.Area.{refusedAt, told, done, Entered};
 ghost use Rattle.answers.specs.Area as answering;
@@ -21,6 +22,7 @@ ghost use Rattle.suspect_areas.specs.Promise.{markedNumbers};
 ghost use Rattle.search.specs.Promise.{verdictNumbers, searchedNumbers};
 ghost use Rattle.clauses.specs.Promise.{writtenNumbers};
 ghost use Rattle.bench.specs.Promise.{readNumbers};
+ghost use Rattle.unfold.specs.Promise.{unfoldingNumbers};
 ghost use Rattle.replies.specs.Replies.{numbersIn};
 
 // The size of the answer area, and the refusal of any other.
@@ -155,6 +157,15 @@ pub fn of_read(v: Read) -> Reply
     match v {
         Read::Records(n) => success(n as u64, 0, 0),
         Read::Refused(number, place) => refused(number, place),
+    }
+}
+
+pub fn of_unfolding(v: Unfolding) -> Reply
+    ensures { λ r. ⌜ numbersIn r ≡ unfoldingNumbers v ⌝ }
+{
+    match v {
+        Unfolding::Lines(n) => success(n as u64, 0, 0),
+        Unfolding::Refused(number, place) => refused(number, place),
     }
 }
 

@@ -17,7 +17,7 @@ returns-2 c =
     let called = reply .before .before .before .before .before in
     let sized = called .before .before .before in
     let done = called .dictionary .ensures in
-    made-reported _ (eq-eqb _ _ (sized .if1 .left)) (told .report .ensures) (reply .of-ruling .ensures) (done .numbers) (done .table) (done .work)
+    made-reported (eq-eqb _ _ (sized .if1 .left)) (told .report .ensures) (reply .of-ruling .ensures) (done .numbers) (done .table) (done .work)
 
 pub ullimaqsu-dictionary-spec : {M : Type 1} → statement M
 ullimaqsu-dictionary-spec =

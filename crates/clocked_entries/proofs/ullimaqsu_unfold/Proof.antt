@@ -1,0 +1,32 @@
+-- `clocked_entries::ullimaqsu_unfold` meets its contract: an area of another size first, else the answer and the buffer of the part.
+-- Assumes nothing.
+use borrow.Author.Tests.{eq-eqb, ne-eqb}
+use borrow.Author.Needs.{needs}
+use Rattle.replies.proofs.Lent.{nothing-lent, lent-reported}
+use Rattle.clocked_entries.proofs.ullimaqsu_unfold.Statement.{statement}
+use Rattle.clocked_entries.proofs.ullimaqsu_unfold.Tie as tie
+
+returns : tie.Need-returns
+returns c = nothing-lent (ne-eqb _ _ (c .if1 .taken))
+
+-- the places, the last first: the report, the answer in numbers, the part, the test of the size
+returns-2 : tie.Need-returns-2
+returns-2 c =
+    let told = c .before .before in
+    let reply = told .before .before in
+    let called = reply .before .before .before in
+    let sized = called .before .before in
+    let done = called .unfold .ensures in
+    lent-reported (eq-eqb _ _ (sized .if1 .left)) (told .report .ensures) (reply .of-unfolding .ensures) (done .numbers) (done .buffer)
+
+pub ullimaqsu-unfold-spec : {M : Type 1} → statement M
+ullimaqsu-unfold-spec =
+    tie.close
+    (tie.spec
+    returns
+    (λ c κs. search needs)
+    (λ c κs. search needs)
+    (λ c κs. search needs)
+    (λ c. search needs)
+    (λ c. search needs)
+    returns-2)
