@@ -1,4 +1,4 @@
-// What C calls for clocked circuits; the entries of the other parts are in `entries`.
+// What C calls for clocked circuits, but for the names that C knows: these are in `entries`, of which the archive is made.
 use replies::AREA;
 use replies::OTHER_SIZE;
 use replies::of_ruling;
@@ -8,8 +8,7 @@ use unfold::unfold;
 use unfold_dictionary::unfold_dictionary;
 ghost use Rattle.clocked_entries.specs.Entries.{UnfoldEntered, UnfoldDictionaryEntered};
 
-#[no_mangle]
-pub extern "C" fn ullimaqsu_unfold(
+pub fn enter_unfold(
     circuit: &[u8],
     states: &[u8],
     steps: u64,
@@ -26,8 +25,7 @@ pub extern "C" fn ullimaqsu_unfold(
     report(of_unfolding(v), answer)
 }
 
-#[no_mangle]
-pub extern "C" fn ullimaqsu_unfold_dictionary(
+pub fn enter_unfold_dictionary(
     circuit: &[u8],
     states: &[u8],
     steps: u64,

@@ -5,6 +5,8 @@ use bench::bench;
 use bench_names::bench_names;
 use circuit::check;
 use clauses::clauses;
+use clocked_entries::enter_unfold;
+use clocked_entries::enter_unfold_dictionary;
 use compact::compact;
 use dictionary::dictionary;
 use dictionary_lanes::dictionary_lanes;
@@ -26,6 +28,7 @@ use suspect_areas::open_area;
 use suspect_areas::read_marks;
 use suspect_areas::report_area;
 ghost use Rattle.answers.specs.Area.{Entered};
+ghost use Rattle.clocked_entries.specs.Entries.{UnfoldEntered, UnfoldDictionaryEntered};
 ghost use Rattle.entries.specs.Entries.{checkNumbers, auditNumbers, DictionaryEntered, DictionaryLanesEntered, CompactEntered, SuspectsOpenEntered, SuspectsReportEntered, SuspectsMarksEntered, SearchEntered, SearchHeadsEntered, SearchAllEntered, ClausesEntered, BenchEntered, BenchNamesEntered};
 
 #[no_mangle]
@@ -263,4 +266,37 @@ pub extern "C" fn ullimaqsu_bench_names(text: &[u8], places: &mut [u32], answer:
     }
     let v = bench_names(text, places);
     report(of_read(v), answer)
+}
+
+#[no_mangle]
+pub extern "C" fn ullimaqsu_unfold(
+    circuit: &[u8],
+    states: &[u8],
+    steps: u64,
+    unfolded: &mut [u8],
+    answer: &mut [u8],
+) -> u32
+    ensures { λ r. ⌜ UnfoldEntered (now (circuit .entry)) (now (states .entry)) steps (now (unfolded .entry)) (now (answer .entry))
+        r (now (unfolded .exit)) (now (answer .exit)) ⌝ }
+{
+    enter_unfold(circuit, states, steps, unfolded, answer)
+}
+
+#[no_mangle]
+pub extern "C" fn ullimaqsu_unfold_dictionary(
+    circuit: &[u8],
+    states: &[u8],
+    steps: u64,
+    faults: &[u8],
+    patterns: &[u8],
+    table: &mut [u8],
+    work: &mut [u8],
+    answer: &mut [u8],
+) -> u32
+    ensures { λ r. ⌜ UnfoldDictionaryEntered (now (circuit .entry)) (now (states .entry)) steps (now (faults .entry)) (now (patterns .entry))
+        (now (table .entry)) (now (work .entry)) (now (answer .entry)) r (now (table .exit)) (now (work .exit)) (now (answer .exit)) ⌝ }
+{
+    enter_unfold_dictionary(
+        circuit, states, steps, faults, patterns, table, work, answer,
+    )
 }

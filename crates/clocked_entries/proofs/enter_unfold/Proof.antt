@@ -1,10 +1,10 @@
--- `clocked_entries::ullimaqsu_unfold` meets its contract: an area of another size first, else the answer and the buffer of the part.
+-- `clocked_entries::enter_unfold` meets its contract: an area of another size first, else the answer and the buffer of the part.
 -- Assumes nothing.
 use borrow.Author.Tests.{eq-eqb, ne-eqb}
 use borrow.Author.Needs.{needs}
 use Rattle.replies.proofs.Lent.{nothing-lent, lent-reported}
-use Rattle.clocked_entries.proofs.ullimaqsu_unfold.Statement.{statement}
-use Rattle.clocked_entries.proofs.ullimaqsu_unfold.Tie as tie
+use Rattle.clocked_entries.proofs.enter_unfold.Statement.{statement}
+use Rattle.clocked_entries.proofs.enter_unfold.Tie as tie
 
 returns : tie.Need-returns
 returns c = nothing-lent (ne-eqb _ _ (c .if1 .taken))
@@ -19,8 +19,8 @@ returns-2 c =
     let done = called .unfold .ensures in
     lent-reported (eq-eqb _ _ (sized .if1 .left)) (told .report .ensures) (reply .of-unfolding .ensures) (done .numbers) (done .buffer)
 
-pub ullimaqsu-unfold-spec : {M : Type 1} → statement M
-ullimaqsu-unfold-spec =
+pub enter-unfold-spec : {M : Type 1} → statement M
+enter-unfold-spec =
     tie.close
     (tie.spec
     returns

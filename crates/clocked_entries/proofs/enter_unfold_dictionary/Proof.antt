@@ -1,10 +1,10 @@
--- `clocked_entries::ullimaqsu_unfold_dictionary` meets its contract: an area of another size first, else the answer and the memory of the part.
+-- `clocked_entries::enter_unfold_dictionary` meets its contract: an area of another size first, else the answer and the memory of the part.
 -- Assumes nothing.
 use borrow.Author.Tests.{eq-eqb, ne-eqb}
 use borrow.Author.Needs.{needs}
 use Rattle.replies.proofs.Made.{nothing-made, made-reported}
-use Rattle.clocked_entries.proofs.ullimaqsu_unfold_dictionary.Statement.{statement}
-use Rattle.clocked_entries.proofs.ullimaqsu_unfold_dictionary.Tie as tie
+use Rattle.clocked_entries.proofs.enter_unfold_dictionary.Statement.{statement}
+use Rattle.clocked_entries.proofs.enter_unfold_dictionary.Tie as tie
 
 returns : tie.Need-returns
 returns c = nothing-made (ne-eqb _ _ (c .if1 .taken))
@@ -19,8 +19,8 @@ returns-2 c =
     let done = called .unfold-dictionary .ensures in
     made-reported (eq-eqb _ _ (sized .if1 .left)) (told .report .ensures) (reply .of-ruling .ensures) (done .numbers) (done .table) (done .work)
 
-pub ullimaqsu-unfold-dictionary-spec : {M : Type 1} → statement M
-ullimaqsu-unfold-dictionary-spec =
+pub enter-unfold-dictionary-spec : {M : Type 1} → statement M
+enter-unfold-dictionary-spec =
     tie.close
     (tie.spec
     returns
