@@ -297,6 +297,13 @@ pub extern "C" fn ullimaqsu_unfold_dictionary(
         (now (table .entry)) (now (work .entry)) (now (answer .entry)) r (now (table .exit)) (now (work .exit)) (now (answer .exit)) ⌝ }
 {
     enter_unfold_dictionary(
-        circuit, states, steps, faults, patterns, table, work, answer,
+        circuit,
+        states,
+        steps,
+        faults,
+        patterns,
+        table,
+        work,
+        answer,
     )
 }

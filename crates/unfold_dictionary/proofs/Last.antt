@@ -60,14 +60,15 @@ module _ {c : List ℕ} {n step m : ℕ} {fs ps : List ℕ} {work : ℕ} (r : Le
   pub faulty-ready : {fault : Fault} → fault ≡ lastFault fs → FaultyValuesReady c fault n work × StepsReady fault step n
   faulty-ready e =
       let at : faultCount fs - 1 < faultCount fs = omega (arith, some-faults) in
-      rw e
-      ( record {
-        ordered = ordered (r .ready .well);
-        two = omega (arith, r .ready .room);
-        line = r .ready .fault-lines (faultCount fs - 1) at;
-        value = r .ready .fault-values (faultCount fs - 1) at;
-      },
-        record { line = r .steps .lines (faultCount fs - 1) at; inside = r .steps .inside; most = r .ready .most-lines })
+      rw e (
+        record {
+          ordered = ordered (r .ready .well);
+          two = omega (arith, r .ready .room);
+          line = r .ready .fault-lines (faultCount fs - 1) at;
+          value = r .ready .fault-values (faultCount fs - 1) at;
+        },
+        record { line = r .steps .lines (faultCount fs - 1) at; inside = r .steps .inside; most = r .ready .most-lines },
+      )
 
   pub left-last : {fault : Fault} (w : List ℕ) {w₁ w₂ : List ℕ} → fault ≡ lastFault fs
       → w₁ ≡ goodOf c (behind m ps) n ++ drop n w

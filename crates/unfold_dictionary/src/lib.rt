@@ -31,7 +31,15 @@ fn check_steps(
     match v {
         Clocked::Refused(number, place) => Clocked::Refused(number, place),
         Clocked::Accepted(n, inputs) => {
-            let rest = check_rest(circuit, inputs, faults, patterns, table, 2 * (steps * n), work);
+            let rest = check_rest(
+                circuit,
+                inputs,
+                faults,
+                patterns,
+                table,
+                2 * (steps * n),
+                work,
+            );
             match rest {
                 Ruling::Refused(number, place) => Clocked::Refused(number, place),
                 Ruling::Fine => Clocked::Accepted(n, inputs),
@@ -80,16 +88,7 @@ fn fill_in(
 {
     let lines = steps * n;
     unfold_lines(circuit, states, n, steps, unfolded);
-    fill_groups_in_steps(
-        unfolded,
-        lines,
-        n,
-        inputs,
-        faults,
-        patterns,
-        table,
-        words,
-    );
+    fill_groups_in_steps(unfolded, lines, n, inputs, faults, patterns, table, words);
     leave_last(unfolded, lines, n, inputs, faults, patterns, work);
 }
 
@@ -152,7 +151,15 @@ pub fn unfold_dictionary(
         Clocked::Refused(number, place) => Ruling::Refused(number, place),
         Clocked::Accepted(n, inputs) => {
             fill(
-                circuit, states, n, steps, inputs, faults, patterns, table, work,
+                circuit,
+                states,
+                n,
+                steps,
+                inputs,
+                faults,
+                patterns,
+                table,
+                work,
             );
             Ruling::Fine
         }
