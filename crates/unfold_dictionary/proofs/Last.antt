@@ -8,8 +8,8 @@ use native.Mathlib.Omega.{arith}
 use lib.ListN.{length, take, drop}
 use Rattle.circuit.specs.Record.{Inside}
 use Rattle.lists.specs.declared.Fault.{Fault}
-use Rattle.lists.specs.Faults.{faultCount, faultAt}
-use Rattle.lists.specs.Patterns.{patternCount, patternAt}
+use Rattle.lists.specs.Faults.{faultCount}
+use Rattle.lists.specs.Patterns.{patternCount}
 use Rattle.lists.proofs.Patterns.{pattern-whole}
 use Rattle.simulate.specs.Simulate.{stuckInSteps}
 use Rattle.simulate.specs.Work.{goodOf}

@@ -16,7 +16,7 @@ ghost use Rattle.unfold_dictionary.specs.Promise.{StepsDictionary};
 ghost use Rattle.unfold_dictionary.specs.Owed.{StepsChecked, LeaveReady, FillReady, FillInReady, FillDone};
 
 // Refusals 1, 2, 4, 5, 21, 18, 19 and 6 to 10. The lines of a step and the inputs after unfolding come back.
-fn check_steps(
+fn check_all_steps(
     circuit: &[u8],
     states: &[u8],
     steps: usize,
@@ -138,7 +138,7 @@ pub fn unfold_dictionary(
 ) -> Ruling
     ensures { λ r. ⌜ StepsDictionary (now (circuit .entry)) (now (states .entry)) steps (now (faults .entry)) (now (patterns .entry)) (now (table .entry)) (now (work .entry)) r (now (table .exit)) (now (work .exit)) ⌝ }
 {
-    let v = check_steps(
+    let v = check_all_steps(
         circuit,
         states,
         steps,
