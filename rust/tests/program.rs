@@ -70,15 +70,15 @@ fn sizes() {
     assert_eq!(compare("sizes", boundaries(&mut Random::new(3))).with_sorts(&EVERY[..2]).seen(), [0, 1, 4, 6, 8]);
 }
 
-/// The examples print what stands beside them, and so does the second program.
+/// The examples of records print what stands beside them, and so does the second program.
 #[test]
 fn examples() {
     let examples = root().join("examples");
     let all = fs::read_dir(&examples).expect("examples").map(|entry| entry.expect("an example").file_name());
-    let mut with_output: Vec<_> = all.filter(|name| examples.join(name).join("output").exists()).collect();
-    with_output.sort();
-    assert_eq!(with_output, ["a", "c17", "selector"]);
-    for directory in with_output.iter().map(|name| examples.join(name)) {
+    let mut of_records: Vec<_> = all.filter(|name| examples.join(name).join("circuit.rec").exists()).collect();
+    of_records.sort();
+    assert_eq!(of_records, ["a", "c17", "selector"]);
+    for directory in of_records.iter().map(|name| examples.join(name)) {
         let output = fs::read_to_string(directory.join("output")).expect("output");
         assert_eq!(printed(&directory), output, "{directory:?}");
         let file = |file| Some(fs::read(directory.join(file)).expect("a file"));

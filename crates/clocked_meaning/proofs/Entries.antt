@@ -34,7 +34,7 @@ use Rattle.unfolded.specs.Unfolded.{unfolded}
 use Rattle.unfolded.proofs.Accepted.{unfolded-formed}
 use Rattle.clocked.proofs.EveryStep.{good-filled, faulty-filled}
 use Rattle.unfold_dictionary.specs.Promise.{inEveryStep, stepsTable, StepsDictionary}
-use Rattle.unfold_dictionary.specs.Words.{LookedAt, valuesIn, ThereHolds}
+use Rattle.unfold_dictionary.specs.Words.{LookedIn, valuesIn, ThereHolds}
 use Rattle.unfold_dictionary.proofs.Checked.{steps-taken}
 use Rattle.unfold_dictionary.proofs.Entries.{good-there, fail-looked, pass-looked}
 use Rattle.unfold_dictionary.proofs.Says.{layout, small, made-by-rows}
@@ -46,7 +46,7 @@ module _ {c st : List ℕ} {k : ℕ} (fine : refusal (circuitRules c) ≡ Fine) 
   accepted = good c fine
 
   -- what the values of a line in a step say of the truths there, under every filling of the pattern's X's
-  module _ (x : Vector) (fills : Fills p x) (i m : ℕ) (w : LookedAt c st k i m) where
+  module _ (x : Vector) (fills : Fills p x) (i m : ℕ) (w : LookedIn c st k i m) where
     differ-there : ThereHolds Differ (faultAt fs j) c st p i m → EqualThere c st (faultAt fs j) x i m → ⊥
     differ-there d q =
         d .differ

@@ -14,7 +14,7 @@ use Rattle.simulate.specs.Vectors.{NoX, Fills}
 use Rattle.tables.specs.Entries.{pass, fail, unknown}
 use Rattle.clocked.specs.Boolean.{clockedTruths}
 use Rattle.clocked.specs.Inputs.{truthsBy}
-use Rattle.unfold_dictionary.specs.Words.{LookedAt, valuesIn}
+use Rattle.unfold_dictionary.specs.Words.{LookedIn, valuesIn}
 
 -- the truth of line m in step i under the vector x
 abbrev pub truthIn : Truths → List ℕ → List ℕ → Vector → ℕ → ℕ → Bool
@@ -28,12 +28,12 @@ EqualThere c st fault x i m = truthIn good c st x i m ≡ truthIn (faulty fault)
 pub record DetectsInSteps (c st : List ℕ) (fault : Fault) (k : ℕ) (x : Vector) : Type 0 where
   pub step : ℕ
   pub line : ℕ
-  pub looked : LookedAt c st k step line
+  pub looked : LookedIn c st k step line
   pub differ : EqualThere c st fault x step line → ⊥
 
 -- line m is compared in step i: it is looked at, and its good value under the pattern p itself is known
 pub record ComparedThere (c st p : List ℕ) (k i m : ℕ) : Type 0 where
-  pub looked : LookedAt c st k i m
+  pub looked : LookedIn c st k i m
   pub known : getD (valuesIn unforced c st p i) m 0 < 2
 
 -- the pattern p exposes the fault: under every filling of its X's good and faulty truth differ, at one and the same compared line and step

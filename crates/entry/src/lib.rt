@@ -1,7 +1,7 @@
 // What good and faulty values say at the outputs, from the work memory, which holds the good ones of all lines, then the faulty ones; and
 // the entry of a pattern and a fault.
 use lists::Fault;
-use simulate::faulty_in_steps;
+use simulate::faulty_values;
 use tables::FAIL;
 use tables::PASS;
 use tables::UNKNOWN;
@@ -10,8 +10,8 @@ ghost use Prim.Native.Nat.{_+_, _<_};
 ghost use lib.ListN.{length, getD, take, drop};
 ghost use Rattle.ground.specs.Choose.{choose};
 ghost use Rattle.circuit.specs.Record.{outAt};
-ghost use Rattle.simulate.specs.Simulate.{stuckInSteps};
-ghost use Rattle.simulate.specs.Owed.{FaultyValuesReady, StepsReady};
+ghost use Rattle.simulate.specs.Simulate.{stuckAt};
+ghost use Rattle.simulate.specs.Owed.{FaultyValuesReady};
 ghost use Rattle.tables.specs.Entries.{pass, unknown};
 ghost use Rattle.entry.specs.Entry.{entryBy};
 ghost use Rattle.entry.specs.Owed.{outputTest, statusBy, joinedOf, EntryRoom, FaultEntryDone};
@@ -76,11 +76,11 @@ pub fn entry_by(masks: bool, circuit: &[u8], work: &[u8], n: usize) -> u8
     r
 }
 
-// The entry of a fault that is in each step of so many lines, where the first half of the work memory has the good values; the second gets the faulty ones.
-pub fn fault_entry(circuit: &[u8], fault: Fault, step: usize, work: &mut [u8], n: usize) -> u8
-    requires { ⌜ FaultyValuesReady (now circuit) fault n (length (now work)) × StepsReady fault step n ⌝ }
-    ensures { λ r. ⌜ FaultEntryDone (stuckInSteps step fault) (now (circuit .entry)) n (now (work .entry)) (now (work .exit)) r ⌝ }
+// The entry of a fault, where the first half of the work memory has the good values; the second gets the faulty ones.
+pub fn fault_entry(circuit: &[u8], fault: Fault, work: &mut [u8], n: usize) -> u8
+    requires { ⌜ FaultyValuesReady (now circuit) fault n (length (now work)) ⌝ }
+    ensures { λ r. ⌜ FaultEntryDone (stuckAt fault) (now (circuit .entry)) n (now (work .entry)) (now (work .exit)) r ⌝ }
 {
-    faulty_in_steps(circuit, fault, step, work, n);
+    faulty_values(circuit, fault, work, n);
     entry_by(true, circuit, work, n)
 }

@@ -15,7 +15,7 @@ use Rattle.lists.specs.Faults.{faultAt, faultOk, faultRules}
 use Rattle.lists.specs.Patterns.{patternRules}
 use Rattle.simulate.specs.Simulate.{stuckAt, gateValue, lineValue}
 use Rattle.entry.specs.Entry.{differ, agree, asExpected, entryBy, entryUnder}
-use Rattle.rows.specs.Table.{tableUnder, tableOf}
+use Rattle.rows.specs.Table.{tableUnder}
 use Rattle.needs.specs.Needs.{tells, lost, lostPair, lacks, turn, turns, compacted}
 use Rattle.tables.specs.Table.{sizesOk, tableRules}
 use Rattle.tables.specs.Marks.{marksRules}

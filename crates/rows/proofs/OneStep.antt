@@ -1,7 +1,7 @@
--- Where all lines make one step, a fault in every step is a stuck site: the table and the work memory are the dictionary's.
+-- Where all lines make one step, a fault in every step is a stuck site: the table is the dictionary's.
 -- Assumes nothing.
-use mathlib.Core.Path.{_≡_, ap, _∙_}
-use mathlib.Core.List.{List, _++_}
+use mathlib.Core.Path.{_≡_, ap}
+use mathlib.Core.List.{List}
 use Prim.Native.Nat.{ℕ}
 use Rattle.ground.proofs.Grow.{grow-same}
 use Rattle.ground.proofs.Gather.{gather-same}
@@ -12,8 +12,7 @@ use Rattle.simulate.specs.Simulate.{stuckAt, stuckInSteps}
 use Rattle.simulate.specs.Work.{goodOf}
 use Rattle.simulate.proofs.Steps.{one-step}
 use Rattle.entry.specs.Entry.{entryOf, entryUnder}
-use Rattle.rows.specs.Table.{rowUnder, tableUnder, lastFault, lastPattern, workUnder}
-use Rattle.rows.specs.Owed.{TableDone}
+use Rattle.rows.specs.Table.{rowUnder, tableUnder}
 
 same-entry : (fault : Fault) (c p : List ℕ) (n : ℕ) → entryUnder (stuckInSteps n fault) c p n ≡ entryUnder (stuckAt fault) c p n
 unfolding entryUnder
@@ -26,10 +25,3 @@ module _ (c : List ℕ) (n m : ℕ) (fs ps : List ℕ) where
   pub same-table : tableUnder (stuckInSteps n) c n m fs ps ≡ tableUnder stuckAt c n m fs ps
   unfolding tableUnder
   same-table = gather-same _ _ (patternCount m ps) (λ i l. same-row (patternAt m ps i))
-
-  same-work : workUnder (stuckInSteps n) c n m fs ps ≡ workUnder stuckAt c n m fs ps
-  unfolding workUnder
-  same-work = ap (λ (vs : List ℕ). goodOf c (lastPattern m ps) n ++ vs) (one-step (stuckAt (lastFault fs)) c (lastPattern m ps) n)
-
-  pub one-step-done : {t w : List ℕ} → TableDone (stuckInSteps n) c n m fs ps t w → TableDone stuckAt c n m fs ps t w
-  one-step-done d = record { table-is = d .table-is ∙ same-table; work-is = d .work-is ∙ same-work }

@@ -13,7 +13,7 @@ use Rattle.lists.proofs.Parts.{lent, back, width-is, lent-long, lent-piece}
 use Rattle.simulate.specs.Work.{bothUnder}
 use Rattle.simulate.proofs.Small.{part-small}
 use Rattle.rows.specs.Table.{Forces, lastFault}
-use Rattle.rows.specs.Owed.{RowReady, RowDone, TableReady, FaultsInSteps, PutRowDone}
+use Rattle.rows.specs.Owed.{RowReady, RowDone, TableReady, PutRowDone}
 
 -- other memory of the same sizes
 pub still-ready : {most places : ℕ} {c : List ℕ} {n m : ℕ} {fs ps : List ℕ} {x y x′ y′ : ℕ}
@@ -27,20 +27,17 @@ pub row-fits : {c : List ℕ} {n m : ℕ} {fs ps : List ℕ} {x y i : ℕ} → T
 row-fits {c} {n} {m} {fs} {ps} {x} {y} {i} r h = omega (arith, part-fits i (patternCount m ps) (faultCount fs) h, r .entries)
 
 module _ (c : List ℕ) (n m : ℕ) (fs ps t : List ℕ) (i : ℕ) where
-  pub row-ready : {y step : ℕ} → TableReady 256 2 c n m fs ps (length t) y
-      → FaultsInSteps step n fs
+  pub row-ready : {y : ℕ} → TableReady 256 2 c n m fs ps (length t) y
       → i < patternCount m ps
-      → RowReady c n step (lent (i * m) m ps) fs (length (lent (i * faultCount fs) (faultCount fs) t)) y
-  row-ready r steps h =
+      → RowReady c n (lent (i * m) m ps) fs (length (lent (i * faultCount fs) (faultCount fs) t)) y
+  row-ready r h =
       rw (lent-long (i * faultCount fs) (faultCount fs) t (row-fits r h))
       (record {
         well = rw (lent-long (i * m) m ps (pattern-fits ps (r .patterns) h)) (r .well);
         faults = r .faults .multiple;
         small = part-small ps (i * m + m - i * m) (i * m) (r .pattern-values);
-        lines = steps .lines;
+        lines = r .fault-lines;
         values = r .fault-values;
-        inside = steps .inside;
-        most = r .most-lines;
         some = r .faults .some;
         two = omega (arith, r .room);
       })

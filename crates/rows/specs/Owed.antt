@@ -14,15 +14,12 @@ use Rattle.rows.specs.Table.{Forces, rowUnder, tableUnder, lastFault, wo
 
 -- ---- the row of one pattern
 
--- a pattern and faults, each on a line of the first step, and memory for the row and the values
-pub record RowReady (c : List ℕ) (n step : ℕ) (p fs : List ℕ) (row work : ℕ) : Type 0 where
+pub record RowReady (c : List ℕ) (n : ℕ) (p fs : List ℕ) (row work : ℕ) : Type 0 where
   pub well : WellFormed c (length p) n
   pub faults : length fs ≡ 8 * row
   pub small : AllSmall p
-  pub lines : (j : ℕ) → j < row → faultLine fs j < step
+  pub lines : (j : ℕ) → j < row → faultLine fs j < n
   pub values : (j : ℕ) → j < row → faultValue fs j ≤ 1
-  pub inside : step ≤ n
-  pub most : n ≤ 2048
   pub some : 1 ≤ row
   pub two : work ≡ n + n
 

@@ -7,7 +7,7 @@ use Prim.Native.Nat.{ℕ, _+_, _≤_, _<_}
 use native.Mathlib.Omega.{arith}
 use lib.Dec.{eqb}
 use lib.ListN.{length, getD, set}
-use borrow.Author.Tests.{eq-eqb, ne-eqb, eqb-true}
+use borrow.Author.Tests.{eq-eqb, eqb-true}
 use Rattle.ground.specs.Choose.{choose}
 use Rattle.ground.proofs.Tests.{both}
 use Rattle.ground.proofs.Grow.{grow-length, grow-at, grow-front, grow-same}

@@ -13,7 +13,7 @@ use Rattle.ground.specs.Choose.{choose, one}
 use Rattle.ground.proofs.Tests.{either}
 use Rattle.ground.proofs.Counting.{count-below}
 use Rattle.ground.proofs.Grow.{grow-related}
-use Rattle.gates.specs.Gate.{lastKind, gateOf, Refines}
+use Rattle.gates.specs.Gate.{lastKind, Refines}
 use Rattle.gates.proofs.Table.{other}
 use Rattle.gates.proofs.Laws.{gate-mono, gate-bool}
 use Rattle.circuit.specs.Record.{kindAt, pinAt, isInput, inputsBefore}

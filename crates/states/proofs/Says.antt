@@ -16,7 +16,7 @@ use Rattle.circuit.specs.Record.{kindAt, linesOf}
 use Rattle.circuit.specs.Promise.{circuitRules}
 use Rattle.circuit.proofs.Says.{circuit-says}
 use Rattle.states.specs.States.{stateCount, dataLine, stateLine}
-use Rattle.states.specs.Rules.{stateOk, StateLayout, linesAfter, inputsAfter, stepRules, clockedRules, GoodSteps}
+use Rattle.states.specs.Rules.{stateOk, StateLayout, linesAfter, inputsAfter, stateRules, afterRules, stepRules, clockedRules, GoodSteps}
 
 module _ (c st : List ℕ) where
   -- a record keeps its layout exactly if the test holds
@@ -45,7 +45,7 @@ module _ (c st : List ℕ) where
 
   module _ (k : ℕ) where
     pub steps-say : AllSay (stepRules c st k)
-    unfolding stepRules AllSay
+    unfolding stepRules stateRules afterRules AllSay
     steps-say = (
       and-same (le-same 1 k) (le-same k 8),
       (whole-same, ((λ r l. state-ok-same r), (and-same (le-same (linesAfter c k) 2048) (le-same (inputsAfter c st k) 64), tt))),
@@ -55,7 +55,7 @@ module _ (c st : List ℕ) where
     clocked-says = both-say (circuitRules c) (stepRules c st k) (circuit-says c) steps-say
 
     pub good-steps : refusal (stepRules c st k) ≡ Ruling.Fine → GoodSteps c st k
-    unfolding stepRules AllHold
+    unfolding stepRules stateRules afterRules AllHold
     good-steps e =
         let a = all-hold (stepRules c st k) steps-say e in
         record {

@@ -22,7 +22,8 @@ use Rattle.states.specs.declared.Clocked.{Clocked}
 use Rattle.states.specs.declared.Clocked.the-variants.{Accepted, Refused}
 use Rattle.states.specs.States.{freeBefore}
 use Rattle.states.specs.Rules.{linesAfter, inputsAfter, stepRules, clockedRules, GoodSteps}
-use Rattle.states.specs.Owed.{stepsOk, stateRules, sizeRules, clockedBy, ClockedChecked}
+use Rattle.states.specs.Owed.{stepsOk, clockedBy, ClockedChecked}
+use Rattle.states.specs.Rules.{stateRules, afterRules}
 use Rattle.circuit.proofs.Accepted.{good}
 use Rattle.states.proofs.Says.{clocked-says, good-steps}
 
@@ -46,11 +47,11 @@ after-kept asked number place rules e = rw e
 module _ (c st : List ℕ) (k : ℕ) where
   -- the rules of the steps are those of the records, then those of the sizes, behind the first
   abbrev later : List Rule
-  later = stateRules c st ++ sizeRules (linesAfter c k) (inputsAfter c st k)
+  later = stateRules c st ++ afterRules (linesAfter c k) (inputsAfter c st k)
 
   later-decide : stepsOk k ≡ true → refusal (stepRules c st k) ≡ refusal later
-  unfolding stepRules stateRules sizeRules
-  later-decide some = after-kept ((1 ≤ k) × (k ≤ 8)) 21 0 (stateRules c st ++ sizeRules (linesAfter c k) (inputsAfter c st k)) some
+  unfolding stepRules stateRules afterRules
+  later-decide some = after-kept ((1 ≤ k) × (k ≤ 8)) 21 0 (stateRules c st ++ afterRules (linesAfter c k) (inputsAfter c st k)) some
 
   module _ (n m : ℕ) where
     pub steps-refused : stepsOk k ≡ false → Refused 21 0 ≡ clockedBy (stepRules c st k) n m
@@ -59,16 +60,16 @@ module _ (c st : List ℕ) (k : ℕ) where
 
     module _ (some : stepsOk k ≡ true) where
       pub states-refused : {x y : ℕ} → refusal (stateRules c st) ≡ Ruling.Refused x y → Refused x y ≡ clockedBy (stepRules c st k) n m
-      states-refused e = rw (later-decide some ∙ after-refused (stateRules c st) (sizeRules (linesAfter c k) (inputsAfter c st k)) e)
+      states-refused e = rw (later-decide some ∙ after-refused (stateRules c st) (afterRules (linesAfter c k) (inputsAfter c st k)) e)
 
       -- where n lines have m inputs, and so many of them are free
       pub sizes-decide : {free : ℕ} {r : Clocked} → Known c n m → free ≡ freeBefore c st n → refusal (stateRules c st) ≡ Ruling.Fine
-          → r ≡ clockedBy (sizeRules (k * n) (m + (k - 1) * free)) n (m + (k - 1) * free)
+          → r ≡ clockedBy (afterRules (k * n) (m + (k - 1) * free)) n (m + (k - 1) * free)
           → r ≡ clockedBy (stepRules c st k) n (inputsAfter c st k)
       sizes-decide {free} known is e answer =
           let inputs : m + (k - 1) * free ≡ inputsAfter c st k = rw (known .inputs, is, known .lines) in
           let lines : k * n ≡ linesAfter c k = rw (known .lines) in
-          answer ∙ rw (lines, inputs, later-decide some ∙ after-fine (stateRules c st) (sizeRules (linesAfter c k) (inputsAfter c st k)) e)
+          answer ∙ rw (lines, inputs, later-decide some ∙ after-fine (stateRules c st) (afterRules (linesAfter c k) (inputsAfter c st k)) e)
 
 -- ---- the circuit before them
 

@@ -34,14 +34,20 @@ linesAfter c k = k * linesOf c
 abbrev pub inputsAfter : List ℕ → List ℕ → ℕ → ℕ
 inputsAfter c st k = inputsOf c + (k - 1) * freeOf c st
 
--- 1 to 8 steps; whole records, each of which keeps its layout; not more than 2,048 lines and 64 inputs after unfolding
-unfoldable pub stepRules : List ℕ → List ℕ → ℕ → List Rule
-stepRules c st k =
-    whole 21 (leb 1 k && leb k 8) ((1 ≤ k) × (k ≤ 8)) 0
-    ∷ whole 18 (eqb (length st % 4) 0) (length st ≡ 4 * stateCount st) 0
+-- whole records, each of which keeps its layout
+unfoldable pub stateRules : List ℕ → List ℕ → List Rule
+stateRules c st =
+    whole 18 (eqb (length st % 4) 0) (length st ≡ 4 * stateCount st) 0
     ∷ each 18 (stateCount st) (stateOk c st) (StateLayout c st)
-    ∷ whole 19 (leb (linesAfter c k) 2048 && leb (inputsAfter c st k) 64) ((linesAfter c k ≤ 2048) × (inputsAfter c st k ≤ 64)) 0
     ∷ []
+
+-- not more than 2,048 lines and 64 inputs
+unfoldable pub afterRules : ℕ → ℕ → List Rule
+afterRules lines inputs = whole 19 (leb lines 2048 && leb inputs 64) ((lines ≤ 2048) × (inputs ≤ 64)) 0 ∷ []
+
+-- 1 to 8 steps; the records; the sizes after unfolding
+unfoldable pub stepRules : List ℕ → List ℕ → ℕ → List Rule
+stepRules c st k = whole 21 (leb 1 k && leb k 8) ((1 ≤ k) × (k ≤ 8)) 0 ∷ (stateRules c st ++ afterRules (linesAfter c k) (inputsAfter c st k))
 
 -- all that is checked of a clocked circuit
 abbrev pub clockedRules : List ℕ → List ℕ → ℕ → List Rule

@@ -13,7 +13,8 @@ ghost use Rattle.circuit.specs.Record.{Inside};
 ghost use Rattle.circuit.specs.Formed.{Known};
 ghost use Rattle.states.specs.States.{dataLine, stateLine, stateRecord, isFree, freeBefore};
 ghost use Rattle.states.specs.Rules.{stateOk, inputsAfter, stepRules};
-ghost use Rattle.states.specs.Owed.{StateInside, firstWith, stepsOk, stateRules, sizeRules, clockedBy, ClockedChecked};
+ghost use Rattle.states.specs.Owed.{StateInside, firstWith, stepsOk, clockedBy, ClockedChecked};
+ghost use Rattle.states.specs.Rules.{stateRules, afterRules};
 
 // What the check of a clocked circuit answers.
 pub enum Clocked {
@@ -146,7 +147,7 @@ fn free_inputs(circuit: &[u8], states: &[u8], n: usize) -> usize
 
 // The answer where the records are fine, by the sizes: n lines in a step.
 fn sized(n: usize, lines: usize, inputs: usize) -> Clocked
-    ensures { λ r. ⌜ r ≡ clockedBy (sizeRules lines inputs) n inputs ⌝ }
+    ensures { λ r. ⌜ r ≡ clockedBy (afterRules lines inputs) n inputs ⌝ }
 {
     if 2048 < lines {
         return Clocked::Refused(19, 0);

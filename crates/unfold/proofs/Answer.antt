@@ -20,12 +20,12 @@ use Rattle.states.proofs.Steps.{ClockedTaken, clocked-taken, clocked-refuses, c
 use Rattle.unfolded.specs.Unfolded.{unfolded}
 use Rattle.unfold.specs.declared.Unfolding.{Unfolding}
 use Rattle.unfold.specs.declared.Unfolding.the-variants.{Lines, Refused}
-use Rattle.unfold.specs.Promise.{roomRules, unfoldRules, unfoldingNumbers, UnfoldingMade}
-use Rattle.unfold.specs.Owed.{StepsReady, RoomDone}
+use Rattle.unfold.specs.Promise.{unfoldRoomRules, unfoldRules, unfoldingNumbers, UnfoldingMade}
+use Rattle.unfold.specs.Owed.{UnfoldingReady, RoomDone}
 
 -- ---- the rules
 
-room-says : (c : List ℕ) (k size : ℕ) → AllSay (roomRules c k size)
+room-says : (c : List ℕ) (k size : ℕ) → AllSay (unfoldRoomRules c k size)
 unfolding AllSay
 room-says c k size = (eq-same size (8 * linesAfter c k), tt)
 
@@ -36,17 +36,17 @@ pub record UnfoldTaken (c st : List ℕ) (k size : ℕ) : Type 0 where
 
 module _ (c st : List ℕ) (k size : ℕ) where
   pub unfold-says : AllSay (unfoldRules c st k size)
-  unfold-says = both-say (clockedRules c st k) (roomRules c k size) (clocked-says c st k) (room-says c k size)
+  unfold-says = both-say (clockedRules c st k) (unfoldRoomRules c k size) (clocked-says c st k) (room-says c k size)
 
   pub unfold-taken : refusal (unfoldRules c st k size) ≡ Ruling.Fine → UnfoldTaken c st k size
   unfolding AllHold
   unfold-taken e =
-      let b = both-fine (clockedRules c st k) (roomRules c k size) e in
-      record { clocked = clocked-taken c st k (b .0); room = all-hold (roomRules c k size) (room-says c k size) (b .1) .0 }
+      let b = both-fine (clockedRules c st k) (unfoldRoomRules c k size) e in
+      record { clocked = clocked-taken c st k (b .0); room = all-hold (unfoldRoomRules c k size) (room-says c k size) (b .1) .0 }
 
 -- ---- the answer
 
-pub ready : {c st : List ℕ} {n k : ℕ} → n ≡ linesOf c → ClockedTaken c st k → StepsReady c st n k
+pub ready : {c st : List ℕ} {n k : ℕ} → n ≡ linesOf c → ClockedTaken c st k → UnfoldingReady c st n k
 ready e t = record { lines = e; well = t .good .well; steps = t .steps }
 
 -- what is answered and what the buffer holds, by the rules
@@ -76,11 +76,11 @@ module _ {c st : List ℕ} {k : ℕ} {u : List ℕ} where
   module _ {v : Clocked} (p : ClockedChecked c st k v) where
     -- a refusal is the answer, and leaves the buffer
     pub refused-answer : {x y : ℕ} → v ≡ Clocked.Refused x y → UnfoldingMade c st k u (Refused x y) u
-    refused-answer told = by-rules (first-refused (clockedRules c st k) (roomRules c k (length u)) (clocked-refuses p told))
+    refused-answer told = by-rules (first-refused (clockedRules c st k) (unfoldRoomRules c k (length u)) (clocked-refuses p told))
 
     -- where there is none, the buffer's size decides
     pub room-answer : {n m : ℕ} {r : Unfolding} {u′ : List ℕ} → v ≡ Clocked.Accepted n m → RoomDone c st k u r u′ → UnfoldingMade c st k u r u′
-    room-answer told d = by-rules (first-fine (clockedRules c st k) (roomRules c k (length u)) (clocked-accepts p told .0 .fine) d)
+    room-answer told d = by-rules (first-fine (clockedRules c st k) (unfoldRoomRules c k (length u)) (clocked-accepts p told .0 .fine) d)
 
 -- two results that the promise allows are equal
 pub one-result : {c st : List ℕ} {k : ℕ} {u : List ℕ} {r r₂ : Unfolding} {u′ u₂ : List ℕ}

@@ -19,7 +19,7 @@ use Rattle.states.specs.States.{stateCount, dataLine, stateRecord, isState, dat
 use Rattle.states.specs.Owed.{StateInside}
 use Rattle.states.proofs.Records.{no-record, gate-no-state}
 use Rattle.unfolded.specs.Unfolded.{holds, stepKind, stepOut, stepPin, stepRecord}
-use Rattle.unfold.specs.Owed.{StepsReady, LineReady, heldBy, movedPin, MovedReady, HeldReady}
+use Rattle.unfold.specs.Owed.{UnfoldingReady, StepLineReady, heldBy, movedPin, MovedReady, HeldReady}
 
 -- ---- sizes
 
@@ -27,7 +27,7 @@ use Rattle.unfold.specs.Owed.{StepsReady, LineReady, heldBy, movedPin, M
 pub step-fits : (i k n : ℕ) → i < k → i * n + n ≤ k * n
 step-fits i k n l = rw (← suc-mul i n) (mul-le-mul-right n l)
 
-module _ {c st : List ℕ} {n k : ℕ} (ready : StepsReady c st n k) where
+module _ {c st : List ℕ} {n k : ℕ} (ready : UnfoldingReady c st n k) where
   pub step-few : (i : ℕ) → i < k → i * n + n ≤ 2048
   step-few i l = omega (arith, step-fits i k n l, rw (← (ready .lines)) at (ready .steps .most-lines))
 
@@ -64,7 +64,7 @@ held-test st i m = go (leb 1 i)
     go true = refl
     go false = le-ltb (stateCount st) (stateCount st) (omega arith)
 
-module _ {c st marks : List ℕ} {n k i m : ℕ} (l : LineReady c st marks n k i m) where
+module _ {c st marks : List ℕ} {n k i m : ℕ} (l : StepLineReady c st marks n k i m) where
   -- the output byte
   mark-test : eqb (getD marks m 0) 1 ≡ isData st m
   mark-test = ap (λ (x : ℕ). eqb x 1) (l .has .marked m (omega (arith, l .line, l .has .marks-long))) ∙ one-is (isData st m)

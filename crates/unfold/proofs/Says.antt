@@ -16,7 +16,7 @@ use Rattle.unfolded.proofs.Words.{unfolded-words, words-unfolded}
 use Rattle.unfold.specs.declared.Unfolding.{Unfolding}
 use Rattle.unfold.specs.declared.Unfolding.the-variants.{Lines, Refused}
 use Rattle.unfold.specs.Promise.{unfoldRules, unfoldRuling, UnfoldingMade}
-use Rattle.unfold.specs.Words.{InWords}
+use Rattle.unfold.specs.Words.{UnfoldingInWords}
 use Rattle.unfold.proofs.Answer.{unfold-says, unfold-taken, by-rules}
 
 -- what was ruled, by the answer
@@ -41,7 +41,7 @@ module _ {c st : List ℕ} {k : ℕ} {u : List ℕ} {r : Unfolding} {u′ : List
       applies-refused = answer.applies-refused (ruled (linesAfter c k)) _ (unfold-says c st k (length u)) (d .answer) number place
 
     -- the promise meets the words
-    pub in-words : InWords c st k u r u′
+    pub in-words : UnfoldingInWords c st k u r u′
     in-words = record {
       refused = refused-applies;
       refuses = applies-refused;
@@ -55,7 +55,7 @@ module _ {c st : List ℕ} {k : ℕ} {u : List ℕ} {r : Unfolding} {u′ : List
     }
 
   -- and what meets the words keeps the promise
-  pub by-words : InWords c st k u r u′ → UnfoldingMade c st k u r u′
+  pub by-words : UnfoldingInWords c st k u r u′ → UnfoldingMade c st k u r u′
   by-words i = by-rules (record { answer = told (unfoldRuling c st k u) refl r refl; memory = held (unfoldRuling c st k u) refl r refl })
     where
       -- where no rule applies, nothing is refused

@@ -7,10 +7,10 @@ use native.Mathlib.Nat.{zero-mul}
 use native.Mathlib.Omega.{arith}
 use lib.ListN.{length}
 use Rattle.states.specs.Rules.{linesAfter}
-use Rattle.unfold.specs.Owed.{StepsReady, UnfoldInReady, MarkDataReady, MarkDataDone, MarkedReady}
+use Rattle.unfold.specs.Owed.{UnfoldingReady, UnfoldInReady, MarkDataReady, MarkDataDone, DataMarkedReady}
 use Rattle.unfold.proofs.Line.{step-few}
 
-module _ {c st : List ℕ} {n k : ℕ} (ready : StepsReady c st n k) where
+module _ {c st : List ℕ} {n k : ℕ} (ready : UnfoldingReady c st n k) where
   pub few-lines : n ≤ 2048
   few-lines = omega (arith, rw zero-mul at (step-few ready 0 (ready .steps .some-steps)))
 
@@ -28,5 +28,5 @@ module _ {c st : List ℕ} {n k : ℕ} {marks u : List ℕ} (m : UnfoldInReady c
     inside = λ r l. omega (arith, m .marks-long, m .all .ready .lines, m .all .ready .steps .layout r l .data-inside);
   }
 
-  pub are-marked : {marks′ : List ℕ} → length marks′ ≡ length marks → MarkDataDone st marks′ → MarkedReady c st marks′ n k
+  pub are-marked : {marks′ : List ℕ} → length marks′ ≡ length marks → MarkDataDone st marks′ → DataMarkedReady c st marks′ n k
   are-marked long done = record { ready = m .all .ready; marks-long = long ∙ m .marks-long; marked = done }

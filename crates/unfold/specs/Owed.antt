@@ -17,24 +17,24 @@ use Rattle.states.specs.Owed.{StateInside}
 use Rattle.unfolded.specs.Unfolded.{stepRecord, unfolded}
 use Rattle.unfold.specs.declared.Unfolding.{Unfolding}
 use Rattle.unfold.specs.declared.Unfolding.the-variants.{Lines, Refused}
-use Rattle.unfold.specs.Promise.{roomRules}
+use Rattle.unfold.specs.Promise.{unfoldRoomRules}
 
 -- ---- what the whole asks for
 
 -- a circuit of n lines that is accepted, and steps and state records that are
-pub record StepsReady (c st : List ℕ) (n k : ℕ) : Type 0 where
+pub record UnfoldingReady (c st : List ℕ) (n k : ℕ) : Type 0 where
   pub lines : n ≡ linesOf c
   pub well : WellFormed c (inputsOf c) (linesOf c)
   pub steps : GoodSteps c st k
 
 -- and room for just the records of all lines
 pub record UnfoldReady (c st : List ℕ) (n k : ℕ) (u : List ℕ) : Type 0 where
-  pub ready : StepsReady c st n k
+  pub ready : UnfoldingReady c st n k
   pub room : length u ≡ 8 * linesAfter c k
 
 -- what comes of the buffer's rule, where nothing else is refused
 abbrev pub RoomDone : List ℕ → List ℕ → ℕ → List ℕ → Unfolding → List ℕ → Type 0
-RoomDone c st k u r u′ = RulesDone Refused (roomRules c k (length u)) (Lines (linesAfter c k)) u (unfolded c st k) r u′
+RoomDone c st k u r u′ = RulesDone Refused (unfoldRoomRules c k (length u)) (Lines (linesAfter c k)) u (unfolded c st k) r u′
 
 -- ---- a mark at each data line
 
@@ -55,14 +55,14 @@ pub record UnfoldInReady (c st : List ℕ) (n k : ℕ) (marks u : List ℕ) : Ty
 -- ---- the record of a line
 
 -- the steps, and the data lines marked
-pub record MarkedReady (c st marks : List ℕ) (n k : ℕ) : Type 0 where
-  pub ready : StepsReady c st n k
+pub record DataMarkedReady (c st marks : List ℕ) (n k : ℕ) : Type 0 where
+  pub ready : UnfoldingReady c st n k
   pub marks-long : length marks ≡ n
   pub marked : MarkDataDone st marks
 
 -- line m of step i is one of the lines
-pub record LineReady (c st marks : List ℕ) (n k i m : ℕ) : Type 0 where
-  pub has : MarkedReady c st marks n k
+pub record StepLineReady (c st marks : List ℕ) (n k i m : ℕ) : Type 0 where
+  pub has : DataMarkedReady c st marks n k
   pub step : i < k
   pub line : m < n
 

@@ -15,12 +15,12 @@ use Rattle.unfold.specs.declared.Unfolding.{Unfolding}
 use Rattle.unfold.specs.declared.Unfolding.the-variants.{Lines, Refused}
 
 -- the buffer that is lent has eight bytes for each line after unfolding
-abbrev pub roomRules : List ℕ → ℕ → ℕ → List Rule
-roomRules c k size = exact (8 * linesAfter c k) size ∷ []
+abbrev pub unfoldRoomRules : List ℕ → ℕ → ℕ → List Rule
+unfoldRoomRules c k size = exact (8 * linesAfter c k) size ∷ []
 
 -- all that is checked: the clocked circuit, then the buffer
 abbrev pub unfoldRules : List ℕ → List ℕ → ℕ → ℕ → List Rule
-unfoldRules c st k size = clockedRules c st k ++ roomRules c k size
+unfoldRules c st k size = clockedRules c st k ++ unfoldRoomRules c k size
 
 -- what they say of a buffer u that is lent
 abbrev pub unfoldRuling : List ℕ → List ℕ → ℕ → List ℕ → Ruling

@@ -11,7 +11,7 @@ use Rattle.unfold.specs.declared.Unfolding.{Unfolding}
 use Rattle.unfold.specs.declared.Unfolding.the-variants.{Lines, Refused}
 use Rattle.unfold.specs.Promise.{unfoldRules}
 
-pub record InWords (c st : List ℕ) (k : ℕ) (u : List ℕ) (r : Unfolding) (u′ : List ℕ) : Type 0 where
+pub record UnfoldingInWords (c st : List ℕ) (k : ℕ) (u : List ℕ) (r : Unfolding) (u′ : List ℕ) : Type 0 where
   -- refused exactly when a rule applies, with the first that does and its lowest place
   pub refused : (number place : ℕ) → r ≡ Refused number place → Applies (unfoldRules c st k (length u)) number place
   pub refuses : (number place : ℕ) → Applies (unfoldRules c st k (length u)) number place → r ≡ Refused number place

@@ -17,7 +17,7 @@ ghost use Rattle.states.specs.States.{dataLine};
 ghost use Rattle.states.specs.Rules.{linesAfter};
 ghost use Rattle.unfolded.specs.Unfolded.{stepOut, stepRecord, unfolded};
 ghost use Rattle.unfold.specs.Promise.{UnfoldingMade};
-ghost use Rattle.unfold.specs.Owed.{StepsReady, UnfoldReady, RoomDone, MarkDataReady, MarkDataDone, UnfoldInReady, MarkedReady, LineReady};
+ghost use Rattle.unfold.specs.Owed.{UnfoldingReady, UnfoldReady, RoomDone, MarkDataReady, MarkDataDone, UnfoldInReady, DataMarkedReady, StepLineReady};
 ghost use Rattle.unfold.specs.Owed.{heldBy, movedPin, MovedReady, HeldReady, stepTo};
 
 // What the unfolding answers.
@@ -55,7 +55,7 @@ fn step_out(
     i: usize,
     m: usize,
 ) -> u8
-    requires { ⌜ LineReady (now circuit) (now states) (now marks) n steps i m ⌝ }
+    requires { ⌜ StepLineReady (now circuit) (now states) (now marks) n steps i m ⌝ }
     ensures { λ r. ⌜ r ≡ stepOut (now (circuit .entry)) (now (states .entry)) steps i m ⌝ }
 {
     if i + 1 != steps {
@@ -67,7 +67,7 @@ fn step_out(
     circuit[8 * m + 1]
 }
 
-// The state record of a line that holds a value in a later step, or their number. Only an input is looked for among the records.
+// The state record of a line that holds a value in a later step, or the number of records. Only an input is looked for among the records.
 fn held_by(
     circuit: &[u8],
     states: &[u8],
@@ -77,7 +77,7 @@ fn held_by(
     i: usize,
     m: usize,
 ) -> usize
-    requires { ⌜ LineReady (now circuit) (now states) (now marks) n steps i m ⌝ }
+    requires { ⌜ StepLineReady (now circuit) (now states) (now marks) n steps i m ⌝ }
     ensures { λ r. ⌜ r ≡ heldBy (now (states .entry)) i m ⌝ }
 {
     if i < 1 {
@@ -139,7 +139,7 @@ fn put_step_line(
     buffer: &mut [u8],
     at: usize,
 ) -> usize
-    requires { ⌜ LineReady (now circuit) (now states) (now marks) n steps i m × (at + 8 ≤ length (now buffer)) ⌝ }
+    requires { ⌜ StepLineReady (now circuit) (now states) (now marks) n steps i m × (at + 8 ≤ length (now buffer)) ⌝ }
     ensures { λ r. ⌜ Put (now (buffer .entry)) (now (buffer .exit)) at (stepRecord (now (circuit .entry)) (now (states .entry)) steps i m) r ⌝ }
 {
     let flag = step_out(circuit, states, marks, n, steps, i, m);
@@ -163,7 +163,7 @@ fn put_step(
     buffer: &mut [u8],
     from: usize,
 ) -> usize
-    requires { ⌜ MarkedReady (now circuit) (now states) (now marks) n steps × (i < steps) × (from + 8 * n ≤ length (now buffer)) ⌝ }
+    requires { ⌜ DataMarkedReady (now circuit) (now states) (now marks) n steps × (i < steps) × (from + 8 * n ≤ length (now buffer)) ⌝ }
     ensures { λ r. ⌜ Put (now (buffer .entry)) (now (buffer .exit)) from (stepTo (now (circuit .entry)) (now (states .entry)) steps i n) r ⌝ }
 {
     let mut at = from;
@@ -177,7 +177,7 @@ fn put_step(
 
 // The records of all steps.
 fn put_steps(circuit: &[u8], states: &[u8], marks: &[u8], n: usize, steps: usize, buffer: &mut [u8])
-    requires { ⌜ MarkedReady (now circuit) (now states) (now marks) n steps × (length (now buffer) ≡ 8 * linesAfter (now circuit) steps) ⌝ }
+    requires { ⌜ DataMarkedReady (now circuit) (now states) (now marks) n steps × (length (now buffer) ≡ 8 * linesAfter (now circuit) steps) ⌝ }
     ensures { λ _. ⌜ now (buffer .exit) ≡ unfolded (now (circuit .entry)) (now (states .entry)) steps ⌝ }
 {
     let mut at = 0;
@@ -223,7 +223,7 @@ fn unfold_checked(
     steps: usize,
     buffer: &mut [u8],
 ) -> Unfolding
-    requires { ⌜ StepsReady (now circuit) (now states) n steps ⌝ }
+    requires { ⌜ UnfoldingReady (now circuit) (now states) n steps ⌝ }
     ensures { λ r. ⌜ RoomDone (now (circuit .entry)) (now (states .entry)) steps (now (buffer .entry)) r (now (buffer .exit)) ⌝ }
 {
     let lines = steps * n;

@@ -22,7 +22,7 @@ use Rattle.unfolded.proofs.Steps.{line-inside, by-steps}
 use Rattle.clocked.proofs.Values.{unfolded-values}
 use Rattle.clocked.proofs.Faults.{unforced-leaves, fault-leaves}
 use Rattle.unfold_dictionary.specs.Promise.{inEveryStep}
-use Rattle.unfold_dictionary.specs.Words.{LookedAt, valuesIn, ThereHolds, StepsEntry}
+use Rattle.unfold_dictionary.specs.Words.{LookedIn, valuesIn, ThereHolds, StepsEntry}
 use Rattle.unfold_dictionary.proofs.Looked.{output-looked, looked-output}
 
 -- a choice by other words that say the same
@@ -62,13 +62,13 @@ module _ {c st : List ℕ} {k : ℕ} (good : Good c) (steps : GoodSteps c st k) 
       from-there : (i m : ℕ) → i < k → m < linesOf c → There i m → P (getD (goodOf u p (linesAfter c k)) (i * linesOf c + m) 0) (getD forced (i * linesOf c + m) 0)
       from-there i m h l w = rw (good-there i m h l, faulty-there i m h l) w
 
-      some-looked : SomeOutput P u (goodOf u p (linesAfter c k)) forced (linesAfter c k) → (i m : ℕ) × LookedAt c st k i m × There i m
+      some-looked : SomeOutput P u (goodOf u p (linesAfter c k)) forced (linesAfter c k) → (i m : ℕ) × LookedIn c st k i m × There i m
       some-looked (l, w) =
-          by-steps (λ l. AtOutput P u (goodOf u p (linesAfter c k)) forced (linesAfter c k) l → (i m : ℕ) × LookedAt c st k i m × There i m) (linesOf c) k
+          by-steps (λ l. AtOutput P u (goodOf u p (linesAfter c k)) forced (linesAfter c k) l → (i m : ℕ) × LookedIn c st k i m × There i m) (linesOf c) k
           (λ i m h g at. (i, m, output-looked c st k i m h g (at .output), to-there i m h g (at .holds)))
           l (w .inside) w
 
-      looked-some : (i m : ℕ) × LookedAt c st k i m × There i m → SomeOutput P u (goodOf u p (linesAfter c k)) forced (linesAfter c k)
+      looked-some : (i m : ℕ) × LookedIn c st k i m × There i m → SomeOutput P u (goodOf u p (linesAfter c k)) forced (linesAfter c k)
       looked-some (i, m, w, there) = (
         i * linesOf c + m,
         record {
@@ -78,11 +78,11 @@ module _ {c st : List ℕ} {k : ℕ} (good : Good c) (steps : GoodSteps c st k) 
         },
       )
 
-      every-looked : EveryOutput P u (goodOf u p (linesAfter c k)) forced (linesAfter c k) → (i m : ℕ) → LookedAt c st k i m → There i m
+      every-looked : EveryOutput P u (goodOf u p (linesAfter c k)) forced (linesAfter c k) → (i m : ℕ) → LookedIn c st k i m → There i m
       every-looked all i m w =
           to-there i m (w .step) (w .line) (all (i * linesOf c + m) (line-inside (linesOf c) i m (w .line) k (w .step)) (looked-output c st k i m w))
 
-      looked-every : ((i m : ℕ) → LookedAt c st k i m → There i m) → EveryOutput P u (goodOf u p (linesAfter c k)) forced (linesAfter c k)
+      looked-every : ((i m : ℕ) → LookedIn c st k i m → There i m) → EveryOutput P u (goodOf u p (linesAfter c k)) forced (linesAfter c k)
       looked-every all =
           by-steps (λ l. outAt u l ≡ 1 → P (getD (goodOf u p (linesAfter c k)) l 0) (getD forced l 0)) (linesOf c) k
           (λ i m h g out. from-there i m h g (all i m (output-looked c st k i m h g out)))
@@ -103,10 +103,10 @@ module _ {c st : List ℕ} {k : ℕ} (good : Good c) (steps : GoodSteps c st k) 
         (chosen-by (some-looked Differ) (looked-some Differ) (every-looked AsExpected) (looked-every AsExpected) w)
 
     -- and read backwards
-    pub fail-looked : entry ≡ fail → (i m : ℕ) × LookedAt c st k i m × There Differ i m
+    pub fail-looked : entry ≡ fail → (i m : ℕ) × LookedIn c st k i m × There Differ i m
     unfolding entryUnder
     fail-looked e = some-looked Differ (fail-some expected-passes u (goodOf u p (linesAfter c k)) forced (linesAfter c k) e)
 
-    pub pass-looked : entry ≡ pass → (i m : ℕ) → LookedAt c st k i m → There AsExpected i m
+    pub pass-looked : entry ≡ pass → (i m : ℕ) → LookedIn c st k i m → There AsExpected i m
     unfolding entryUnder
     pass-looked e = every-looked AsExpected (pass-every expected-passes u (goodOf u p (linesAfter c k)) forced (linesAfter c k) e)

@@ -1,6 +1,6 @@
 -- Where nothing is refused: the unfolded circuit is ready to be written, its table to be filled, and what is filled is what is promised.
 -- Assumes nothing.
-use mathlib.Core.Path.{_≡_, sym, _∙_}
+use mathlib.Core.Path.{_≡_, _∙_}
 use mathlib.Core.List.{List}
 use Prim.Native.Nat.{ℕ, _*_, _≤_}
 use lib.ListN.{length}

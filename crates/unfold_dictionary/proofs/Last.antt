@@ -8,8 +8,8 @@ use native.Mathlib.Omega.{arith}
 use lib.ListN.{length, take, drop}
 use Rattle.circuit.specs.Record.{Inside}
 use Rattle.lists.specs.declared.Fault.{Fault}
-use Rattle.lists.specs.Faults.{faultCount, faultAt}
-use Rattle.lists.specs.Patterns.{patternCount, patternAt}
+use Rattle.lists.specs.Faults.{faultCount}
+use Rattle.lists.specs.Patterns.{patternCount}
 use Rattle.lists.proofs.Patterns.{pattern-whole}
 use Rattle.simulate.specs.Simulate.{stuckInSteps}
 use Rattle.simulate.specs.Work.{goodOf}
@@ -60,14 +60,15 @@ module _ {c : List ℕ} {n step m : ℕ} {fs ps : List ℕ} {work : ℕ} (r : Le
   pub faulty-ready : {fault : Fault} → fault ≡ lastFault fs → FaultyValuesReady c fault n work × StepsReady fault step n
   faulty-ready e =
       let at : faultCount fs - 1 < faultCount fs = omega (arith, some-faults) in
-      rw e
-      ( record {
-        ordered = ordered (r .ready .well);
-        two = omega (arith, r .ready .room);
-        line = r .ready .fault-lines (faultCount fs - 1) at;
-        value = r .ready .fault-values (faultCount fs - 1) at;
-      },
-        record { line = r .steps .lines (faultCount fs - 1) at; inside = r .steps .inside; most = r .ready .most-lines })
+      rw e (
+        record {
+          ordered = ordered (r .ready .well);
+          two = omega (arith, r .ready .room);
+          line = r .ready .fault-lines (faultCount fs - 1) at;
+          value = r .ready .fault-values (faultCount fs - 1) at;
+        },
+        record { line = r .steps .lines (faultCount fs - 1) at; inside = r .steps .inside; most = r .ready .most-lines },
+      )
 
   pub left-last : {fault : Fault} (w : List ℕ) {w₁ w₂ : List ℕ} → fault ≡ lastFault fs
       → w₁ ≡ goodOf c (behind m ps) n ++ drop n w

@@ -14,10 +14,10 @@ use Rattle.states.proofs.Records.{data-same}
 use Rattle.unfolded.specs.Unfolded.{stepOut, unfolded}
 use Rattle.unfolded.specs.Words.{DataLine}
 use Rattle.unfolded.proofs.Fields.{unfolded-out}
-use Rattle.unfold_dictionary.specs.Words.{LookedAt}
+use Rattle.unfold_dictionary.specs.Words.{LookedIn}
 
 module _ (c st : List ℕ) (k i m : ℕ) where
-  pub output-looked : i < k → m < linesOf c → outAt (unfolded c st k) (i * linesOf c + m) ≡ 1 → LookedAt c st k i m
+  pub output-looked : i < k → m < linesOf c → outAt (unfolded c st k) (i * linesOf c + m) ≡ 1 → LookedIn c st k i m
   unfolding stepOut
   output-looked h l out = record { step = h; line = l; looked = go (eqb (suc i) k) (isData st m) refl refl (sym (unfolded-out c st k i m h l) ∙ out) }
     where
@@ -26,7 +26,7 @@ module _ (c st : List ℕ) (k i m : ℕ) where
       go true false p q e = inl e
       go false read p q e = inl e
 
-  pub looked-output : LookedAt c st k i m → outAt (unfolded c st k) (i * linesOf c + m) ≡ 1
+  pub looked-output : LookedIn c st k i m → outAt (unfolded c st k) (i * linesOf c + m) ≡ 1
   unfolding stepOut
   looked-output w = unfolded-out c st k i m (w .step) (w .line) ∙ go (w .looked)
     where

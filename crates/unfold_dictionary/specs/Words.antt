@@ -23,7 +23,7 @@ use Rattle.clocked.specs.Inputs.{givenBy}
 use Rattle.unfold_dictionary.specs.Promise.{stepsDictionaryRules}
 
 -- line m is looked at in step i of k: an output in every step, a data line in the last
-pub record LookedAt (c st : List ℕ) (k i m : ℕ) : Type 0 where
+pub record LookedIn (c st : List ℕ) (k i m : ℕ) : Type 0 where
   pub step : i < k
   pub line : m < linesOf c
   pub looked : (outAt c m ≡ 1) ⊎ ((suc i ≡ k) × DataLine st m)
@@ -39,7 +39,7 @@ ThereHolds P fault c st p i m = P (getD (valuesIn unforced c st p i) m 0) (getD 
 -- fail if somewhere good and faulty value are known and differ; pass if everywhere the faulty value is as expected; otherwise unknown
 abbrev pub StepsEntry : Fault → List ℕ → List ℕ → ℕ → List ℕ → ℕ → Type 0
 StepsEntry fault c st k p e =
-    Chosen ((i m : ℕ) × LookedAt c st k i m × ThereHolds Differ fault c st p i m) ((i m : ℕ) → LookedAt c st k i m → ThereHolds AsExpected fault c st p i m) e
+    Chosen ((i m : ℕ) × LookedIn c st k i m × ThereHolds Differ fault c st p i m) ((i m : ℕ) → LookedIn c st k i m → ThereHolds AsExpected fault c st p i m) e
 
 -- one row per pattern, one entry per fault in the row
 pub record StepsMade (c st : List ℕ) (k : ℕ) (fs ps t : List ℕ) : Type 0 where

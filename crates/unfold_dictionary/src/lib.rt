@@ -16,7 +16,7 @@ ghost use Rattle.unfold_dictionary.specs.Promise.{StepsDictionary};
 ghost use Rattle.unfold_dictionary.specs.Owed.{StepsChecked, LeaveReady, FillReady, FillInReady, FillDone};
 
 // Refusals 1, 2, 4, 5, 21, 18, 19 and 6 to 10. The lines of a step and the inputs after unfolding come back.
-fn check_steps(
+fn check_all_steps(
     circuit: &[u8],
     states: &[u8],
     steps: usize,
@@ -31,7 +31,15 @@ fn check_steps(
     match v {
         Clocked::Refused(number, place) => Clocked::Refused(number, place),
         Clocked::Accepted(n, inputs) => {
-            let rest = check_rest(circuit, inputs, faults, patterns, table, 2 * (steps * n), work);
+            let rest = check_rest(
+                circuit,
+                inputs,
+                faults,
+                patterns,
+                table,
+                2 * (steps * n),
+                work,
+            );
             match rest {
                 Ruling::Refused(number, place) => Clocked::Refused(number, place),
                 Ruling::Fine => Clocked::Accepted(n, inputs),
@@ -80,16 +88,7 @@ fn fill_in(
 {
     let lines = steps * n;
     unfold_lines(circuit, states, n, steps, unfolded);
-    fill_groups_in_steps(
-        unfolded,
-        lines,
-        n,
-        inputs,
-        faults,
-        patterns,
-        table,
-        words,
-    );
+    fill_groups_in_steps(unfolded, lines, n, inputs, faults, patterns, table, words);
     leave_last(unfolded, lines, n, inputs, faults, patterns, work);
 }
 
@@ -139,7 +138,7 @@ pub fn unfold_dictionary(
 ) -> Ruling
     ensures { λ r. ⌜ StepsDictionary (now (circuit .entry)) (now (states .entry)) steps (now (faults .entry)) (now (patterns .entry)) (now (table .entry)) (now (work .entry)) r (now (table .exit)) (now (work .exit)) ⌝ }
 {
-    let v = check_steps(
+    let v = check_all_steps(
         circuit,
         states,
         steps,
@@ -152,7 +151,15 @@ pub fn unfold_dictionary(
         Clocked::Refused(number, place) => Ruling::Refused(number, place),
         Clocked::Accepted(n, inputs) => {
             fill(
-                circuit, states, n, steps, inputs, faults, patterns, table, work,
+                circuit,
+                states,
+                n,
+                steps,
+                inputs,
+                faults,
+                patterns,
+                table,
+                work,
             );
             Ruling::Fine
         }

@@ -3,25 +3,25 @@
 use native.Mathlib.Omega.{arith}
 use lib.ListN.{length}
 use mathlib.Core.Path.{sym, _∙_}
-use Prim.Native.Nat.{_-_, _<_}
-use Rattle.simulate.specs.Simulate.{stuckInSteps}
+use Prim.Native.Nat.{_-_}
+use Rattle.simulate.specs.Simulate.{stuckAt}
 use Rattle.rows.proofs.Rows.{SoFar, start, more, finished}
 use Rattle.simulate.proofs.Settled.{ordered, shaped}
 use Rattle.rows.proofs.fill_row.Statement.{statement}
 use Rattle.rows.proofs.fill_row.Tie as tie
 
 abbrev Inv-loop : tie.InvT-loop
-Inv-loop circuit n step pattern faults row₀ work₀ j₀ row work j = SoFar (stuckInSteps step) circuit n pattern faults (length row₀) row work j
+Inv-loop circuit n pattern faults row₀ work₀ j₀ row work j = SoFar stuckAt circuit n pattern faults (length row₀) row work j
 
 abbrev μ-loop : tie.MeasureT-loop
-μ-loop circuit n step pattern faults row₀ work₀ j₀ row work j = length row₀ - j
+μ-loop circuit n pattern faults row₀ work₀ j₀ row work j = length row₀ - j
 
 good-values-requires : tie.Need-good-values-requires Inv-loop μ-loop
 good-values-requires c κs = let s = c .before .before .before .before .before .before in record { shaped = shaped (s .pre .well); small = s .pre .small; two = s .pre .two }
 
 loop-holds : tie.Need-loop-holds Inv-loop μ-loop
 loop-holds c = let s = c .before .before .before .before .before .before .before .before .before in
-    start (stuckInSteps (s .args .step)) (s .args .circuit .now) (s .args .n) (s .args .pattern .now) (s .args .faults .now) _ (s .args .work .now) (s .pre .two)
+    start stuckAt (s .args .circuit .now) (s .args .n) (s .args .pattern .now) (s .args .faults .now) _ (s .args .work .now) (s .pre .two)
     (c .before .before .good-values .ensures)
 
 read-fault-requires : tie.Need-read-fault-requires Inv-loop μ-loop
@@ -35,15 +35,12 @@ fault-entry-requires c κs =
     let turn = c .before .before .before in
     let s = turn .before .before .before .before .before .before .before .before .before .before in
     let so = turn .loop .inv in
-    let line : c .before .read-fault .result .line < s .args .step = rw (c .before .read-fault .ensures) (s .pre .lines _ (omega (arith, so .long))) in (
-      record {
-        ordered = ordered (s .pre .well);
-        two = so .room;
-        line = omega (arith, line, s .pre .inside);
-        value = rw (c .before .read-fault .ensures) (s .pre .values _ (omega (arith, so .long)));
-      },
-      record { line = line; inside = s .pre .inside; most = s .pre .most },
-    )
+    record {
+      ordered = ordered (s .pre .well);
+      two = so .room;
+      line = rw (c .before .read-fault .ensures) (s .pre .lines _ (omega (arith, so .long)));
+      value = rw (c .before .read-fault .ensures) (s .pre .values _ (omega (arith, so .long)));
+    }
 
 slice-write-row : tie.Need-slice-write-row Inv-loop μ-loop
 slice-write-row c =

@@ -4,7 +4,7 @@ use mathlib.Core.Path.{refl}
 use borrow.Author.Needs.{needs}
 use borrow.Author.Tests.{eq-eqb, ne-eqb}
 use Rattle.answers.proofs.Places.{whole-broken, place-broken, none-broken}
-use Rattle.states.specs.Owed.{stateRules}
+use Rattle.states.specs.Rules.{stateRules}
 use Rattle.states.proofs.check_states.Statement.{statement}
 use Rattle.states.proofs.check_states.Tie as tie
 

@@ -1,7 +1,5 @@
 -- `unfold_dictionary::leave_last` meets its contract: the good values of the last pattern, then the faulty ones of the last fault.
 -- Assumes nothing.
-use mathlib.Core.Path.{_∙_}
-use native.Mathlib.Omega.{arith}
 use borrow.Author.Needs.{needs}
 use Rattle.unfold_dictionary.proofs.Last.{pattern-room, last-inside, good-ready, faulty-ready, left-last}
 use Rattle.unfold_dictionary.proofs.leave_last.Statement.{statement}

@@ -1,13 +1,12 @@
--- `unfold_dictionary::check_steps` meets its contract: a refusal of the clocked circuit is handed on, else the rest decides.
+-- `unfold_dictionary::check_all_steps` meets its contract: a refusal of the clocked circuit is handed on, else the rest decides.
 -- Assumes nothing.
 use mathlib.Core.Path.{sym, _∙_}
-use Prim.Native.Nat.{_*_, _≤_}
 use native.Mathlib.Omega.{arith}
 use borrow.Author.Needs.{needs}
 use Rattle.states.proofs.Steps.{clocked-refuses, clocked-accepts}
 use Rattle.unfold_dictionary.proofs.Checked.{clocked-refused, few-lines, rest-refused, rest-fine}
-use Rattle.unfold_dictionary.proofs.check_steps.Statement.{statement}
-use Rattle.unfold_dictionary.proofs.check_steps.Tie as tie
+use Rattle.unfold_dictionary.proofs.check_all_steps.Statement.{statement}
+use Rattle.unfold_dictionary.proofs.check_all_steps.Tie as tie
 
 mul-check-rest : tie.Need-mul-check-rest
 mul-check-rest c =
@@ -44,8 +43,8 @@ returns-3 c =
     let a = clocked-accepts (told .before .before .check-clocked .ensures) (told .v2 .given .1) in
     rest-fine (a .0) (a .1) (a .2) (sym (checked .check-rest .ensures) ∙ c .enum-told .given .1)
 
-pub check-steps-spec : {M : Type 1} → statement M
-check-steps-spec =
+pub check-all-steps-spec : {M : Type 1} → statement M
+check-all-steps-spec =
     tie.close
     (tie.spec
     (λ c κs. search needs)
