@@ -1,42 +1,31 @@
-// What C calls: each entry takes a slice as a pointer and a length, calls its part and reports the answer. Those with lent memory look at the
-// answer area first: with one of another size nothing is written at all.
-use audit::audit;
-use bench::bench;
-use bench_names::bench_names;
-use circuit::check;
-use clauses::clauses;
+// The names that C knows, in the crate of which the archive is made: each entry takes a slice as a pointer and a length, and calls the function of
+// the same promise in `circuit_entries`, `table_entries` or `clocked_entries`.
+use circuit_entries::enter_bench;
+use circuit_entries::enter_bench_names;
+use circuit_entries::enter_check;
+use circuit_entries::enter_clauses;
+use circuit_entries::enter_search;
+use circuit_entries::enter_search_all;
+use circuit_entries::enter_search_heads;
 use clocked_entries::enter_unfold;
 use clocked_entries::enter_unfold_dictionary;
-use compact::compact;
-use dictionary::dictionary;
-use dictionary_lanes::dictionary_lanes;
-use replies::AREA;
-use replies::OTHER_SIZE;
-use replies::of_audited;
-use replies::of_checked;
-use replies::of_marked;
-use replies::of_narrowed;
-use replies::of_read;
-use replies::of_ruling;
-use replies::of_searched;
-use replies::of_written;
-use replies::report;
-use search::search;
-use search_all::search_all;
-use search_heads::search_heads;
-use suspect_areas::open_area;
-use suspect_areas::read_marks;
-use suspect_areas::report_area;
+use table_entries::enter_audit;
+use table_entries::enter_compact;
+use table_entries::enter_dictionary;
+use table_entries::enter_dictionary_lanes;
+use table_entries::enter_suspects_marks;
+use table_entries::enter_suspects_open;
+use table_entries::enter_suspects_report;
 ghost use Rattle.answers.specs.Area.{Entered};
+ghost use Rattle.circuit_entries.specs.Entries.{checkNumbers, SearchEntered, SearchHeadsEntered, SearchAllEntered, ClausesEntered, BenchEntered, BenchNamesEntered};
 ghost use Rattle.clocked_entries.specs.Entries.{UnfoldEntered, UnfoldDictionaryEntered};
-ghost use Rattle.entries.specs.Entries.{checkNumbers, auditNumbers, DictionaryEntered, DictionaryLanesEntered, CompactEntered, SuspectsOpenEntered, SuspectsReportEntered, SuspectsMarksEntered, SearchEntered, SearchHeadsEntered, SearchAllEntered, ClausesEntered, BenchEntered, BenchNamesEntered};
+ghost use Rattle.table_entries.specs.Entries.{auditNumbers, DictionaryEntered, DictionaryLanesEntered, CompactEntered, SuspectsOpenEntered, SuspectsReportEntered, SuspectsMarksEntered};
 
 #[no_mangle]
 pub extern "C" fn ullimaqsu_check(circuit: &[u8], answer: &mut [u8]) -> u32
     ensures { λ r. ⌜ Entered (now (answer .entry)) (checkNumbers (now (circuit .entry))) r (now (answer .exit)) ⌝ }
 {
-    let v = check(circuit);
-    report(of_checked(v), answer)
+    enter_check(circuit, answer)
 }
 
 #[no_mangle]
@@ -51,11 +40,7 @@ pub extern "C" fn ullimaqsu_dictionary(
     ensures { λ r. ⌜ DictionaryEntered (now (circuit .entry)) (now (faults .entry)) (now (patterns .entry))
         (now (table .entry)) (now (work .entry)) (now (answer .entry)) r (now (table .exit)) (now (work .exit)) (now (answer .exit)) ⌝ }
 {
-    if answer.len() != AREA {
-        return OTHER_SIZE;
-    }
-    let v = dictionary(circuit, faults, patterns, table, work);
-    report(of_ruling(v), answer)
+    enter_dictionary(circuit, faults, patterns, table, work, answer)
 }
 
 #[no_mangle]
@@ -70,11 +55,7 @@ pub extern "C" fn ullimaqsu_dictionary_lanes(
     ensures { λ r. ⌜ DictionaryLanesEntered (now (circuit .entry)) (now (faults .entry)) (now (patterns .entry))
         (now (table .entry)) (now (work .entry)) (now (answer .entry)) r (now (table .exit)) (now (work .exit)) (now (answer .exit)) ⌝ }
 {
-    if answer.len() != AREA {
-        return OTHER_SIZE;
-    }
-    let v = dictionary_lanes(circuit, faults, patterns, table, work);
-    report(of_ruling(v), answer)
+    enter_dictionary_lanes(circuit, faults, patterns, table, work, answer)
 }
 
 #[no_mangle]
@@ -88,11 +69,7 @@ pub extern "C" fn ullimaqsu_compact(
     ensures { λ r. ⌜ CompactEntered «fault_count» «pattern_count» (now (table .entry)) (now (marks .entry)) (now (answer .entry))
         r (now (marks .exit)) (now (answer .exit)) ⌝ }
 {
-    if answer.len() != AREA {
-        return OTHER_SIZE;
-    }
-    let v = compact(fault_count, pattern_count, table, marks);
-    report(of_ruling(v), answer)
+    enter_compact(fault_count, pattern_count, table, marks, answer)
 }
 
 #[no_mangle]
@@ -106,8 +83,7 @@ pub extern "C" fn ullimaqsu_audit(
     ensures { λ r. ⌜ Entered (now (answer .entry)) (auditNumbers «fault_count» «pattern_count» (now (table .entry)) (now (marks .entry)))
         r (now (answer .exit)) ⌝ }
 {
-    let v = audit(fault_count, pattern_count, table, marks);
-    report(of_audited(v), answer)
+    enter_audit(fault_count, pattern_count, table, marks, answer)
 }
 
 #[no_mangle]
@@ -121,11 +97,7 @@ pub extern "C" fn ullimaqsu_suspects_open(
     ensures { λ r. ⌜ SuspectsOpenEntered «fault_count» «pattern_count» (now (table .entry)) (now (state .entry)) (now (answer .entry))
         r (now (state .exit)) (now (answer .exit)) ⌝ }
 {
-    if answer.len() != AREA {
-        return OTHER_SIZE;
-    }
-    let v = open_area(fault_count, pattern_count, table, state);
-    report(of_narrowed(v), answer)
+    enter_suspects_open(fault_count, pattern_count, table, state, answer)
 }
 
 #[no_mangle]
@@ -141,18 +113,15 @@ pub extern "C" fn ullimaqsu_suspects_report(
     ensures { λ r. ⌜ SuspectsReportEntered «fault_count» «pattern_count» (now (table .entry)) pattern failed (now (state .entry)) (now (answer .entry))
         r (now (state .exit)) (now (answer .exit)) ⌝ }
 {
-    if answer.len() != AREA {
-        return OTHER_SIZE;
-    }
-    let v = report_area(
+    enter_suspects_report(
         fault_count,
         pattern_count,
         table,
         pattern,
-        failed != 0,
+        failed,
         state,
-    );
-    report(of_narrowed(v), answer)
+        answer,
+    )
 }
 
 #[no_mangle]
@@ -160,11 +129,7 @@ pub extern "C" fn ullimaqsu_suspects_marks(state: &[u8], marks: &mut [u8], answe
     ensures { λ r. ⌜ SuspectsMarksEntered (now (state .entry)) (now (marks .entry)) (now (answer .entry))
         r (now (marks .exit)) (now (answer .exit)) ⌝ }
 {
-    if answer.len() != AREA {
-        return OTHER_SIZE;
-    }
-    let v = read_marks(state, marks);
-    report(of_marked(v), answer)
+    enter_suspects_marks(state, marks, answer)
 }
 
 #[no_mangle]
@@ -179,11 +144,7 @@ pub extern "C" fn ullimaqsu_search(
     ensures { λ r. ⌜ SearchEntered (now (circuit .entry)) (now (fault .entry)) budget
         (now (test .entry)) (now (work .entry)) (now (answer .entry)) r (now (test .exit)) (now (work .exit)) (now (answer .exit)) ⌝ }
 {
-    if answer.len() != AREA {
-        return OTHER_SIZE;
-    }
-    let v = search(circuit, fault, budget, test, work);
-    report(of_searched(v), answer)
+    enter_search(circuit, fault, budget, test, work, answer)
 }
 
 #[no_mangle]
@@ -198,11 +159,7 @@ pub extern "C" fn ullimaqsu_search_heads(
     ensures { λ r. ⌜ SearchHeadsEntered (now (circuit .entry)) (now (fault .entry)) budget
         (now (test .entry)) (now (work .entry)) (now (answer .entry)) r (now (test .exit)) (now (work .exit)) (now (answer .exit)) ⌝ }
 {
-    if answer.len() != AREA {
-        return OTHER_SIZE;
-    }
-    let v = search_heads(circuit, fault, budget, test, work);
-    report(of_searched(v), answer)
+    enter_search_heads(circuit, fault, budget, test, work, answer)
 }
 
 #[no_mangle]
@@ -220,11 +177,16 @@ pub extern "C" fn ullimaqsu_search_all(
         (now (outcomes .entry)) (now (counts .entry)) (now (tests .entry)) (now (work .entry)) (now (answer .entry))
         r (now (outcomes .exit)) (now (counts .exit)) (now (tests .exit)) (now (work .exit)) (now (answer .exit)) ⌝ }
 {
-    if answer.len() != AREA {
-        return OTHER_SIZE;
-    }
-    let v = search_all(circuit, faults, budgets, outcomes, counts, tests, work);
-    report(of_ruling(v), answer)
+    enter_search_all(
+        circuit,
+        faults,
+        budgets,
+        outcomes,
+        counts,
+        tests,
+        work,
+        answer,
+    )
 }
 
 #[no_mangle]
@@ -237,11 +199,7 @@ pub extern "C" fn ullimaqsu_clauses(
     ensures { λ r. ⌜ ClausesEntered (now (circuit .entry)) (now (fault .entry)) (now (words .entry)) (now (answer .entry))
         r (now (words .exit)) (now (answer .exit)) ⌝ }
 {
-    if answer.len() != AREA {
-        return OTHER_SIZE;
-    }
-    let v = clauses(circuit, fault, words);
-    report(of_written(v), answer)
+    enter_clauses(circuit, fault, words, answer)
 }
 
 #[no_mangle]
@@ -249,11 +207,7 @@ pub extern "C" fn ullimaqsu_bench(text: &[u8], circuit: &mut [u8], answer: &mut 
     ensures { λ r. ⌜ BenchEntered (now (text .entry)) (now (circuit .entry)) (now (answer .entry))
         r (now (circuit .exit)) (now (answer .exit)) ⌝ }
 {
-    if answer.len() != AREA {
-        return OTHER_SIZE;
-    }
-    let v = bench(text, circuit);
-    report(of_read(v), answer)
+    enter_bench(text, circuit, answer)
 }
 
 #[no_mangle]
@@ -261,11 +215,7 @@ pub extern "C" fn ullimaqsu_bench_names(text: &[u8], places: &mut [u32], answer:
     ensures { λ r. ⌜ BenchNamesEntered (now (text .entry)) (now (places .entry)) (now (answer .entry))
         r (now (places .exit)) (now (answer .exit)) ⌝ }
 {
-    if answer.len() != AREA {
-        return OTHER_SIZE;
-    }
-    let v = bench_names(text, places);
-    report(of_read(v), answer)
+    enter_bench_names(text, places, answer)
 }
 
 #[no_mangle]
