@@ -1,7 +1,9 @@
 //! Several clock steps: s27 over four, and a circuit over eight that then has as many lines and inputs as it may.
-use crate::baseline::gates::{Branches, Gates, Table};
+use crate::baseline::gates::{Branches, Table};
+use crate::baseline::lanes::gates::{self as word_gates, Choices};
+use crate::baseline::unfold_dictionary::{bytes, words, Fill};
 use crate::baseline::{unfold, unfold_dictionary};
-use crate::timing::{race, Row};
+use crate::timing::{race, race_all, timed, Row};
 use cases::clocked::{self, s27, Clocked, Given};
 use cases::{faults, Random};
 use std::hint::black_box;
@@ -45,60 +47,57 @@ fn unfolding(name: &str, Clocked { circuit, states, steps }: &Clocked) -> Row {
     row
 }
 
-fn proved_steps(Given { clocked, faults, patterns }: &Given, (table, work, answer): &mut Made) -> u32 {
+fn proved(Given { clocked, faults, patterns }: &Given, (table, work, answer): &mut Made) -> u32 {
     let Clocked { circuit, states, steps } = clocked;
     enter(Call::UnfoldDictionary { circuit: black_box(circuit), states, steps: *steps, faults, patterns, table, work, answer })
 }
 
-/// Beside Rust with one of the forms of the gate rule.
-fn dictionary<G: Gates>(name: &str, given: &Given) -> Row {
-    let (mut proved, mut plain) = (unmade(given), unmade(given));
-    let Given { clocked: Clocked { circuit, states, steps }, faults, patterns } = given;
-    let row = race(
+fn plain(fill: Fill, Given { clocked, faults, patterns }: &Given, (table, work, answer): &mut Made) -> u32 {
+    let Clocked { circuit, states, steps } = clocked;
+    unfold_dictionary::enter(fill, (black_box(circuit), states, *steps), faults, patterns, table, work, answer)
+}
+
+/// The proved dictionary that simulates a byte at a time, of the circuit that is unfolded already: with as many faults, each in step 1 alone.
+fn proved_bytes(unfolded: &[u8], Given { faults, patterns, .. }: &Given, (table, work, answer): &mut Made) -> u32 {
+    enter(Call::Dictionary { circuit: black_box(unfolded), faults, patterns, table, work, answer })
+}
+
+/// The dictionary, in the columns of `BESIDE_LANES`. The last has another table, since no proved dictionary has a fault in each step but this.
+fn dictionary(name: &str, given: &Given) -> Row<6> {
+    let Clocked { circuit, states, steps } = &given.clocked;
+    let mut unfolded = vec![0; 8 * given.clocked.lines()];
+    ullimaqsu::unfold(circuit, states, *steps, &mut unfolded).expect("sound");
+    let [mut made, mut choices, mut branches, mut by_byte, mut by_table, mut in_step_1] = [(); 6].map(|_| unmade(given));
+    let row = race_all(
         name,
-        || proved_steps(given, &mut proved),
-        || {
-            let (table, work, answer) = &mut plain;
-            unfold_dictionary::enter::<G>((black_box(circuit), states, *steps), faults, patterns, table, work, answer)
-        },
+        [
+            &mut timed(|| proved(given, &mut made)),
+            &mut timed(|| plain(words::<Choices>, given, &mut choices)),
+            &mut timed(|| plain(words::<word_gates::Branches>, given, &mut branches)),
+            &mut timed(|| plain(bytes::<Branches>, given, &mut by_byte)),
+            &mut timed(|| plain(bytes::<Table>, given, &mut by_table)),
+            &mut timed(|| proved_bytes(&unfolded, given, &mut in_step_1)),
+        ],
     );
-    assert_eq!(proved, plain);
+    assert_eq!(proved_bytes(&unfolded, given, &mut in_step_1), 0, "sound");
+    assert_eq!([&made; 4], [&choices, &branches, &by_byte, &by_table], "{name}");
     row
 }
 
-/// Beside the proved dictionary of the circuit that is unfolded already, with as many faults, each in step 1 alone.
-fn beside_dictionary(name: &str, given: &Given) -> Row {
-    let Given { clocked: Clocked { circuit, states, steps }, faults, patterns } = given;
-    let mut unfolded = vec![0; *steps as usize * circuit.len()];
-    ullimaqsu::unfold(circuit, states, *steps, &mut unfolded).expect("sound");
-    let (mut in_all, mut in_one) = (unmade(given), unmade(given));
-    race(
-        name,
-        || proved_steps(given, &mut in_all),
-        || {
-            let (table, work, answer) = &mut in_one;
-            enter(Call::Dictionary { circuit: black_box(&unfolded), faults, patterns, table, work, answer })
-        },
-    )
+/// What is timed, from the large to the small.
+fn sizes() -> [(&'static str, Given); 2] {
+    [("8 steps of 256 lines", large()), ("4 steps of s27", small())]
 }
 
-/// What is timed of a clocked circuit with its faults and patterns.
-const PARTS: [fn(&Given) -> Row; 4] = [
-    |given| unfolding("unfold", &given.clocked),
-    |given| {
+pub fn unfoldings() -> impl Iterator<Item = Row> {
+    sizes().into_iter().map(|(name, given)| unfolding(name, &given.clocked))
+}
+
+pub fn dictionaries() -> impl Iterator<Item = Row<6>> {
+    sizes().into_iter().map(|(name, given)| {
         let (faults, patterns) = (given.faults.len() / 8, given.patterns.len() / given.clocked.inputs());
-        dictionary::<Branches>(&format!("unfold_dictionary: {faults} faults, {patterns} patterns"), given)
-    },
-    |given| dictionary::<Table>("the same beside Rust that looks gates up too", given),
-    |given| beside_dictionary("the same beside the proved dictionary, not Rust", given),
-];
-
-pub fn small_rows() -> impl Iterator<Item = Row> {
-    PARTS.into_iter().map(|part| part(&small()))
-}
-
-pub fn rows() -> impl Iterator<Item = Row> {
-    PARTS.into_iter().map(|part| part(&large()))
+        dictionary(&format!("{name}, {faults} faults, {patterns} patterns"), &given)
+    })
 }
 
 #[cfg(test)]

@@ -5,13 +5,13 @@
 //! at the largest sizes dictionary and searches are also timed beside Rust that looks gates up in a table (`baseline/gates.rs`). Some rows have
 //! proved code in place of Rust: single calls of the search, whose ratio says what a list in one call brings, and the compactor beside the audit
 //! of its list, whose ratio is at least 0.5 where the audit takes at most twice the compactor's time; and the search over patterns beside that over
-//! head lines where there are no trees, whose ratio says what it costs to look for them; and the dictionary of the unfolded circuit, in which each
-//! fault is in step 1 alone, beside that of several clock steps.
+//! head lines where there are no trees, whose ratio says what it costs to look for them.
 //!
-//! The dictionary that carries 64 patterns at once has tables of its own. It runs beside the same in Rust, whose gates choose or branch
-//! (`baseline/lanes/gates.rs`): branches are faster where the processor learns the circuit's kinds, choices where it does not. And it runs
-//! beside dictionaries that simulate a byte at a time, in Rust and proved. The last table is of Rust alone: what it costs that the entries of
-//! a fault, which come out of one word, stand a row apart.
+//! The dictionary that carries 64 patterns at once has tables of its own, and so has that of several clock steps, which carries as many. It runs
+//! beside the same in Rust, whose gates choose or branch (`baseline/lanes/gates.rs`): branches are faster where the processor learns the
+//! circuit's kinds, choices where it does not. And it runs beside dictionaries that simulate a byte at a time, in Rust and proved; over several
+//! clock steps the proved one has the unfolded circuit, with each fault in step 1 alone. The last table is of Rust alone: what it costs that the
+//! entries of a fault, which come out of one word, stand a row apart.
 
 mod baseline;
 mod clocked;
@@ -29,9 +29,9 @@ fn main() {
     print("small calls", NANOSECONDS, ["proved", "Rust"], small::rows());
     print("search_heads: all faults, 100 nodes each", MICROSECONDS, ["proved", "Rust"], small::heads());
     print("the same beside the proved search", MICROSECONDS, ["heads", "inputs"], small::heads_beside_search());
-    print("8 clock steps of 256 lines", MICROSECONDS, ["proved", "Rust"], clocked::rows());
-    print("4 clock steps of s27", NANOSECONDS, ["proved", "Rust"], clocked::small_rows());
+    print("unfold", NANOSECONDS, ["proved", "Rust"], clocked::unfoldings());
     print("64 patterns at once", MICROSECONDS, BESIDE_LANES, large::lanes());
     print("64 patterns at once, small calls", NANOSECONDS, BESIDE_LANES, small::lanes());
+    print("64 patterns at once, several clock steps", MICROSECONDS, BESIDE_LANES, clocked::dictionaries());
     print("the order of their entries, in Rust", MICROSECONDS, ORDERS, large::orders());
 }

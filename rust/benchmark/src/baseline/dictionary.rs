@@ -1,8 +1,35 @@
 //! The dictionary maker: the good circuit once a pattern, the faulty one from the fault's line on.
 use super::check::check;
 use super::gates::Gates;
-use super::simulate::{entry, faulty_values, good_values, Fault};
+use super::simulate::{entry, faulty_in_steps, good_values, Fault};
 use super::{pins, report, word};
+
+/// What a table is made of, and is sound. So many lines are a step, and a fault is in each; as a rule all lines are one.
+pub struct Given<'a> {
+    pub circuit: &'a [u8],
+    pub each: usize,
+    pub inputs: usize,
+    pub faults: &'a [u8],
+    pub patterns: &'a [u8],
+}
+
+impl Given<'_> {
+    pub fn lines(&self) -> usize {
+        self.circuit.len() / 8
+    }
+
+    pub fn fault_count(&self) -> usize {
+        self.faults.len() / 8
+    }
+
+    pub fn pattern_count(&self) -> usize {
+        self.patterns.len() / self.inputs
+    }
+
+    pub fn entries(&self) -> usize {
+        self.fault_count() * self.pattern_count()
+    }
+}
 
 fn fault_ok(circuit: &[u8], faults: &[u8], j: usize) -> bool {
     let fault = Fault::read(faults, j);
@@ -35,27 +62,32 @@ pub fn check_patterns(patterns: &[u8], inputs: usize) -> Result<(), (u32, usize)
     }
 }
 
-/// Refusals 1, 2 and 4 to 9, or the numbers of lines and inputs.
-pub fn check_given(circuit: &[u8], faults: &[u8], patterns: &[u8]) -> Result<[usize; 2], (u32, usize)> {
+/// Refusals 1, 2 and 4 to 9.
+pub fn check_given<'a>(circuit: &'a [u8], faults: &'a [u8], patterns: &'a [u8]) -> Result<Given<'a>, (u32, usize)> {
     let [n, inputs, _] = check(circuit)?;
     check_faults(circuit, faults, 256)?;
     check_patterns(patterns, inputs)?;
-    Ok([n, inputs])
+    Ok(Given { circuit, each: n, inputs, faults, patterns })
 }
 
-fn dictionary<G: Gates>(circuit: &[u8], faults: &[u8], patterns: &[u8], table: &mut [u8], work: &mut [u8]) -> Result<(), (u32, usize)> {
-    let [n, inputs] = check_given(circuit, faults, patterns)?;
-    let count = faults.len() / 8;
-    if table.len() != count * (patterns.len() / inputs) || work.len() != 2 * n {
-        return Err((10, 0));
-    }
-    for (pattern, row) in patterns.chunks_exact(inputs).zip(table.chunks_exact_mut(count)) {
+/// Fills the table. The work memory has the good values, then the faulty ones.
+pub fn fill<G: Gates>(given: &Given, table: &mut [u8], work: &mut [u8]) {
+    let (circuit, n) = (given.circuit, given.lines());
+    for (pattern, row) in given.patterns.chunks_exact(given.inputs).zip(table.chunks_exact_mut(given.fault_count())) {
         good_values::<G>(circuit, pattern, work, n);
         for (j, cell) in row.iter_mut().enumerate() {
-            faulty_values::<G>(circuit, Fault::read(faults, j), work, n);
+            faulty_in_steps::<G>(circuit, Fault::read(given.faults, j), work, n, given.each);
             *cell = entry(true, circuit, work, n);
         }
     }
+}
+
+fn dictionary<G: Gates>(circuit: &[u8], faults: &[u8], patterns: &[u8], table: &mut [u8], work: &mut [u8]) -> Result<(), (u32, usize)> {
+    let given = check_given(circuit, faults, patterns)?;
+    if table.len() != given.entries() || work.len() != 2 * given.lines() {
+        return Err((10, 0));
+    }
+    fill::<G>(&given, table, work);
     Ok(())
 }
 

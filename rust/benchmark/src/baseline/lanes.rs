@@ -1,7 +1,7 @@
 //! The dictionary maker that carries 64 patterns at once: the good circuit once a group, the faulty one from the fault's line on.
 pub mod gates;
 
-use super::dictionary::check_given;
+use super::dictionary::{check_given, Given};
 use super::simulate::Fault;
 use super::{report, word, SELECTOR};
 use gates::{Lanes, WordGates};
@@ -64,14 +64,27 @@ fn good_lanes<G: WordGates>(circuit: &[u8], group: &[u8], inputs: usize, good: &
     simulate_from::<G>(circuit, good, 0);
 }
 
-/// The faulty lanes: those below the fault's line are the good ones.
-fn faulty_lanes<G: WordGates>(circuit: &[u8], fault: Fault, good: &[[u64; 2]], faulty: &mut [[u64; 2]]) {
+/// The lanes of a line where the fault is.
+fn stuck_lanes<G: WordGates>(circuit: &[u8], fault: Fault, line: usize, words: &[[u64; 2]]) -> Lanes {
+    let stuck = Lanes::stuck(fault.value);
+    let pin = |site: u8| if site == fault.site { stuck } else { Lanes::of(words, word(circuit, 8 * line + 2 * site as usize)) };
+    if fault.site == 0 {
+        stuck
+    } else {
+        lanes::<G>(circuit, line, pin)
+    }
+}
+
+/// The faulty lanes, with the fault in each step of so many lines: those below its line in the first are the good ones.
+fn faulty_lanes<G: WordGates>(circuit: &[u8], fault: Fault, each: usize, good: &[[u64; 2]], faulty: &mut [[u64; 2]]) {
     faulty.copy_from_slice(good);
-    let (line, stuck) = (fault.line, Lanes::stuck(fault.value));
-    let pin = |site: u8| if site == fault.site { stuck } else { Lanes::of(good, word(circuit, 8 * line + 2 * site as usize)) };
-    let own = if fault.site == 0 { stuck } else { lanes::<G>(circuit, line, pin) };
-    faulty[line] = own.words();
-    simulate_from::<G>(circuit, faulty, line + 1);
+    let mut line = fault.line;
+    while line < good.len() {
+        let next = line + each;
+        faulty[line] = stuck_lanes::<G>(circuit, fault, line, faulty).words();
+        simulate_from::<G>(circuit, &mut faulty[..next.min(good.len())], line + 1);
+        line = next;
+    }
 }
 
 /// The lanes whose entry is fail, and those whose entry is unknown. Below the fault's line both circuits agree.
@@ -87,25 +100,17 @@ fn entries(circuit: &[u8], line: usize, good: &[[u64; 2]], faulty: &[[u64; 2]]) 
     [fails, misses & !fails]
 }
 
-fn dictionary<G: WordGates, O: Order>(
-    circuit: &[u8],
-    faults: &[u8],
-    patterns: &[u8],
-    table: &mut [u8],
-    work: &mut [u64],
-) -> Result<(), (u32, usize)> {
-    let [n, inputs] = check_given(circuit, faults, patterns)?;
-    let [fault_count, pattern_count] = [faults.len() / 8, patterns.len() / inputs];
-    if table.len() != fault_count * pattern_count || work.len() != 4 * n {
-        return Err((10, 0));
-    }
+/// Fills the table. The work memory has the good lanes, then the faulty ones.
+pub fn fill<G: WordGates, O: Order>(given: &Given, table: &mut [u8], work: &mut [u64]) {
+    let Given { circuit, each, inputs, faults, patterns } = *given;
+    let [fault_count, pattern_count] = [given.fault_count(), given.pattern_count()];
     let (lines, _) = work.as_chunks_mut();
-    let (good, faulty) = lines.split_at_mut(n);
+    let (good, faulty) = lines.split_at_mut(given.lines());
     for (number, group) in patterns.chunks(64 * inputs).enumerate() {
         good_lanes::<G>(circuit, group, inputs, good);
         for j in 0..fault_count {
             let fault = Fault::read(faults, j);
-            faulty_lanes::<G>(circuit, fault, good, faulty);
+            faulty_lanes::<G>(circuit, fault, each, good, faulty);
             let [mut fails, mut unknown] = entries(circuit, fault.line, good, faulty);
             for i in 0..group.len() / inputs {
                 table[O::place(64 * number + i, j, pattern_count, fault_count)] = (fails & 1) as u8 + 2 * (unknown & 1) as u8;
@@ -114,6 +119,20 @@ fn dictionary<G: WordGates, O: Order>(
             }
         }
     }
+}
+
+fn dictionary<G: WordGates, O: Order>(
+    circuit: &[u8],
+    faults: &[u8],
+    patterns: &[u8],
+    table: &mut [u8],
+    work: &mut [u64],
+) -> Result<(), (u32, usize)> {
+    let given = check_given(circuit, faults, patterns)?;
+    if table.len() != given.entries() || work.len() != 4 * given.lines() {
+        return Err((10, 0));
+    }
+    fill::<G, O>(&given, table, work);
     Ok(())
 }
 
