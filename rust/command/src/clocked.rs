@@ -10,6 +10,9 @@ use crate::problem::Problem;
 use std::path::Path;
 use ullimaqsu::Refusal;
 
+/// What takes clocked circuits as records.
+const OF_RECORDS: &str = "records of clock steps are what `ullimaqsu dictionary DIR --steps K` takes, with states.rec in the directory";
+
 #[derive(Debug)]
 pub struct Clocked {
     /// The circuit of one step, whose state lines are inputs.
@@ -23,7 +26,7 @@ impl Clocked {
     pub fn load(path: &Path) -> Result<Clocked, Problem> {
         let (file, bytes) = read_file(path)?;
         match is_records(&bytes) {
-            true => Err(Problem::Refused(format!("{file}: {NO_TEXT}"))),
+            true => Err(Problem::Refused(format!("{file}: {NO_TEXT}; {OF_RECORDS}"))),
             false => Clocked::of_text(&file, &bytes),
         }
     }

@@ -6,7 +6,7 @@ use crate::explain::{too_large, MOST_INPUTS};
 use crate::fault::{self, Fault};
 use crate::pattern::{self, Pattern};
 use crate::problem::Problem;
-use crate::words::cited;
+use crate::words::{cited, is_digits};
 use std::ffi::OsStr;
 use std::path::Path;
 use ullimaqsu::{Refusal, MOST_LINES};
@@ -70,7 +70,7 @@ pub fn unfolded(circuit: &[u8], states: &[u8], steps: u64) -> Result<Vec<u8>, Re
 /// The number of steps that a word is.
 pub fn steps(word: &OsStr, command: &Command) -> Result<u64, Problem> {
     let none = || command.misused(&format!("wants a number of steps, 1 to {MOST_STEPS}, and {} is none", cited(word)));
-    word.to_string_lossy().parse().map_err(|_| none())
+    word.to_str().filter(|word| is_digits(word)).and_then(|word| word.parse().ok()).ok_or_else(none)
 }
 
 /// What a refusal to unfold a circuit means.

@@ -108,6 +108,11 @@ fn unknown(command: &Command, word: &OsStr) -> Problem {
     command.misused(&format!("has no option {}{near}", cited(word)))
 }
 
+/// Whether a word has digits alone: Rust reads a sign too.
+pub fn is_digits(word: &str) -> bool {
+    word.bytes().all(|byte| byte.is_ascii_digit())
+}
+
 /// A word as a message has it; of a long one the beginning.
 pub fn cited(word: impl AsRef<OsStr>) -> String {
     let word = shown(word);

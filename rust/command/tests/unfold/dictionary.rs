@@ -3,6 +3,7 @@ use crate::drawn::Drawn;
 use crate::harness::json::Json;
 use crate::harness::named::{letters, pattern_lines, Named};
 use crate::harness::{printed, refused, root, stopped, ullimaqsu, Directory, Said};
+use crate::refused::RECORDS;
 use cases::{drawn as draw, Random};
 use second::clocked::Clocked;
 use second::{Entry, Fault, Pattern};
@@ -190,15 +191,14 @@ fn what_is_wrong() {
     assert_eq!(said(b"q/0", &[0, 1, 2], "3"), wrong("patterns", "the unfolded circuit has 4 inputs, and 3 bytes are no multiple of that"));
     assert_eq!(said(b"q/0", b"0000", "9"), wrong("text.bench", "a circuit is unfolded over 1 to 8 steps, and 9 are asked for"));
     let misused = |says: &str| stopped(&format!("dictionary {says}; see ullimaqsu dictionary --help"));
-    assert_eq!(said(b"q/0", b"0000", "three"), misused("wants a number of steps, 1 to 8, and `three` is none"));
+    for steps in ["three", "+3"] {
+        assert_eq!(said(b"q/0", b"0000", steps), misused(&format!("wants a number of steps, 1 to 8, and `{steps}` is none")));
+    }
     assert_eq!(ullimaqsu(&["dictionary", "a", "b", "c", "--steps"]), misused("wants K after --steps"));
     assert_eq!(ullimaqsu(&["dictionary", "a", "b", "c", "--steps", "--csv"]), misused("wants K after --steps, and here is `--csv`"));
     let twice = misused("takes --steps once, and here it is given twice");
     assert_eq!(ullimaqsu(&["dictionary", "a", "b", "c", "--steps", "1", "--steps", "1"]), twice);
     // records have no flip-flops
     let records = directory.write("text.bench", [0, 1, 0, 0, 0, 0, 0, 0]);
-    assert_eq!(
-        said(b"0/0", b"0", "1"),
-        refused(&format!("{}: these are records, and not a text in the bench notation", records.display()))
-    );
+    assert_eq!(said(b"0/0", b"0", "1"), refused(&format!("{}: {RECORDS}", records.display())));
 }

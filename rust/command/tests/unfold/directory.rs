@@ -1,6 +1,8 @@
 //! `ullimaqsu dictionary DIR --steps K`: records, and with them states.rec.
 use crate::drawn::Drawn;
 use crate::harness::{stopped, ullimaqsu, Directory, Said};
+use cases::circuits::{record, INPUT};
+use cases::clocked::state;
 use cases::{damage, drawn as draw, faults, Random, Tally};
 use second::clocked::Clocked;
 use second::unfold_dictionary::unfold_dictionary;
@@ -43,12 +45,11 @@ impl Given {
         given
     }
 
-    /// What is printed, by the second program. A file is read up to one byte above its limit.
+    /// What is printed, by the second program, which has all state records. Another file is read up to one byte above its limit.
     fn right(&self) -> Result<String, Refusal> {
-        let [circuit, states, faults, patterns] =
-            [(&self.circuit, 16_384), (&self.states, 8_192), (&self.faults, 2_048), (&self.patterns, 16_384)]
-                .map(|(bytes, limit)| &bytes[..bytes.len().min(limit + 1)]);
-        let clocked = Clocked::read(circuit, states, self.steps)?;
+        let [circuit, faults, patterns] = [(&self.circuit, 16_384), (&self.faults, 2_048), (&self.patterns, 16_384)]
+            .map(|(bytes, limit)| &bytes[..bytes.len().min(limit + 1)]);
+        let clocked = Clocked::read(circuit, &self.states, self.steps)?;
         let (fault_count, pattern_count, work) = (faults.len() / 8, patterns.len() / clocked.inputs(), 2 * clocked.lines());
         let table = unfold_dictionary(clocked, faults, patterns, fault_count * pattern_count, work)?.table;
         let marks = compact(fault_count as u64, pattern_count as u64, &table, pattern_count)?;
@@ -98,6 +99,24 @@ fn damaged_directories() {
     assert_eq!(compare("damaged records", draw(2, 500, Given::damaged)).seen(), [0, 1, 2, 4, 5, 6, 7, 8, 9, 18, 19, 21]);
 }
 
+/// Of 64 inputs each may be a state line. However many records follow, the first bad one is told, or that the last is cut off.
+#[test]
+fn long_states() {
+    let circuit = record(INPUT, true, 0, 0).repeat(64);
+    let all: Vec<[u8; 4]> = (0..64).map(|line| state(line, line)).collect();
+    let given = |different: usize, length: usize| Given {
+        circuit: circuit.clone(),
+        states: all[..different].concat().into_iter().cycle().take(length).collect(),
+        faults: faults::record(0, 0, false).to_vec(),
+        patterns: vec![1; 64],
+        steps: 8,
+    };
+    let lengths = [63, 64, 65, 66, 2_048, 2_049, 2_250].into_iter().flat_map(|records| (0..4).map(move |rest| 4 * records + rest));
+    let cases = lengths.flat_map(|length| [1, 2, 63, 64].map(|different| given(different, length)));
+    // 63 good records leave an input that comes again in each step, and then there are too many
+    assert_eq!(compare("long states", cases).seen(), [0, 18, 19]);
+}
+
 /// A bit that counts: line 0 counts up, line 1 is the state, line 2 their XOR. Which file a refusal is about, or that it is about the steps.
 #[test]
 fn words() {
@@ -120,8 +139,14 @@ fn words() {
     assert_eq!(said(counter(&[2, 0, 1, 0], 2)), (Some(0), "0 K F\n1 D P\n".to_string(), String::new()));
     let states =
         "the state records are not a multiple of 4 bytes, or one names no line, a state line that is no input, or one that is named before";
-    assert_eq!(said(counter(&[2, 0, 1], 2)), refused("18 0", &path("states.rec"), &format!("{states} (record 0)")));
-    assert_eq!(said(counter(&[2, 0, 1, 0, 2, 0, 1, 0], 2)), refused("18 1", &path("states.rec"), &format!("{states} (record 1)")));
+    let record = |number: u64| refused(&format!("18 {number}"), &path("states.rec"), &format!("{states} (record {number})"));
+    assert_eq!(said(counter(&[2, 0, 0, 1], 2)), record(0));
+    assert_eq!(said(counter(&[2, 0, 1, 0].repeat(2), 2)), record(1));
+    assert_eq!(said(counter(&[2, 0, 1, 0].repeat(2_250), 2)), record(1));
+    // where the last record is cut off, none is at fault
+    let cut = refused("18 0", &path("states.rec"), states);
+    assert_eq!(said(counter(&[2, 0, 1], 2)), cut);
+    assert_eq!(said(counter(&[&[2, 0, 1, 0].repeat(2_250)[..], &[2]].concat(), 2)), cut);
     assert_eq!(said(counter(&[2, 0, 1, 0], 9)), refused("21 0", "--steps 9", "the number of steps is outside 1 to 8"));
     let large = "the circuit has more than 2,048 lines or 64 inputs when it is unfolded";
     let many = Given { circuit: [&[0, 1, 0, 0, 0, 0, 0, 0].repeat(33)[..], &circuit[16..]].concat(), ..counter(&[], 2) };

@@ -8,12 +8,13 @@ mod files;
 mod harness;
 mod places;
 mod refused;
+mod wrong;
 
 use cases::drawn as draw;
 use drawn::Drawn;
 use harness::named::{kind, Named};
 use harness::{printed, root, Directory};
-use second::Circuit;
+use second::{Circuit, Clocked};
 use std::fs;
 use std::path::Path;
 
@@ -46,6 +47,30 @@ fn rows(unfolded: &Circuit, one: &Named, steps: u64, states: usize) -> Vec<Strin
 /// The words of each line, whatever stands between them.
 fn words(text: &str) -> Vec<String> {
     text.lines().map(|line| line.split_whitespace().collect::<Vec<_>>().join(" ")).collect()
+}
+
+/// What is seen of an unfolding: the records, and the words of what is printed, line by line.
+#[derive(Clone, Debug, PartialEq, Eq)]
+struct Seen {
+    records: Vec<u8>,
+    words: Vec<String>,
+}
+
+impl Seen {
+    fn by_the_command(directory: &Directory, drawn: &Drawn) -> Seen {
+        let (said, records) = unfold(directory, &drawn.text, drawn.steps);
+        Seen { records, words: words(&said) }
+    }
+
+    /// By the second program, of a clocked circuit whose lines have the text's names.
+    fn of(clocked: &Clocked, named: &Named) -> Seen {
+        let unfolded = clocked.unfolded();
+        Seen { words: rows(&unfolded, named, clocked.steps as u64, clocked.states.len()), records: unfolded.write() }
+    }
+
+    fn right(drawn: &Drawn) -> Seen {
+        Seen::of(&drawn.clocked(), &drawn.named)
+    }
 }
 
 /// A counter of one bit, every byte of it.
@@ -88,37 +113,13 @@ fn drawn_texts() {
     let directory = Directory::new("drawn");
     let (mut flip_flops, mut none, mut steps) = (0, 0, [0; 8]);
     for drawn in draw(1, 250, Drawn::new) {
-        let unfolded = drawn.clocked().unfolded();
-        let (said, records) = unfold(&directory, &drawn.text, drawn.steps);
-        assert_eq!(records, unfolded.write(), "{}", String::from_utf8_lossy(&drawn.text));
-        assert_eq!(words(&said), rows(&unfolded, &drawn.named, drawn.steps, drawn.flip_flops()));
+        assert_eq!(Seen::by_the_command(&directory, &drawn), Seen::right(&drawn), "{}", String::from_utf8_lossy(&drawn.text));
         flip_flops += drawn.flip_flops();
         none += usize::from(drawn.flip_flops() == 0);
         steps[drawn.steps as usize - 1] += 1;
     }
     assert!(flip_flops > 300 && none > 10 && steps.iter().all(|&times| times > 5), "{flip_flops} {none} {steps:?}");
     println!("unfold: 250 texts with {flip_flops} flip-flops, {none} of them without, by steps {steps:?}");
-}
-
-/// A wrong unfolding of s27 is another one: what the tests above compare with tells them apart.
-#[test]
-fn wrong_unfoldings_are_seen() {
-    let directory = Directory::new("wrong");
-    let text = fs::read_to_string(root().join("examples/s27/s27.bench")).expect("an example");
-    let unfolded = |text: &str, steps: u64| unfold(&directory, text.as_bytes(), steps);
-    let right = unfolded(&text, 3);
-    assert_eq!((right.1.len(), unfolded(&text, 2).1.len()), (8 * 51, 8 * 34));
-    for (from, to) in [
-        ("G5 = DFF(G10)", "G5 = DFF(G11)"),
-        ("G5 = DFF(G10)", "G5 = DFF(G5)"),
-        ("G5 = DFF(G10)", "INPUT(G5)"),
-        ("G5 = DFF(G10)\nG6 = DFF(G11)", "G6 = DFF(G11)\nG5 = DFF(G10)"),
-        ("INPUT(G3)\n\nOUTPUT(G17)\n\nG5 = DFF(G10)", "G5 = DFF(G10)\n\nOUTPUT(G17)\n\nINPUT(G3)"),
-    ] {
-        let wrong = text.replace(from, to);
-        assert_ne!(wrong, text, "{from}");
-        assert_ne!(unfolded(&wrong, 3), right, "{to} for {from}");
-    }
 }
 
 /// Blanks, ends of lines, comments and names in which the word stands say nothing else.

@@ -162,7 +162,7 @@ fn command_lines() {
     assert_eq!(ullimaqsu(&["unfold"]), misused(wants));
     assert_eq!(ullimaqsu(&["unfold", "text"]), misused(wants));
     assert_eq!(ullimaqsu(&["unfold", "text", "2", "out", "more"]), misused(wants));
-    for word in ["two", "", "2.0", "1e1", "0x2", " 2", "18446744073709551616", "\u{e9}"] {
+    for word in ["two", "", "+2", "+", "2.0", "1e1", "0x2", " 2", "18446744073709551616", "\u{e9}"] {
         assert_eq!(ullimaqsu(&["unfold", "text", word]), misused(&format!("wants a number of steps, 1 to 8, and `{word}` is none")));
     }
     assert_eq!(ullimaqsu(&["unfold", "text", "-2"]), misused("has no option `-2`"));
@@ -171,12 +171,15 @@ fn command_lines() {
     assert_eq!(ullimaqsu(&["unfold", "no such text", "2"]), stopped("there is no file no such text"));
 }
 
+/// Of records where a text with flip-flops is read.
+pub const RECORDS: &str = "these are records, and not a text in the bench notation; \
+    records of clock steps are what `ullimaqsu dictionary DIR --steps K` takes, with states.rec in the directory";
+
 /// Records are no text, and have no flip-flops.
 #[test]
 fn records() {
     let directory = Directory::new("records");
-    let right = "these are records, and not a text in the bench notation";
-    assert_eq!(said(&directory, &[0, 1, 0, 0, 0, 0, 0, 0]), Err(right.to_string()));
+    assert_eq!(said(&directory, &[0, 1, 0, 0, 0, 0, 0, 0]), Err(RECORDS.to_string()));
 }
 
 /// Of a text without flip-flops the words are those of `check`, but that DFF is listed too.

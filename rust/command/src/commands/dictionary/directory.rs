@@ -13,7 +13,7 @@ use parts::Parts;
 use std::fs;
 use std::io::ErrorKind;
 use std::path::Path;
-use ullimaqsu::Refusal;
+use ullimaqsu::{refusals, Refusal};
 
 pub fn run(directory: &Path, steps: Option<u64>, form: Form, out: &mut Out) -> Result<(), Problem> {
     is_directory(directory)?;
@@ -84,11 +84,22 @@ fn refuse(parts: &Parts, refusal: Refusal, out: &mut Out) -> Result<(), Problem>
         (6 | 7, _) => shown(&parts.faults.path),
         _ => shown(&parts.patterns.path),
     };
-    let words = refusal.to_string();
-    let says = words.split_once(": ").map_or(words.as_str(), |(_, says)| says);
+    let says = says(parts, refusal);
     let absent = parts.all().filter(|part| part.absent).map(|part| format!("there is no file {}", shown(&part.path)));
     let mut lines: Vec<String> = [format!("{of}: {says}")].into_iter().chain(absent).collect();
     let last = lines.pop().expect("one line at least");
     lines.into_iter().for_each(|line| Problem::Refused(line).tell());
     Err(Problem::Refused(last))
+}
+
+/// What a refusal means. No record is at fault where the last state record is cut off, and then the words have no place.
+fn says(parts: &Parts, refusal: Refusal) -> String {
+    let is_cut = parts.clocked.as_ref().is_some_and(|(_, states)| !states.bytes.len().is_multiple_of(4));
+    match refusals().find(|meaning| meaning.number == refusal.number) {
+        Some(meaning) if meaning.number == 18 && is_cut => meaning.says.to_string(),
+        _ => {
+            let words = refusal.to_string();
+            words.split_once(": ").map_or(words.as_str(), |(_, says)| says).to_string()
+        }
+    }
 }

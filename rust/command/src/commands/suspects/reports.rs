@@ -2,7 +2,7 @@
 use crate::files::{self, unreadable, why};
 use crate::lists::{is_blank, lines, place, words};
 use crate::problem::{shown, Problem};
-use crate::words::cited;
+use crate::words::{cited, is_digits};
 use std::fs::{metadata, File};
 use std::io::{self, BufRead, BufReader, IsTerminal, Read, Write};
 use std::os::unix::fs::FileTypeExt;
@@ -36,7 +36,7 @@ impl Report {
 
 /// The pattern that a word names, of so many.
 fn numbered(word: &str, patterns: usize) -> Result<usize, String> {
-    if !word.bytes().all(|byte| byte.is_ascii_digit()) {
+    if !is_digits(word) {
         return Err(format!("{} is no number of a pattern: a report is written 3 fail or 3 pass", cited(word)));
     }
     let none = || format!("there is no pattern {}: the last is {}", cited(word), patterns - 1);
