@@ -57,7 +57,7 @@ module _ {A M : Type 0} {refuse : ℕ → ℕ → A} {good : A} {m new : M} wher
 
   -- where there is none, the good case is, with the new memory
   pub fine_done : {rules : List Rule} {r : A} {m' : M} → refusal rules ≡ Fine → r ≡ good → m' ≡ new → RulesDone refuse rules good m new r m'
-  fine_done e is New-is = record { answer = rw e is; memory = rw e New-is }
+  fine_done e is new_is = record { answer = rw e is; memory = rw e new_is }
 
   -- a refusal ends it; where there is none, the rules after it decide
   pub first_refused : (rules more : List Rule) {number place : ℕ} → refusal rules ≡ Refused number place → RulesDone refuse (rules ++ more) good m new (refuse number place) m

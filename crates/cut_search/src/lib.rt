@@ -10,7 +10,6 @@ ghost use Rattle.trees.specs.Setting.{set_trees};
 ghost use Rattle.setting.specs.Owed.{TreesReady};
 ghost use Rattle.cut_search.specs.Owed.{SearchCutReady, RunCutReady, RunHeadsReady, HeadRunDone};
 
-use bytes::copy;
 use circuit::equal;
 use cut_lines::cut_lines;
 use lists::Fault;
@@ -75,7 +74,7 @@ fn run_cut(
     requires { RunCutReady circuit.now marks.now (length lines.old) fault node.old (length want.old) (length test.old) (length work.old) }
     ensures { HeadRunDone fault circuit.now (length want.old) node.old budget test.old work.old result test.new work.new }
 {
-    copy(circuit, lines);
+    lines.copy_from_slice(circuit);
     cut_lines(circuit, marks, lines);
     search_cut(circuit, marks, lines, fault, node, want, budget, test, work)
 }

@@ -8,7 +8,7 @@ use native.Mathlib.Omega.{arith}
 use lib.IntN.{ℤ, pos, negsuc}
 use lib.Dec.{T, ltb, leb, eqb, eqb→eq}
 use lib.Pow.{pow-add, pow_pos, pow-lt}
-use lib.Ieee.{Float, fin, Format, binary64, prec, emax, low, up, down, round, fits}
+use lib.Ieee.{Float, fin, nan, inf, Format, binary64, prec, emax, low, up, down, round, fits}
 use lib.Ieee.Fits.{and_l, round-fits, down_pos}
 use lib.Ieee.Exact.{HasValue, round_exact}
 use Rattle.halves.specs.Half.{half, least}
@@ -47,6 +47,8 @@ no_sum k n h = (omega arith, omega arith)
 -- a float of the format that is one half to the power of n is `half n`
 pub is-half : (x : Float) (n : ℕ) → T (fits binary64 x) → HasValue x false 1 (2 ^ n) → x ≡ half n
 unfolding half
+is-half nan n p v = elim v [ ]
+is-half (inf _) n p v = elim v [ ]
 is-half (fin t zero e) n p v =
     absurd (lt_irrefl 0 (subst (λ (z : ℕ). 0 < z) (sym v.1 ∙ ap (λ (z : ℕ). z * 2 ^ n) (zero-mul (up e)) ∙ zero-mul (2 ^ n)) (mul-pos (zero-lt-suc 0) (down_pos e))))
 is-half (fin t (suc m) (pos k)) n p v =

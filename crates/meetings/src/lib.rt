@@ -10,7 +10,6 @@ ghost use Rattle.nodes.specs.Budget.{nodes_of};
 ghost use Rattle.standings.specs.Owed.{reach_by};
 ghost use Rattle.meetings.specs.Owed.{MeetReady, MeetDone, MeetAtDone, MeetAllReady, MeetAllDone};
 
-use bytes::copy;
 use lists::{Fault, read_fault};
 use nodes::Verdict;
 use search::run_from;
@@ -84,7 +83,7 @@ fn look_once(
 {
     let says = look_at(circuit, fault, work, n);
     if says == 1 {
-        copy(node, test);
+        test.copy_from_slice(node);
         return Meeting {
             reach: 0,
             count: count + 1,

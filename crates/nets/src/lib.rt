@@ -8,7 +8,6 @@ ghost use Rattle.nets.specs.Rules.{buffer_rules};
 ghost use Rattle.nets.specs.Owed.{ReadDone, RecordsDone, NetDone, NamesDone, LayRoom, ReadOrderReady, ReadNetReady, ReadNamesReady, named_of};
 
 use answers::Ruling;
-use bytes::copy;
 use circuit::{Checked, check};
 use names::resolve;
 use order::arrange;
@@ -33,7 +32,7 @@ fn lay(records: &[u8], n: usize, circuit: &mut [u8]) -> Read
     if circuit.len() != 16384 {
         return Read::Refused(10, 0);
     }
-    copy(records, circuit);
+    circuit.copy_from_slice(records);
     Read::Records(n)
 }
 

@@ -11,7 +11,6 @@ ghost use Rattle.search.specs.Promise.{search_rest_rules, Searches};
 ghost use Rattle.search.specs.Owed.{RunReady, RunDone, SearchDone};
 
 use answers::{Ruling, check_lent};
-use bytes::copy;
 use circuit::{Checked, check};
 use lists::{Fault, check_faults, read_fault};
 use nodes::Verdict;
@@ -31,7 +30,7 @@ fn put_test(found: Verdict, node: &[u8], test: &mut [u8])
 {
     match found {
         Verdict::Test(_) => {
-            copy(node, test);
+            test.copy_from_slice(node);
         }
         Verdict::Redundant(_) => {}
         Verdict::GivenUp(_) => {}
@@ -72,7 +71,7 @@ pub fn run_from(
         test.old work.old result test.new work.new }
 {
     let mut own = [2u8; 64];
-    copy(node, &mut own[..node.len()]);
+    own[..node.len()].copy_from_slice(node);
     run(
         circuit,
         fault,

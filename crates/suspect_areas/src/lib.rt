@@ -10,7 +10,6 @@ ghost use Rattle.suspect_areas.specs.Bytes.{numbers_of, bytes_of, state_in, begi
 ghost use Rattle.suspect_areas.specs.Promise.{size_rules, held_area_rules, area_rules, open_area_rules, room_rules, marks_area_rules, OpensArea, ReportsArea, ReadsMarks};
 
 use answers::{Ruling, put_numbers};
-use bytes::copy;
 use little::pair_at;
 use suspects::{Narrowed, Suspects, all_remain, is_opened, reported_to};
 use tables::check_table;
@@ -50,7 +49,7 @@ fn put_state(state: Suspects, area: &mut [u8])
 {
     put_front(state, &mut area[..32]);
     let marks = state.marks;
-    copy(&marks, &mut area[32..]);
+    area[32..].copy_from_slice(&marks);
 }
 
 // The state that bytes say, opened or not.
@@ -59,7 +58,7 @@ fn state_in(area: &[u8]) -> Suspects
     ensures { result ≡ state_in area.now }
 {
     let mut marks = [0u8; 256];
-    copy(&area[32..], &mut marks);
+    marks.copy_from_slice(&area[32..]);
     Suspects {
         marks,
         faults: pair_at(area, 0) as u64,
@@ -200,7 +199,7 @@ fn put_marks(state: Suspects, marks: &mut [u8])
 {
     let all = state.marks;
     let n = marks.len();
-    copy(&all[..n], marks);
+    marks.copy_from_slice(&all[..n]);
 }
 
 // All refusals of reading the marks: those of the area, then 10 for marks that are not one for each fault.

@@ -47,4 +47,4 @@ pub state_taken : {rules : List Rule} {s new s' x : Suspects} {n : ℕ} {r : Nar
     → x ≡ new
     → new.remaining ≡ n
     → Becomes rules s new n r s'
-state_taken e is says New-is number = is_taken e (says ∙ ap (λ (z : Suspects). Remaining z.remaining) New-is ∙ ap Remaining number) (is ∙ New-is)
+state_taken e is says new_is number = is_taken e (says ∙ ap (λ (z : Suspects). Remaining z.remaining) new_is ∙ ap Remaining number) (is ∙ new_is)

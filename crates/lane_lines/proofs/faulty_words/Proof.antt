@@ -24,7 +24,7 @@ returns c =
     let copied = lines.before.before.before.before in
     let s = copied.before.before.before.before in
     adds_forced_words (stuck_in_steps s.args.step s.args.fault) s.args.circuit.now s.args.n (2 * s.args.n) s.args.work.now copied.copy-words.new.0
-    lines.step_Lines.new.1.1.1.0 refl (omega (arith, s.requires.four)) copied.copy-words.ensures lines.step_Lines.ensures
+    lines.step_lines.new.1.1.1.0 refl (omega (arith, s.requires.four)) copied.copy-words.ensures lines.step_lines.ensures
 
 pub faulty-words-spec : {M : Type 1} → statement M
 faulty-words-spec =

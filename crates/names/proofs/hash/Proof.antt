@@ -27,19 +27,19 @@ mix-requires c κs = (omega arith, omega arith)
 add-x : tie.Need-overflow-add-x invariant-loop decreases-loop
 add-x c =
     let a = c.before.before.before in
-    let e = ap word_byte (sym a.before.before.byte.ensures) ∙ sym a.before.is_IsWord.ensures ∙ a.if1.true in
+    let e = ap word_byte (sym a.before.before.byte.ensures) ∙ sym a.before.is_word.ensures ∙ a.if1.true in
     omega (arith, inside a.before.before.before.before.before.args.text.now a.before.before.before.loop.x e)
 
 loop-less : tie.Need-loop-smaller invariant-loop decreases-loop
 loop-less c =
     let a = c.before.before.before in
-    let e = ap word_byte (sym a.before.before.byte.ensures) ∙ sym a.before.is_IsWord.ensures ∙ a.if1.true in
+    let e = ap word_byte (sym a.before.before.byte.ensures) ∙ sym a.before.is_word.ensures ∙ a.if1.true in
     omega (arith, inside a.before.before.before.before.before.args.text.now a.before.before.before.loop.x e)
 
 loop-again : tie.Need-loop-preserved invariant-loop decreases-loop
 loop-again c =
     let a = c.before.before.before in
-    let e = ap word_byte (sym a.before.before.byte.ensures) ∙ sym a.before.is_IsWord.ensures ∙ a.if1.true in
+    let e = ap word_byte (sym a.before.before.byte.ensures) ∙ sym a.before.is_word.ensures ∙ a.if1.true in
     let t = a.before.before.before.before.before.args.text.now in
     let x = a.before.before.before.loop.x in
     let h = a.before.before.before.loop.h in
@@ -48,7 +48,7 @@ loop-again c =
 
 returns : tie.Need-returns invariant-loop decreases-loop
 returns c =
-    let e = ap word_byte (sym c.before.before.byte.ensures) ∙ sym c.before.is_IsWord.ensures ∙ c.if1.false in
+    let e = ap word_byte (sym c.before.before.byte.ensures) ∙ sym c.before.is_word.ensures ∙ c.if1.false in
     let at = c.before.before.before.loop in
     (sym (at.invariant.0 ∙ hash_end c.before.before.before.before.before.args.text.now at.x at.h e), omega arith)
 

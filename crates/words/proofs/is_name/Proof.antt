@@ -47,7 +47,7 @@ returns-2 c =
     sym
     (s.loop.invariant.1
     ∙ name_end a.args.text.now a.args.at a.args.name.now a.requires.letters s.loop.k (omega arith)
-    ∙ ap not (read_byte c.before.byte2.ensures c.is_IsWord.ensures refl))
+    ∙ ap not (read_byte c.before.byte2.ensures c.is_word.ensures refl))
 
 pub is-name-spec : {M : Type 1} → statement M
 is-name-spec =
