@@ -12,8 +12,7 @@ use Rattle.gates.proofs.Table.{other}
 use Rattle.gates.proofs.Laws.{gate-unknown}
 use Rattle.gates.proofs.Words.{by_select}
 use Rattle.gates.proofs.Digits.{by_digit}
-use Rattle.gates.proofs.gate.Statement.{statement}
-use Rattle.gates.proofs.gate.Tie as tie
+use Rattle.gates.proofs.gate.Goals as goal
 
 -- of 0, 1 and X only two X's have the sum 4
 two-x : (k a b c : ℕ) → SourcesSmall k a b → a + b ≡ 4 → X ≡ gate_of k (at_pins a b c)
@@ -26,37 +25,17 @@ two-x k a b c small e = ⊎_elim known (λ l. sym (other k (at_pins a b c) l)) (
         let second : b ≡ X = omega (arith, sees.0, sees.1) in
         rw (first, second) (sym (gate-unknown k c))
 
-returns : tie.Need-returns
+pub returns-then-first-second-eq4 : goal.returns-then-first-second-eq4
+returns-then-first-second-eq4 c small =
+    two-x _ _ _ _ small (omega (arith, c.wide-first.ensures.0, c.wide-second.ensures.0, c.if-first-second-eq4.true))
+
+pub returns-then-kind-lt-SELECTOR : goal.returns-then-kind-lt-SELECTOR
+returns-then-kind-lt-SELECTOR c small =
+    by_digit _ c.if-kind-lt-SELECTOR.true (small (omega (arith, c.if-kind-lt-SELECTOR.true))) c.wide-first.ensures.0 c.wide-second.ensures.0 c.block.ensures c.digit.ensures
+
+pub returns-then-kind-gt-SELECTOR : goal.returns-then-kind-gt-SELECTOR
+returns-then-kind-gt-SELECTOR c _ = sym (other _ _ c.if-kind-gt-SELECTOR.true)
+
+pub returns : goal.returns
 returns c small =
-    let second = c.before in
-    two-x _ _ _ _ small (omega (arith, second.before.wide.ensures.0, second.wide2.ensures.0, c.if1.true))
-
-returns-2 : tie.Need-returns-2
-returns-2 c small =
-    let block = c.before in
-    let kind = block.before in
-    let second = kind.before.before in
-    by_digit _ kind.if2.true (small (omega (arith, kind.if2.true))) second.before.wide.ensures.0 second.wide2.ensures.0 block.block.ensures c.digit.ensures
-
-returns-3 : tie.Need-returns-3
-returns-3 c _ = sym (other _ _ c.if3.true)
-
-returns-4 : tie.Need-returns-4
-returns-4 c small =
-    let last = c.before in
-    by_select _ _ _ (omega (arith, last.before.if2.false, last.if3.false)) (c.selected.ensures (small (omega (arith, last.if3.false))))
-
-pub gate-spec : {M : Type 1} → statement M
-gate-spec =
-    tie.close
-    (tie.spec
-    (λ c κs. search rules)
-    (λ c κs. search rules)
-    (λ c. search rules)
-    returns
-    (λ c κs. search rules)
-    (λ c κs. search rules)
-    returns-2
-    returns-3
-    (λ c κs. search rules)
-    returns-4)
+    by_select _ _ _ (omega (arith, c.if-kind-lt-SELECTOR.false, c.if-kind-gt-SELECTOR.false)) (c.selected.ensures (small (omega (arith, c.if-kind-gt-SELECTOR.false))))
