@@ -8,7 +8,7 @@ ghost use Rattle.ground.specs.Put.{Put};
 ghost use Rattle.cnf.specs.Owed.{Variable, signed, single, pair, triple, buffer_words, and_words, xor_words, by_shape, shape_words, is_one_of, gate_words, GateClausesReady, Takes};
 
 // What some clauses take: words, the closing 0s included, and clauses.
-#[derive(Drop)]
+#[derive(Clone, Copy)]
 pub struct Size {
     pub words: usize,
     pub clauses: usize,

@@ -10,7 +10,7 @@ ghost use Rattle.gates.specs.Words.{and_of, xor_of, select_of};
 use gates::SELECTOR;
 
 // Bit i of `ones` is set where lane i is 1, bit i of `zeros` where it is 0; where it is X, neither.
-#[derive(Drop)]
+#[derive(Clone, Copy)]
 pub struct Lanes {
     pub ones: u64,
     pub zeros: u64,

@@ -15,7 +15,7 @@ use ground::wide;
 use little::pair_at;
 
 // A single stuck-at fault: at the line itself (site 0) or at one of its pins.
-#[derive(Drop)]
+#[derive(Clone, Copy)]
 pub struct Fault {
     pub line: usize,
     pub site: u8,

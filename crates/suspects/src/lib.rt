@@ -13,7 +13,7 @@ use reports::{count_marks, entry_against, mark_all, narrow, some_no_mark};
 use tables::{check_table, in_range};
 
 // The state: a mark for each fault, 1 where it remains, the counts as at opening, and how many remain.
-#[derive(Drop)]
+#[derive(Clone, Copy)]
 pub struct Suspects {
     pub marks: [u8; 256],
     pub faults: u64,
