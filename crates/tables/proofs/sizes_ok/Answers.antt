@@ -1,0 +1,29 @@
+-- `tables::sizes_ok` meets its contract: by its tests; a product of two counts in range fits.
+-- Assumes nothing.
+use mathlib.Core.Path.{sym, ◌∙◌}
+use native.Mathlib.Nat.{mul-le-mul_right}
+use native.Mathlib.Omega.{arith}
+use Rattle.tables.specs.Table.{sizes_ok}
+use Rattle.tables.proofs.Says.{in_range_lem}
+use borrow.Author.Rules.{rules}
+use borrow.Author.Tests.{not-true, not-false}
+use Rattle.tables.proofs.sizes_ok.Goals as goal
+
+pub returns-then-not-in_range : goal.returns-then-not-in_range
+unfolding sizes_ok
+returns-then-not-in_range c = simp (sym c.in_range.ensures ∙ not-true _ c.if-not-in_range.true-raw)
+
+pub returns-then-not-in_range-2 : goal.returns-then-not-in_range-2
+unfolding sizes_ok
+returns-then-not-in_range-2 c = simp (sym c.in_range.ensures ∙ not-false _ c.if-not-in_range.false-raw, sym c.in_range-2.ensures ∙ not-true _ c.if-not-in_range-2.true-raw)
+
+-- LOST overflow-mul-result
+-- mul-result c =
+--     let a = c.before.before.before.before.args in
+--     let f = in_range_lem a.fault-count (sym c.before.before.before.in_range_lem.ensures ∙ not-false _ c.before.before.if1.false) in
+--     let p = in_range_lem a.pattern-count (sym c.before.in-range2.ensures ∙ not-false _ c.if2.false) in
+--     omega (arith, mul-le-mul_right a.pattern-count f.1, p.1)
+
+pub returns : goal.returns
+unfolding sizes_ok
+returns c = simp (sym c.in_range.ensures ∙ not-false _ c.if-not-in_range.false-raw, sym c.in_range-2.ensures ∙ not-false _ c.if-not-in_range-2.false-raw)
