@@ -12,13 +12,7 @@ use Rattle.circuit.specs.Record.{kind_at, out_at}
 use Rattle.circuit.specs.Layout.{pin_ok, field_ok}
 use Rattle.circuit.specs.BadByte.{bad_field}
 use borrow.Author.Rules.{rules}
-use Rattle.circuit.proofs.bad_byte.Statement.{statement}
-use Rattle.circuit.proofs.bad_byte.Tie as tie
-
--- ---- the fields: a test that the code goes past says that its field is kept
-
-abbrev entry : tie.Else2 → tie.Start
-entry c = c.before.before.before.before.before
+use Rattle.circuit.proofs.bad_byte.Goals as goal
 
 abbrev pin-is-ok : tie.Else2 → ℕ → Bool
 pin-is-ok c s = pin_ok (entry c).args.circuit.now (entry c).args.k s
@@ -39,27 +33,23 @@ second-kept : (c : tie.Else4) → pin-is-ok c.before.before.before.before 2 ≡ 
 second-kept c = sym c.before.pin-ok2.ensures ∙ not-false _ c.if4.false
 
 -- ---- the answers
-
-returns : tie.Need-returns
+pub returns-then-circuit-k-gt-LAST_KIND : goal.returns-then-circuit-k-gt-LAST_KIND
 unfolding first_not field_ok
-returns c = simp (lt-leb _ _ c.if1.true)
+returns-then-circuit-k-gt-LAST_KIND c = simp (lt-leb _ _ c.if-circuit-k-gt-LAST_KIND.true)
 
-returns-2 : tie.Need-returns-2
+pub returns-then-circuit-k-gt1 : goal.returns-then-circuit-k-gt1
 unfolding first_not field_ok
-returns-2 c = simp (le-leb _ _ c.before.before.if1.false, lt-leb _ _ c.if2.true)
+returns-then-circuit-k-gt1 c = simp (le-leb _ _ c.if-circuit-k-gt-LAST_KIND.false, lt-leb _ _ c.if-circuit-k-gt1.true)
 
-returns-3 : tie.Need-returns-3
+pub returns-then-not-pin_ok : goal.returns-then-not-pin_ok
 unfolding first_not field_ok
-returns-3 c =
-    let out = c.before.before in
-    simp (kind-kept out, out-kept out, sym c.before.pin_ok_lem.ensures ∙ not-true _ c.if3.true)
+returns-then-not-pin_ok c =
+    simp (kind-kept c, out-kept c, sym c.pin_ok.ensures ∙ not-true _ c.if-not-pin_ok.true-raw)
 
-returns-4 : tie.Need-returns-4
+pub returns-then-not-pin_ok-2 : goal.returns-then-not-pin_ok-2
 unfolding first_not field_ok
-returns-4 c =
-    let first = c.before.before in
-    let out = first.before.before in
-    simp (kind-kept out, out-kept out, first-kept first, sym c.before.pin-ok2.ensures ∙ not-true _ c.if4.true)
+returns-then-not-pin_ok-2 c =
+    simp (kind-kept c, out-kept c, first-kept c, sym c.pin_ok-2.ensures ∙ not-true _ c.if-not-pin_ok-2.true-raw)
 
 -- behind four tests the last pin decides
 last-decides : (c : tie.Else4) → bad-field-of c.before.before.before.before ≡ choose (pin-is-ok c.before.before.before.before 3) 5 4
@@ -69,27 +59,8 @@ last-decides second =
     let out = first.before.before in
     simp (kind-kept out, out-kept out, first-kept first, second-kept second)
 
-returns-5 : tie.Need-returns-5
-returns-5 c = rw (last-decides c.before.before, sym c.before.pin-ok3.ensures ∙ not-true _ c.if5.true)
+pub returns-then-not-pin_ok-3 : goal.returns-then-not-pin_ok-3
+returns-then-not-pin_ok-3 c = rw (last-decides c, sym c.pin_ok-3.ensures ∙ not-true _ c.if-not-pin_ok-3.true-raw)
 
-returns-6 : tie.Need-returns-6
-returns-6 c = rw (last-decides c.before.before, sym c.before.pin-ok3.ensures ∙ not-false _ c.if5.false)
-
-pub bad-byte-spec : {M : Type 1} → statement M
-bad-byte-spec =
-    tie.close
-    (tie.spec
-    (λ c. search rules)
-    (λ c. search rules)
-    returns
-    (λ c. search rules)
-    (λ c. search rules)
-    (λ c. search rules)
-    returns-2
-    (λ c κs. search rules)
-    returns-3
-    (λ c κs. search rules)
-    returns-4
-    (λ c κs. search rules)
-    returns-5
-    returns-6)
+pub returns : goal.returns
+returns c = rw (last-decides c, sym c.pin_ok-3.ensures ∙ not-false _ c.if-not-pin_ok-3.false-raw)

@@ -1,0 +1,19 @@
+-- `circuit::count_lines` meets its contract. The invariant: every line passed keeps its layout, and those that are inputs and outputs are counted.
+-- Assumes nothing.
+use borrow.Author.Rules.{rules}
+use mathlib.Core.Path.{◌∙◌}
+use native.Mathlib.Omega.{arith}
+use Prim.Native.Nat.{◌-◌}
+use Rattle.ground.proofs.First.{Every, every_none, every_next, stopped, passed}
+use Rattle.ground.proofs.Counting.{Sum, no_sum, sum_small, sum_more, sum_all}
+use Rattle.circuit.specs.Record.{is_input, is_output}
+use Rattle.circuit.specs.Layout.{line_ok}
+use Rattle.circuit.proofs.Lines.{out_one}
+use Rattle.circuit.proofs.BadByte.{broken_line, kept_line}
+use Rattle.circuit.proofs.count_lines.Given as goal
+
+abbrev pub invariant-loop-k : goal.invariant-loop-k
+invariant-loop-k l = Every (line_ok l.circuit) 0 l.k × Sum (is_input l.circuit) l.n l.k l.inputs × Sum (is_output l.circuit) l.n l.k l.outputs
+
+abbrev pub decreases-loop-k : goal.decreases-loop-k
+decreases-loop-k l = l.n - l.k
