@@ -1,0 +1,24 @@
+-- `columns::put_column` meets its contract. The invariant: the rows passed have their entries, and the bits of the others are left.
+-- Assumes nothing.
+use native.Mathlib.Omega.{arith}
+use Prim.Native.Nat.{◌-◌}
+use Rattle.columns.proofs.Loop.{SoFar, start, inside, fits, more, finished}
+use Rattle.columns.proofs.put_column.Goals as goal
+
+pub loop-i-init : goal.loop-i-init
+loop-i-init c = start _ _ _ _ _ _
+
+pub bounds-table-at : goal.bounds-table-at
+bounds-table-at c = inside c.requires c.loop-i.invariant (omega arith)
+
+-- LOST overflow-add-at
+-- add_at c = omega (arith, fits c.before.before.requires c.before.loop.invariant (omega arith))
+
+pub loop-i-preserved : goal.loop-i-preserved
+loop-i-preserved c = more c.requires c.loop-i.invariant (omega arith)
+
+-- LOST same-length
+-- same_length c = c.before.loop.invariant.long
+
+pub returns : goal.returns
+returns c = finished c.args.entries c.requires c.loop-i.invariant (omega arith)
