@@ -1,0 +1,37 @@
+-- `words::is_name` meets its contract: the keyword is walked, and the word of the text ends where it does.
+-- Assumes nothing.
+use Rattle.words.proofs.Same.{read_byte}
+use Rattle.words.proofs.Keywords.{name-more, name-not, name_end}
+use Rattle.words.specs.Words.{word_at, same}
+use lib.ListN.{length, drop}
+use Prim.Native.Nat.{◌+◌, ◌-◌, ◌≤◌}
+use mathlib.Core.Bool.{not}
+use mathlib.Core.Path.{◌≡◌, refl, sym, ap, ◌∙◌}
+use borrow.Author.Rules.{rules}
+use native.Mathlib.Omega.{arith}
+use Rattle.words.proofs.is_name.Goals as goal
+
+pub loop-k-init : goal.loop-k-init
+loop-k-init c = let z : c.args.at + 0 ≡ c.args.at = omega arith in (omega arith, rw z)
+
+pub returns-then-byte-name : goal.returns-then-byte-name
+returns-then-byte-name c =
+    sym
+    (c.loop-k.invariant.1
+    ∙ name-not c.args.text.now c.args.at c.args.name.now c.requires.letters c.loop-k.k (omega arith)
+    (λ e. c.if-byte-name.true (c.byte.ensures ∙ e)))
+
+pub loop-k-preserved : goal.loop-k-preserved
+loop-k-preserved c = (
+  omega arith,
+  c.loop-k.invariant.1
+      ∙ name-more c.args.text.now c.args.at c.args.name.now c.requires.letters c.loop-k.k (omega arith)
+      (sym c.byte.ensures ∙ c.if-byte-name.false),
+)
+
+pub returns : goal.returns
+returns c =
+    sym
+    (c.loop-k.invariant.1
+    ∙ name_end c.args.text.now c.args.at c.args.name.now c.requires.letters c.loop-k.k (omega arith)
+    ∙ ap not (read_byte c.byte-2.ensures c.is_word.ensures refl))

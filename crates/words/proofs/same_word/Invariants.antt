@@ -1,0 +1,17 @@
+-- `words::same_word` meets its contract: both words are walked until they differ or end.
+-- Assumes nothing.
+use Rattle.words.proofs.Same.{inside, read_byte, read_inside, same_more, same_not, same_end}
+use Rattle.words.specs.Words.{word_byte, word_at, same}
+use mathlib.Core.Bool.{not}
+use Prim.Native.Nat.{◌-◌}
+use lib.ListN.{length}
+use mathlib.Core.Path.{◌≡◌, refl, sym, ap, ◌∙◌}
+use borrow.Author.Rules.{rules}
+use native.Mathlib.Omega.{arith}
+use Rattle.words.proofs.same_word.Given as goal
+
+abbrev pub invariant-loop-i : goal.invariant-loop-i
+invariant-loop-i l = same (word_at l.text l.i) (word_at l.text l.j) ≡ same (word_at l.text l.x) (word_at l.text l.y)
+
+abbrev pub decreases-loop-i : goal.decreases-loop-i
+decreases-loop-i l = length l.text - l.x
