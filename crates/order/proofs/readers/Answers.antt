@@ -1,0 +1,21 @@
+-- `order::readers` meets its contract. The invariant: what is written is right for the gates from h on.
+-- Assumes nothing.
+use Prim.Native.Nat.{◌≤◌}
+use native.Mathlib.Omega.{arith}
+use lib.ListN.{length}
+use borrow.Author.Rules.{rules}
+use Rattle.order.proofs.FirstReaders.{ReadersFrom, start, more, finished}
+use Rattle.order.proofs.readers.Goals as goal
+
+pub loop-h-init : goal.loop-h-init
+loop-h-init c = (omega arith, start (omega arith))
+
+pub loop-h-preserved : goal.loop-h-preserved
+loop-h-preserved c = (
+  omega arith,
+  rw (c.note-in-loop-h.ensures, c.wide16-in-loop-h.ensures.0, c.note.ensures, c.wide16.ensures.0)
+      (more c.loop-h.invariant.1 (omega arith)),
+)
+
+pub returns : goal.returns
+returns c = finished c.loop-h.invariant.1 (omega arith)
