@@ -1,0 +1,14 @@
+-- `records::mark_outputs` meets its contract. The invariant: the first i outputs are marked.
+-- Assumes nothing.
+use Prim.Native.Nat.{◌-◌}
+use lib.ListN.{length}
+use native.Mathlib.Omega.{arith}
+use borrow.Author.Rules.{rules}
+use Rattle.records.proofs.Marking.{MarkedTo, marked_none, marked_more, marked_all}
+use Rattle.records.proofs.mark_outputs.Given as goal
+
+abbrev pub invariant-loop-i : goal.invariant-loop-i
+invariant-loop-i l = MarkedTo l.outs l.initial.flag l.flag l.i
+
+abbrev pub decreases-loop-i : goal.decreases-loop-i
+decreases-loop-i l = length l.outs - l.i

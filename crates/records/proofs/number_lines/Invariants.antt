@@ -1,0 +1,13 @@
+-- `records::number_lines` meets its contract. The invariant: the gates from i on have their lines.
+-- Assumes nothing.
+use Prim.Native.Nat.{◌-◌}
+use native.Mathlib.Omega.{arith}
+use borrow.Author.Rules.{rules}
+use Rattle.records.proofs.Numbering.{NumberedFrom, from_none, from_more, from_all}
+use Rattle.records.proofs.number_lines.Given as goal
+
+abbrev pub invariant-loop-i : goal.invariant-loop-i
+invariant-loop-i l = NumberedFrom l.order l.inputs l.initial.line l.line l.i
+
+abbrev pub decreases-loop-i : goal.decreases-loop-i
+decreases-loop-i l = l.i

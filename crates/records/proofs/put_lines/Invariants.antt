@@ -1,0 +1,14 @@
+-- `records::put_lines` meets its contract. The invariant: the records of the lines below k are written.
+-- Assumes nothing.
+use Prim.Native.Nat.{◌-◌}
+use native.Mathlib.Omega.{arith}
+use Rattle.ground.proofs.Put.{put_long}
+use Rattle.records.specs.Owed.{lined_of, line_count}
+use Rattle.records.proofs.Lines.{SoFar, so_far_none, line_room, so_far_more, so_far_all}
+use Rattle.records.proofs.put_lines.Given as goal
+
+abbrev pub invariant-loop-k : goal.invariant-loop-k
+invariant-loop-k l = SoFar (lined_of l.inputs l.kinds l.firsts l.seconds l.order l.line l.flag) l.initial.records l.records l.at l.k
+
+abbrev pub decreases-loop-k : goal.decreases-loop-k
+decreases-loop-k l = line_count (lined_of l.inputs l.kinds l.firsts l.seconds l.order l.line l.flag) - l.k
