@@ -1,0 +1,15 @@
+-- `cnf::put_single` meets its contract: the words are stored one after the other.
+-- Assumes nothing.
+use mir.Facts.{to_z-of_z}
+use lib.ListN.{length-set}
+use native.Mathlib.Omega.{arith}
+use native.Mathlib.Numerals.{add-one}
+use mathlib.Core.Path.{refl}
+use borrow.Author.Rules.{rules}
+use Rattle.cnf.proofs.put_single.Goals as goal
+
+pub slice_set_of-words : goal.slice_set_of-words
+slice_set_of-words c = simp length-set (omega arith)
+
+pub returns : goal.returns
+returns c = record { written = simp (to_z-of_z c.ranges.p, add-one); next-is = refl }

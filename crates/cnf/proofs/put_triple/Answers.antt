@@ -1,0 +1,21 @@
+-- `cnf::put_triple` meets its contract: the words are stored one after the other.
+-- Assumes nothing.
+use mir.Facts.{to_z-of_z}
+use lib.ListN.{length-set}
+use native.Mathlib.Omega.{arith}
+use native.Mathlib.Numerals.{add-one, add-two, add-three}
+use mathlib.Core.Path.{refl}
+use borrow.Author.Rules.{rules}
+use Rattle.cnf.proofs.put_triple.Goals as goal
+
+pub bounds-words-at-2 : goal.bounds-words-at-2
+bounds-words-at-2 c = simp length-set (omega arith)
+
+pub bounds-words-at-3 : goal.bounds-words-at-3
+bounds-words-at-3 c = simp length-set (omega arith)
+
+pub slice_set_of-words : goal.slice_set_of-words
+slice_set_of-words c = simp length-set (omega arith)
+
+pub returns : goal.returns
+returns c = record { written = simp (to_z-of_z c.ranges.p, to_z-of_z c.ranges.q, to_z-of_z c.ranges.r, add-one, add-two, add-three); next-is = refl }

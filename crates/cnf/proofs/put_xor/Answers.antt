@@ -1,0 +1,14 @@
+-- `cnf::put_xor` meets its contract: four clauses, one after the other.
+-- Assumes nothing.
+use mir.Facts.{to_z-of_z}
+use borrow.Author.Rules.{rules}
+use Rattle.ground.proofs.Put.{put_then}
+use Rattle.cnf.proofs.put_xor.Goals as goal
+
+pub returns : goal.returns
+returns c =
+    let fits = c.ranges in
+    simp (to_z-of_z fits.y, to_z-of_z fits.not_y, to_z-of_z fits.a, to_z-of_z fits.not_a, to_z-of_z fits.b, to_z-of_z fits.not_b) at
+    (put_then c.put_triple-second.ensures
+    (put_then c.put_triple-third.ensures
+    (put_then c.put_triple-fourth.ensures c.put_triple.ensures)))
