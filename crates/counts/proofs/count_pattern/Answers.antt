@@ -1,0 +1,29 @@
+-- `counts::count_pattern` meets its contract. The invariant: the first g rows of pairs are counted.
+-- Assumes nothing.
+use mathlib.Core.Path.{◌≡◌, refl, ◌∙◌}
+use Prim.Native.Nat.{◌-◌, ◌≤◌}
+use native.Mathlib.Omega.{arith}
+use borrow.Author.Rules.{rules}
+use lib.ListN.{length}
+use Rattle.ground.specs.Below.{any_below}
+use Rattle.counts.specs.Counted.{hit_pair}
+use Rattle.counts.specs.Owed.{CellsDone}
+use Rattle.counts.proofs.Moves.{moved_none, pairs_next, faults_next}
+use Rattle.counts.proofs.count_pattern.Goals as goal
+
+pub loop-g-init : goal.loop-g-init
+loop-g-init c = (search rules, refl, moved_none _ (λ k. omega (arith, c.slice_known-1.given k)) (λ k. refl))
+
+pub loop-g-preserved : goal.loop-g-preserved
+loop-g-preserved c =
+    let l = c.loop-g in
+    (search rules, c.count_pairs.auto.counts ∙ l.invariant.1, pairs_next _ _ _ l.invariant.2 (search rules) c.count_pairs.ensures)
+
+-- LOST same-length
+-- same_length c = c.before.before.count-row.auto.0 ∙ c.before.before.before.before.before.loop.invariant.1
+
+pub returns : goal.returns
+returns c =
+    let l = c.loop-g in
+    let q : l.g ≡ c.args.faults = omega arith in
+    faults_next _ _ _ (rw q at l.invariant.2) c.requires.few c.count_row.ensures

@@ -1,0 +1,28 @@
+-- `counts::count_row` meets its contract. The invariant: the first f cells of the row are counted.
+-- Assumes nothing.
+use mathlib.Core.Path.{◌≡◌, refl}
+use Prim.Native.Nat.{◌-◌, ◌≤◌}
+use native.Mathlib.Omega.{arith}
+use borrow.Author.Rules.{rules}
+use lib.ListN.{length, length-set}
+use Rattle.counts.specs.Counted.{hit_row}
+use Rattle.counts.specs.Owed.{CellsDone}
+use Rattle.counts.proofs.Moves.{row_none, row_next}
+use Rattle.counts.proofs.count_row.Goals as goal
+
+pub loop-f-init : goal.loop-f-init
+loop-f-init c = (search rules, refl, row_none _ _ _ _ (λ k. omega (arith, c.slice_known-1.given k)))
+
+pub loop-f-preserved : goal.loop-f-preserved
+loop-f-preserved c =
+    let l = c.loop-f in
+    (search rules, simp length-set l.invariant.1, row_next _ _ _ _ _ _ l.invariant.2 c.same-x.ensures (search rules) c.count_cell.ensures)
+
+-- LOST same-length
+-- same_length c = c.before.loop.invariant.1
+
+pub returns : goal.returns
+returns c =
+    let l = c.loop-f in
+    let q : l.f ≡ c.args.faults = omega arith in
+    rw (← q) l.invariant.2

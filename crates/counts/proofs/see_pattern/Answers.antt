@@ -1,0 +1,22 @@
+-- `counts::see_pattern` meets its contract. The invariant: the first f faults are seen.
+-- Assumes nothing.
+use mathlib.Core.Path.{◌≡◌, refl}
+use Prim.Native.Nat.{◌-◌, ◌≤◌}
+use borrow.Author.Rules.{rules}
+use lib.ListN.{length, length-set}
+use Rattle.counts.proofs.Detected.{SawTo, saw_none, saw_one, saw_all}
+use Rattle.counts.proofs.see_pattern.Goals as goal
+
+pub loop-f-init : goal.loop-f-init
+loop-f-init c = (search rules, refl, saw_none)
+
+pub loop-f-preserved : goal.loop-f-preserved
+loop-f-preserved c =
+    let l = c.loop-f in
+    (search rules, simp length-set l.invariant.1, saw_one l.invariant.2 c.same-x.ensures (search rules))
+
+-- LOST same-length
+-- same_length c = c.before.loop.invariant.1
+
+pub returns : goal.returns
+returns c = saw_all c.loop-f.invariant.2 _ (search rules)

@@ -1,0 +1,15 @@
+-- `counts::see_pattern` meets its contract. The invariant: the first f faults are seen.
+-- Assumes nothing.
+use mathlib.Core.Path.{◌≡◌, refl}
+use Prim.Native.Nat.{◌-◌, ◌≤◌}
+use borrow.Author.Rules.{rules}
+use lib.ListN.{length, length-set}
+use Rattle.counts.proofs.Detected.{SawTo, saw_none, saw_one, saw_all}
+use Rattle.counts.proofs.see_pattern.Given as goal
+
+abbrev pub invariant-loop-f : goal.invariant-loop-f
+invariant-loop-f l =
+    (l.f ≤ l.faults) × (length l.seen ≡ length l.initial.seen) × SawTo l.table l.from l.initial.seen l.f l.seen
+
+abbrev pub decreases-loop-f : goal.decreases-loop-f
+decreases-loop-f l = l.faults - l.f

@@ -1,0 +1,8 @@
+-- `counts::sole` meets its contract: two tests as numbers and a note, joined by `&`.
+-- Assumes nothing.
+use Rattle.counts.proofs.Only.{sole_and}
+use borrow.Author.Rules.{rules}
+use Rattle.counts.proofs.sole.Goals as goal
+
+pub returns : goal.returns
+returns c = sole_and _ _ _ _ c.same.ensures c.requires c.same-2.ensures

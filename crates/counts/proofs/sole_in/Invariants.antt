@@ -1,0 +1,13 @@
+-- `counts::sole_in` meets its contract. The invariant: r says whether it is at one of the first f places.
+-- Assumes nothing.
+use Prim.Native.Nat.{◌-◌}
+use borrow.Author.Rules.{rules}
+use Rattle.ground.proofs.Below.{Some, none_some, some_more, some-all}
+use Rattle.counts.specs.Owed.{sole_in}
+use Rattle.counts.proofs.sole_in.Given as goal
+
+abbrev pub invariant-loop-f : goal.invariant-loop-f
+invariant-loop-f l = Some (sole_in l.counts l.seen l.at l.table l.from l.want) l.faults l.f l.r
+
+abbrev pub decreases-loop-f : goal.decreases-loop-f
+decreases-loop-f l = l.faults - l.f
