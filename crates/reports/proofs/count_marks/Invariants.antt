@@ -1,0 +1,14 @@
+-- `reports::count_marks` meets its contract. The invariant: the marks passed are counted.
+-- Assumes nothing.
+use Prim.Native.Nat.{◌-◌}
+use native.Mathlib.Omega.{arith}
+use borrow.Author.Rules.{rules}
+use Rattle.ground.proofs.Counting.{Sum, no_sum, sum_small, sum_more, sum_all}
+use Rattle.reports.specs.Marks.{marked}
+use Rattle.reports.proofs.count_marks.Given as goal
+
+abbrev pub invariant-loop-f : goal.invariant-loop-f
+invariant-loop-f l = Sum (marked l.marks) l.n l.f l.count
+
+abbrev pub decreases-loop-f : goal.decreases-loop-f
+decreases-loop-f l = l.n - l.f
