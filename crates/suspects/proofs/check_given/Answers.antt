@@ -1,0 +1,14 @@
+-- `suspects::check_given` meets its contract: the table's rules first, then the pattern.
+-- Assumes nothing.
+use mathlib.Core.Path.{sym, ◌∙◌}
+use borrow.Author.Rules.{rules}
+use Rattle.answers.proofs.Rules.{after_refused, after_fine}
+use Rattle.tables.specs.Table.{table_rules}
+use Rattle.suspects.specs.Promise.{pattern_rules}
+use Rattle.suspects.proofs.check_given.Goals as goal
+
+pub returns-in-Refused : goal.returns-in-Refused
+returns-in-Refused c = sym (after_refused (table_rules _ _ _) (pattern_rules _ _) (sym c.check_table.ensures ∙ c.in-Refused.is))
+
+pub returns-in-Fine : goal.returns-in-Fine
+returns-in-Fine c = c.check_pattern.ensures ∙ sym (after_fine (table_rules _ _ _) (pattern_rules _ _) (sym c.check_table.ensures ∙ c.in-Fine.is))
