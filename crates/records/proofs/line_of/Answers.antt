@@ -1,7 +1,6 @@
 -- `records::line_of` meets its contract: by whether the number is a gate's.
 -- Assumes nothing.
 use mathlib.Core.Path.{sym}
-use borrow.Author.Rules.{rules}
 use borrow.Author.Tests.{lt-ltb, le-ltb}
 use Rattle.records.specs.Owed.{line_by}
 use Rattle.records.proofs.line_of.Goals as goal

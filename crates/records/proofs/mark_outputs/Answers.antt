@@ -1,10 +1,7 @@
 -- `records::mark_outputs` meets its contract. The invariant: the first i outputs are marked.
 -- Assumes nothing.
-use Prim.Native.Nat.{◌-◌}
-use lib.ListN.{length}
 use native.Mathlib.Omega.{arith}
-use borrow.Author.Rules.{rules}
-use Rattle.records.proofs.Marking.{MarkedTo, marked_none, marked_more, marked_all}
+use Rattle.records.proofs.Marking.{marked_none, marked_more, marked_all}
 use Rattle.records.proofs.mark_outputs.Goals as goal
 
 pub loop-i-init : goal.loop-i-init

@@ -2,9 +2,7 @@
 -- Assumes nothing.
 use Prim.Native.Nat.{◌-◌}
 use lib.ListN.{length}
-use native.Mathlib.Omega.{arith}
-use borrow.Author.Rules.{rules}
-use Rattle.records.proofs.Marking.{MarkedTo, marked_none, marked_more, marked_all}
+use Rattle.records.proofs.Marking.{MarkedTo}
 use Rattle.records.proofs.mark_outputs.Given as goal
 
 abbrev pub invariant-loop-i : goal.invariant-loop-i

@@ -2,8 +2,7 @@
 -- Assumes nothing.
 use Prim.Native.Nat.{◌-◌}
 use native.Mathlib.Omega.{arith}
-use borrow.Author.Rules.{rules}
-use Rattle.records.proofs.Numbering.{NumberedFrom, from_none, from_more, from_all}
+use Rattle.records.proofs.Numbering.{from_none, from_more, from_all}
 use Rattle.records.proofs.number_lines.Goals as goal
 
 pub loop-i-init : goal.loop-i-init

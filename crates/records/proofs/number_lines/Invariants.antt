@@ -1,9 +1,6 @@
 -- `records::number_lines` meets its contract. The invariant: the gates from i on have their lines.
 -- Assumes nothing.
-use Prim.Native.Nat.{◌-◌}
-use native.Mathlib.Omega.{arith}
-use borrow.Author.Rules.{rules}
-use Rattle.records.proofs.Numbering.{NumberedFrom, from_none, from_more, from_all}
+use Rattle.records.proofs.Numbering.{NumberedFrom}
 use Rattle.records.proofs.number_lines.Given as goal
 
 abbrev pub invariant-loop-i : goal.invariant-loop-i

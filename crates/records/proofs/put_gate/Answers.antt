@@ -1,6 +1,5 @@
 -- `records::put_gate` meets its contract: the record of what the gate's lists and its sources' lines say.
 -- Assumes nothing.
-use borrow.Author.Rules.{rules}
 use Rattle.records.specs.Owed.{gate_record}
 use Rattle.records.proofs.put_gate.Goals as goal
 

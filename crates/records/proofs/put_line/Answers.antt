@@ -4,7 +4,6 @@ use mathlib.Core.Path.{sym}
 use Prim.Native.Nat.{◌-◌}
 use native.Mathlib.Omega.{arith}
 use borrow.Author.Tests.{lt-ltb, le-ltb}
-use borrow.Author.Rules.{rules}
 use Rattle.records.specs.Owed.{record_by}
 use Rattle.records.proofs.put_line.Goals as goal
 
@@ -14,7 +13,10 @@ returns-then-k-inputs c = simp (lt-ltb _ _ c.if-k-inputs.true) c.put_record.ensu
 
 pub put_gate-requires : goal.put_gate-requires
 put_gate-requires c =
-    (rw c.wide16-g.ensures.0 (c.requires.has.gates (c.args.k - c.args.inputs) (omega arith)), c.requires.room)
+    record {
+      put_gate_room = rw c.wide16-g.ensures.0 (c.requires.has.gates (c.args.k - c.args.inputs) (omega arith));
+      at_in_bounds = c.requires.room;
+    }
 
 pub returns : goal.returns
 unfolding record_by

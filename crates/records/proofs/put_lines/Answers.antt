@@ -1,10 +1,6 @@
 -- `records::put_lines` meets its contract. The invariant: the records of the lines below k are written.
 -- Assumes nothing.
-use Prim.Native.Nat.{◌-◌}
-use native.Mathlib.Omega.{arith}
-use Rattle.ground.proofs.Put.{put_long}
-use Rattle.records.specs.Owed.{lined_of, line_count}
-use Rattle.records.proofs.Lines.{SoFar, so_far_none, line_room, so_far_more, so_far_all}
+use Rattle.records.proofs.Lines.{so_far_none, line_room, so_far_more, so_far_all}
 use Rattle.records.proofs.put_lines.Goals as goal
 
 pub loop-k-init : goal.loop-k-init
@@ -12,14 +8,11 @@ loop-k-init c = so_far_none _ _
 
 pub put_line-at-requires : goal.put_line-at-requires
 put_line-at-requires c =
-    line_room c.loop-k.invariant c.requires.0
-    c.requires.1 c.loop-k-test.true
+    line_room c.loop-k.invariant c.requires.put_lines_ready
+    c.requires.records_len c.loop-k-test.true
 
 pub loop-k-preserved : goal.loop-k-preserved
 loop-k-preserved c = so_far_more c.loop-k.invariant c.loop-k-test.true c.put_line-at.ensures
 
--- LOST same-length
--- same_length c = put_long c.before.loop.invariant.put
-
 pub returns : goal.returns
-returns c = so_far_all c.loop-k.invariant c.requires.1 c.loop-k-test.false
+returns c = so_far_all c.loop-k.invariant c.requires.records_len c.loop-k-test.false

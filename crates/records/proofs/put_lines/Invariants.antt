@@ -1,10 +1,8 @@
 -- `records::put_lines` meets its contract. The invariant: the records of the lines below k are written.
 -- Assumes nothing.
 use Prim.Native.Nat.{◌-◌}
-use native.Mathlib.Omega.{arith}
-use Rattle.ground.proofs.Put.{put_long}
 use Rattle.records.specs.Owed.{lined_of, line_count}
-use Rattle.records.proofs.Lines.{SoFar, so_far_none, line_room, so_far_more, so_far_all}
+use Rattle.records.proofs.Lines.{SoFar}
 use Rattle.records.proofs.put_lines.Given as goal
 
 abbrev pub invariant-loop-k : goal.invariant-loop-k

@@ -1,7 +1,6 @@
 -- `records::put_record` meets its contract: its four pairs of bytes, one after the other.
 -- Assumes nothing.
 use native.Mathlib.Omega.{arith}
-use borrow.Author.Rules.{rules}
 use Rattle.ground.proofs.Put.{put_then}
 use Rattle.little.proofs.Little.{le-length}
 use Rattle.records.specs.Owed.{record_of}

@@ -1,6 +1,5 @@
 -- `records::put_records_in` meets its contract: the lines are numbered, the outputs marked, the records written.
 -- Assumes nothing.
-use borrow.Author.Rules.{rules}
 use Rattle.records.proofs.Whole.{number_room, not_set, room_is, has_lines, told, all_written}
 use Rattle.records.proofs.put_records_in.Goals as goal
 
@@ -12,10 +11,13 @@ mark_outputs-requires c = not_set c.requires
 
 pub put_lines-requires : goal.put_lines-requires
 put_lines-requires c =
-    (has_lines c.requires c.number_lines.auto.1.1.0 c.mark_outputs.auto.1.0, room_is c.requires)
+    record {
+      put_lines_ready = has_lines c.requires c.number_lines.auto.line c.mark_outputs.auto.flag;
+      records_len = room_is c.requires;
+    }
 
 pub returns : goal.returns
 returns c =
     let n = c.number_lines in
     let o = c.mark_outputs in
-    all_written (told c.requires n.auto.1.1.0 o.auto.1.0 n.ensures o.ensures) c.put_lines.ensures
+    all_written (told c.requires n.auto.line o.auto.flag n.ensures o.ensures) c.put_lines.ensures

@@ -1,6 +1,5 @@
 -- `records::source` meets its contract: by whether the kind has the pin.
 -- Assumes nothing.
-use borrow.Author.Rules.{rules}
 use borrow.Author.Tests.{le-leb, lt-leb}
 use Rattle.records.specs.Owed.{source_by}
 use Rattle.records.proofs.source.Goals as goal
