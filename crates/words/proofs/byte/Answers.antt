@@ -3,7 +3,6 @@
 use lib.ListN.{get_or-eq_default}
 use mathlib.Core.Path.{sym}
 use native.Mathlib.Omega.{arith}
-use borrow.Author.Rules.{rules}
 use Rattle.words.proofs.byte.Goals as goal
 
 pub returns : goal.returns

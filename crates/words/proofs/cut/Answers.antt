@@ -1,14 +1,11 @@
 -- `words::cut` meets its contract: each byte may begin a word or end a line.
 -- Assumes nothing.
-use Rattle.words.proofs.Loop.{SoFar, start, more, finished}
+use Rattle.words.proofs.Loop.{start, more, finished}
 use Rattle.ground.specs.Choose.{one}
-use lib.ListN.{length, length-set}
 use lib.Dec.{eqb}
-use Prim.Native.Nat.{◌-◌}
 use mathlib.Core.Bool.{Bool, ◌&&◌}
 use mathlib.Core.Path.{ap, ◌∙◌}
 use native.Mathlib.Omega.{arith}
-use borrow.Author.Rules.{rules}
 use Rattle.words.proofs.cut.Goals as goal
 
 pub loop-i-init : goal.loop-i-init

@@ -1,7 +1,6 @@
 -- `words::in_word` meets its contract: it reads the table at the byte.
 -- Assumes nothing.
 use mathlib.Core.Path.{ap, ◌∙◌}
-use borrow.Author.Rules.{rules}
 use Rattle.words.specs.Words.{word_byte}
 use Rattle.words.proofs.Table.{byte_at}
 use Rattle.words.proofs.in_word.Goals as goal

@@ -2,12 +2,9 @@
 -- Assumes nothing.
 use Rattle.words.proofs.Same.{read_byte}
 use Rattle.words.proofs.Keywords.{name-more, name-not, name_end}
-use Rattle.words.specs.Words.{word_at, same}
-use lib.ListN.{length, drop}
-use Prim.Native.Nat.{◌+◌, ◌-◌, ◌≤◌}
+use Prim.Native.Nat.{◌+◌}
 use mathlib.Core.Bool.{not}
 use mathlib.Core.Path.{◌≡◌, refl, sym, ap, ◌∙◌}
-use borrow.Author.Rules.{rules}
 use native.Mathlib.Omega.{arith}
 use Rattle.words.proofs.is_name.Goals as goal
 

@@ -1,14 +1,9 @@
 -- `words::is_name` meets its contract: the keyword is walked, and the word of the text ends where it does.
 -- Assumes nothing.
-use Rattle.words.proofs.Same.{read_byte}
-use Rattle.words.proofs.Keywords.{name-more, name-not, name_end}
 use Rattle.words.specs.Words.{word_at, same}
 use lib.ListN.{length, drop}
 use Prim.Native.Nat.{◌+◌, ◌-◌, ◌≤◌}
-use mathlib.Core.Bool.{not}
-use mathlib.Core.Path.{◌≡◌, refl, sym, ap, ◌∙◌}
-use borrow.Author.Rules.{rules}
-use native.Mathlib.Omega.{arith}
+use mathlib.Core.Path.{◌≡◌}
 use Rattle.words.proofs.is_name.Given as goal
 
 abbrev pub invariant-loop-k : goal.invariant-loop-k

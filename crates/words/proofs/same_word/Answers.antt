@@ -1,12 +1,9 @@
 -- `words::same_word` meets its contract: both words are walked until they differ or end.
 -- Assumes nothing.
 use Rattle.words.proofs.Same.{inside, read_byte, read_inside, same_more, same_not, same_end}
-use Rattle.words.specs.Words.{word_byte, word_at, same}
+use Rattle.words.specs.Words.{word_byte}
 use mathlib.Core.Bool.{not}
-use Prim.Native.Nat.{◌-◌}
-use lib.ListN.{length}
-use mathlib.Core.Path.{◌≡◌, refl, sym, ap, ◌∙◌}
-use borrow.Author.Rules.{rules}
+use mathlib.Core.Path.{refl, sym, ap, ◌∙◌}
 use native.Mathlib.Omega.{arith}
 use Rattle.words.proofs.same_word.Goals as goal
 
@@ -17,19 +14,16 @@ returns-then-byte c =
     ∙ same_not c.args.text.now c.loop-i.x c.loop-i.y (read_byte c.byte.ensures c.is_word.ensures c.loop-i-test.true)
     (λ e. c.if-byte.true (c.byte-in-loop-i.ensures ∙ e ∙ sym c.byte-in-loop-i-2.ensures)))
 
--- LOST overflow-add-x
--- add-x c =
---     let b = c.before.before.before in
---     let s = b.before.before.before in
---     omega (arith, read_inside s.before.before.args.text.now s.loop.x b.before.before.byte.ensures b.before.is_word.ensures b.if1.true)
+pub overflow_add-x : goal.overflow_add-x
+overflow_add-x c =
+    omega (arith, read_inside c.args.text.now c.loop-i.x c.byte.ensures c.is_word.ensures c.loop-i-test.true)
 
--- LOST overflow-add-y
--- add-y c =
---     let b = c.before.before.before in
---     let s = b.before.before.before in
---     let same_byte = sym c.before.before.byte2.ensures ∙ c.if2.false ∙ c.before.byte3.ensures in
---     let word = read_byte b.before.before.byte.ensures b.before.is_word.ensures b.if1.true in
---     omega (arith, inside s.before.before.args.text.now s.loop.y (ap word_byte same_byte ∙ word))
+-- the byte at y is that at x
+pub overflow_add-y : goal.overflow_add-y
+overflow_add-y c =
+    let same_byte = sym c.byte-in-loop-i.ensures ∙ c.if-byte.false ∙ c.byte-in-loop-i-2.ensures in
+    let word = read_byte c.byte.ensures c.is_word.ensures c.loop-i-test.true in
+    omega (arith, inside c.args.text.now c.loop-i.y (ap word_byte same_byte ∙ word))
 
 pub loop-i-smaller : goal.loop-i-smaller
 loop-i-smaller c =

@@ -1,13 +1,9 @@
 -- `words::same_word` meets its contract: both words are walked until they differ or end.
 -- Assumes nothing.
-use Rattle.words.proofs.Same.{inside, read_byte, read_inside, same_more, same_not, same_end}
-use Rattle.words.specs.Words.{word_byte, word_at, same}
-use mathlib.Core.Bool.{not}
+use Rattle.words.specs.Words.{word_at, same}
 use Prim.Native.Nat.{◌-◌}
 use lib.ListN.{length}
-use mathlib.Core.Path.{◌≡◌, refl, sym, ap, ◌∙◌}
-use borrow.Author.Rules.{rules}
-use native.Mathlib.Omega.{arith}
+use mathlib.Core.Path.{◌≡◌}
 use Rattle.words.proofs.same_word.Given as goal
 
 abbrev pub invariant-loop-i : goal.invariant-loop-i
