@@ -1,4 +1,4 @@
--- States and answers as the machine has them: what the walks of the two functions that are lent a state cite.
+-- States and answers as the machine has them, for a walk of a function that is lent a state.
 -- Assumes nothing.
 use mathlib.Core.List.{[], ◌∷◌, List}
 use Prim.Native.Nat.{ℕ}

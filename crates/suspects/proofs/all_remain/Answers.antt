@@ -2,7 +2,6 @@
 -- Assumes nothing.
 use mathlib.Core.Path.{sym, ◌∙◌, refl}
 use mathlib.Core.Bool.{true}
-use borrow.Author.Rules.{rules}
 use Rattle.ground.proofs.Counting.{count_all}
 use Rattle.reports.proofs.Marks.{laid_marks}
 use Rattle.suspects.proofs.State.{made}

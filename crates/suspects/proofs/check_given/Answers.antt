@@ -1,7 +1,6 @@
 -- `suspects::check_given` meets its contract: the table's rules first, then the pattern.
 -- Assumes nothing.
 use mathlib.Core.Path.{sym, ◌∙◌}
-use borrow.Author.Rules.{rules}
 use Rattle.answers.proofs.Rules.{after_refused, after_fine}
 use Rattle.tables.specs.Table.{table_rules}
 use Rattle.suspects.specs.Promise.{pattern_rules}

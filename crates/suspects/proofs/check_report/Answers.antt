@@ -1,7 +1,6 @@
 -- `suspects::check_report` meets its contract: the counts first, then what is lent.
 -- Assumes nothing.
 use mathlib.Core.Path.{sym, ◌∙◌}
-use borrow.Author.Rules.{rules}
 use borrow.Author.Tests.{eq-eqb, ne_eqb}
 use Rattle.suspects.proofs.Says.{other_counts, same-counts}
 use Rattle.suspects.proofs.check_report.Goals as goal

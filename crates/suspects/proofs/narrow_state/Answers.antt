@@ -2,7 +2,6 @@
 -- Assumes nothing.
 use mathlib.Core.Path.{◌∙◌}
 use native.Mathlib.Omega.{arith}
-use borrow.Author.Rules.{rules}
 use Rattle.tables.proofs.Rows.{row_fits}
 use Rattle.suspects.proofs.State.{made}
 use Rattle.suspects.proofs.Left.{row-length, left_marks, left-number}
@@ -15,20 +14,10 @@ overflow_mul-at c = omega (arith, row_fits c.requires.1 c.requires.2)
 pub overflow_add-to : goal.overflow_add-to
 overflow_add-to c = omega (arith, row_fits c.requires.1 c.requires.2)
 
--- LOST slice-bounds-narrow-end
--- part-narrow-end c = let s = c.before.before.before in omega (arith, row_fits s.requires.1 s.requires.2)
-
--- there is room for the marks, before and after
-pub slice_bounds-narrow-end : goal.slice_bounds-narrow-end
-slice_bounds-narrow-end c = search rules
-
-pub slice_bounds-narrow-end-3 : goal.slice_bounds-narrow-end-3
-slice_bounds-narrow-end-3 c = search rules
-
 pub narrow-requires : goal.narrow-requires
 narrow-requires c =
     let long = row-length c.args.table.now c.requires.1 c.requires.2 in
-    (omega (arith, long, c.requires.0.few_faults, slice_bounds-narrow-end c), omega (arith, long, c.requires.0.few_faults, slice_bounds-narrow-end-3 c))
+    (omega (arith, long, c.requires.0.few_faults), omega (arith, long, c.requires.0.few_faults))
 
 pub returns : goal.returns
 returns c =

@@ -2,7 +2,6 @@
 -- Assumes nothing.
 use mathlib.Core.Path.{refl, sym, ◌∙◌}
 use native.Mathlib.Omega.{arith}
-use borrow.Author.Rules.{rules}
 use Rattle.ground.proofs.Counting.{count_all}
 use Rattle.tables.proofs.Says.{fine_sized}
 use Rattle.suspects.proofs.Promise.{state_refused, state_taken}

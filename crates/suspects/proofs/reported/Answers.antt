@@ -1,7 +1,6 @@
 -- `suspects::reported` meets its contract: a state that is not opened first, else the report.
 -- Assumes nothing.
 use mathlib.Core.Path.{sym, ◌∙◌}
-use borrow.Author.Rules.{rules}
 use Rattle.suspects.proofs.State.{opened_same}
 use Rattle.suspects.proofs.Says.{not_opened}
 use Rattle.suspects.proofs.Promise.{state_refused}

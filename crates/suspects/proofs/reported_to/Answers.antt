@@ -1,7 +1,6 @@
 -- `suspects::reported_to` meets its contract: the rules first, then the state is narrowed.
 -- Assumes nothing.
 use mathlib.Core.Path.{refl, sym, ◌∙◌}
-use borrow.Author.Rules.{rules}
 use Rattle.suspects.proofs.Says.{taken}
 use Rattle.suspects.proofs.Promise.{state_refused, state_taken}
 use Rattle.suspects.proofs.reported_to.Goals as goal
