@@ -6,12 +6,8 @@ use Rattle.words.specs.Words.{within, word_byte}
 use Rattle.syntax.specs.Regular.{has}
 use Rattle.syntax.specs.Grammar.{signs, place_in, symbol}
 use Rattle.syntax.specs.Owed.{SymbolTable}
-use Rattle.syntax.proofs.symbol_table.Statement.{statement}
-use Rattle.syntax.proofs.symbol_table.Tie as tie
+use Rattle.syntax.proofs.symbol_table.Goals as goal
 
-returns : tie.Need-returns
+pub returns : goal.returns
 unfolding SymbolTable grow symbol has signs within word_byte place_in
 returns c = refl
-
-pub symbol-table-spec : {M : Type 1} → statement M
-symbol-table-spec = tie.close (tie.spec returns)

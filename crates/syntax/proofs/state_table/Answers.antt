@@ -8,13 +8,9 @@ use Rattle.syntax.specs.Derivative.{cat, besides, either, empty, next, after}
 use Rattle.syntax.specs.Kinds.{input_word, output_word, kinds, kind_words}
 use Rattle.syntax.specs.Grammar.{signs, place_in, symbol, letters, keys, word_symbol, up_to, blanks, name, mark, close, one_argument, two_arguments, gate, statement, comment, line, bench}
 use Rattle.syntax.specs.Owed.{then, in_name, in_keyword, in_kind, states, cell_says, row, rows, StateTable}
-use Rattle.syntax.proofs.state_table.Statement as stated
-use Rattle.syntax.proofs.state_table.Tie as tie
+use Rattle.syntax.proofs.state_table.Goals as goal
 
-returns : tie.Need-returns
+pub returns : goal.returns
 unfolding StateTable states cell_says row rows grow then in_name after in_keyword in_kind has cat besides either empty next
     signs within word_byte place_in symbol letters keys input_word output_word kinds kind_words word_symbol up_to blanks name mark close one_argument two_arguments gate statement comment line bench
 returns c = refl
-
-pub state-table-spec : {M : Type 1} → stated.statement M
-state-table-spec = tie.close (tie.spec returns)

@@ -1,0 +1,16 @@
+-- `syntax::put_rows` meets its contract: each character is put as the beginning of its row.
+-- Assumes nothing.
+use Rattle.syntax.proofs.Rows.{RowsFilling, start, more, all}
+use Prim.Native.Nat.{◌-◌}
+use native.Mathlib.Omega.{arith}
+use borrow.Author.Rules.{rules}
+use Rattle.syntax.proofs.put_rows.Goals as goal
+
+pub loop-k-init : goal.loop-k-init
+loop-k-init c = start _ c.requires.1
+
+pub loop-k-preserved : goal.loop-k-preserved
+loop-k-preserved c = more c.loop-k.invariant (omega arith) c.row_of.ensures
+
+pub returns : goal.returns
+returns c = all c.loop-k.invariant c.requires.0 (omega arith)
