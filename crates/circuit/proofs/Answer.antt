@@ -13,7 +13,6 @@ use Rattle.answers.specs.declared.Ruling.{Ruling}
 use Rattle.answers.specs.Rules.{said, refusal}
 use Rattle.answers.specs.Records.{records_ok}
 use Rattle.answers.proofs.Rules.{after_refused, after_fine}
-use Rattle.answers.proofs.Answer as answer
 use Rattle.answers.proofs.Answer.{numbers-told}
 use Rattle.circuit.specs.declared.Checked.{Checked}
 use Rattle.circuit.specs.declared.Checked.TheVariants.{Accepted, Refused}

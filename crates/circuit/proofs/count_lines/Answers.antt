@@ -1,13 +1,9 @@
 -- `circuit::count_lines` meets its contract. The invariant: every line passed keeps its layout, and those that are inputs and outputs are counted.
 -- Assumes nothing.
-use borrow.Author.Rules.{rules}
 use mathlib.Core.Path.{◌∙◌}
 use native.Mathlib.Omega.{arith}
-use Prim.Native.Nat.{◌-◌}
-use Rattle.ground.proofs.First.{Every, every_none, every_next, stopped, passed}
-use Rattle.ground.proofs.Counting.{Sum, no_sum, sum_small, sum_more, sum_all}
-use Rattle.circuit.specs.Record.{is_input, is_output}
-use Rattle.circuit.specs.Layout.{line_ok}
+use Rattle.ground.proofs.First.{every_none, every_next, stopped, passed}
+use Rattle.ground.proofs.Counting.{no_sum, sum_small, sum_more, sum_all}
 use Rattle.circuit.proofs.Lines.{out_one}
 use Rattle.circuit.proofs.BadByte.{broken_line, kept_line}
 use Rattle.circuit.proofs.count_lines.Goals as goal
@@ -30,11 +26,11 @@ returns-then-byte-lt8 c =
       inside = omega arith;
     }
 
--- LOST overflow-add-inputs
--- add-inputs c = omega (arith, sum_small c.before.before.before.before.before.loop.invariant.1)
+pub overflow_add-inputs : goal.overflow_add-inputs
+overflow_add-inputs c = omega (arith, sum_small c.loop-k.invariant.1)
 
--- LOST overflow-add-outputs
--- add-outputs c = omega (arith, sum_small c.before.before.before.before.before.before.before.loop.invariant.2)
+pub overflow_add-outputs : goal.overflow_add-outputs
+overflow_add-outputs c = omega (arith, sum_small c.loop-k.invariant.2)
 
 pub loop-k-preserved : goal.loop-k-preserved
 loop-k-preserved c =

@@ -1,15 +1,10 @@
 -- `circuit::count_lines` meets its contract. The invariant: every line passed keeps its layout, and those that are inputs and outputs are counted.
 -- Assumes nothing.
-use borrow.Author.Rules.{rules}
-use mathlib.Core.Path.{◌∙◌}
-use native.Mathlib.Omega.{arith}
 use Prim.Native.Nat.{◌-◌}
-use Rattle.ground.proofs.First.{Every, every_none, every_next, stopped, passed}
-use Rattle.ground.proofs.Counting.{Sum, no_sum, sum_small, sum_more, sum_all}
+use Rattle.ground.proofs.First.{Every}
+use Rattle.ground.proofs.Counting.{Sum}
 use Rattle.circuit.specs.Record.{is_input, is_output}
 use Rattle.circuit.specs.Layout.{line_ok}
-use Rattle.circuit.proofs.Lines.{out_one}
-use Rattle.circuit.proofs.BadByte.{broken_line, kept_line}
 use Rattle.circuit.proofs.count_lines.Given as goal
 
 abbrev pub invariant-loop-k : goal.invariant-loop-k

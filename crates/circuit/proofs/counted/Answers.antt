@@ -1,6 +1,5 @@
 -- `circuit::counted` meets its contract: the answer is that of the ruling.
 -- Assumes nothing.
-use borrow.Author.Rules.{rules}
 use Rattle.circuit.proofs.counted.Goals as goal
 
 pub returns-in-Refused : goal.returns-in-Refused

@@ -2,7 +2,6 @@
 -- Assumes nothing.
 use borrow.Author.Tests.{le-leb, lt-leb}
 use Rattle.circuit.specs.Owed.{limit_of}
-use borrow.Author.Rules.{rules}
 use Rattle.circuit.proofs.limit.Goals as goal
 
 pub returns-then-s-has : goal.returns-then-s-has

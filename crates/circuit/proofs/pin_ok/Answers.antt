@@ -1,6 +1,5 @@
 -- `circuit::pin_ok` meets its contract: one comparison serves a source that the kind has and one that it lacks.
 -- Assumes nothing.
-use borrow.Author.Rules.{rules}
 use Rattle.circuit.proofs.Lines.{limit_ok}
 use Rattle.circuit.proofs.pin_ok.Goals as goal
 
