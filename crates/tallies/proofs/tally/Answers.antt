@@ -1,11 +1,9 @@
 -- `tallies::tally` meets its contract. The invariant: the patterns below p that have the mark are tallied.
 -- Assumes nothing.
-use Prim.Native.Nat.{◌-◌}
 use native.Mathlib.Omega.{arith}
 use borrow.Author.Rules.{rules}
-use Rattle.tallies.specs.Tally.{with_mark}
 use Rattle.tables.proofs.Rows.{row_inside}
-use Rattle.tallies.proofs.Tallies.{row_cells, row_faults, room_after, TalliedTo, none_tallied, one_tallied, all_tallied}
+use Rattle.tallies.proofs.Tallies.{row_cells, row_faults, room_after, none_tallied, one_tallied, all_tallied}
 use Rattle.tallies.proofs.tally.Goals as goal
 
 pub loop-p-init : goal.loop-p-init
@@ -24,13 +22,7 @@ tally_pattern-requires c =
 pub loop-p-preserved : goal.loop-p-preserved
 loop-p-preserved c =
     let w = c.tally_pattern in
-    one_tallied c.loop-p.invariant (search rules) w.auto.0 w.auto.1.0 w.ensures
-
--- LOST same-length
--- same_length c = c.before.loop.invariant.cells
-
--- LOST same-length-2
--- same-length-2 c = c.before.loop.invariant.faults
+    one_tallied c.loop-p.invariant (search rules) w.auto.counts w.auto.seen w.ensures
 
 pub returns : goal.returns
 returns c = all_tallied c.loop-p.invariant (search rules)

@@ -1,11 +1,8 @@
 -- `tallies::tally` meets its contract. The invariant: the patterns below p that have the mark are tallied.
 -- Assumes nothing.
 use Prim.Native.Nat.{◌-◌}
-use native.Mathlib.Omega.{arith}
-use borrow.Author.Rules.{rules}
 use Rattle.tallies.specs.Tally.{with_mark}
-use Rattle.tables.proofs.Rows.{row_inside}
-use Rattle.tallies.proofs.Tallies.{row_cells, row_faults, room_after, TalliedTo, none_tallied, one_tallied, all_tallied}
+use Rattle.tallies.proofs.Tallies.{TalliedTo}
 use Rattle.tallies.proofs.tally.Given as goal
 
 abbrev pub invariant-loop-p : goal.invariant-loop-p
