@@ -1,0 +1,18 @@
+-- `letters::put_letters` meets its contract. The invariant: the first i letters stand.
+-- Assumes nothing.
+use lib.ListN.{length-set, length, length-map}
+use borrow.Author.Rules.{rules}
+use native.Mathlib.Omega.{arith}
+use mathlib.Core.List.{map}
+use mathlib.Core.Path.{◌≡◌, refl}
+use Prim.Native.Nat.{◌≤◌, ◌-◌}
+use Rattle.letters.proofs.Pieces.{letter_at}
+use Rattle.letters.specs.Text.{letter_of}
+use Rattle.ground.proofs.Put.{Partly, partly_none, partly_more, partly_all}
+use Rattle.letters.proofs.put_letters.Given as goal
+
+abbrev pub invariant-loop-i : goal.invariant-loop-i
+invariant-loop-i l = (l.i ≤ length l.row) × (length l.out ≡ length l.initial.out) × Partly (map letter_of l.row) l.initial.out l.at l.out l.i
+
+abbrev pub decreases-loop-i : goal.decreases-loop-i
+decreases-loop-i l = length l.row - l.i

@@ -1,0 +1,14 @@
+-- `letters::put_lines` meets its contract. The invariant: the lines of the first p patterns stand.
+-- Assumes nothing.
+use lib.ListN.{length-take}
+use native.Mathlib.Omega.{arith}
+use Prim.Native.Nat.{◌-◌}
+use Rattle.letters.proofs.Lines.{SoFar, start, row_fits, line-fits, more, finished}
+use Rattle.ground.proofs.Put.{put_long}
+use Rattle.letters.proofs.put_lines.Given as goal
+
+abbrev pub invariant-loop-p : goal.invariant-loop-p
+invariant-loop-p l = SoFar l.table l.marks l.initial.out l.faults l.patterns l.out l.p l.at l.from
+
+abbrev pub decreases-loop-p : goal.decreases-loop-p
+decreases-loop-p l = l.patterns - l.p
