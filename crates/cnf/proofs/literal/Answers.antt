@@ -1,6 +1,5 @@
 -- `cnf::literal` meets its contract: the variable, or its negation.
 -- Assumes nothing.
-use borrow.Author.Rules.{rules}
 use Rattle.cnf.proofs.Signed.{plus_back, minus_back}
 use Rattle.cnf.specs.Owed.{signed}
 use Rattle.cnf.proofs.literal.Goals as goal

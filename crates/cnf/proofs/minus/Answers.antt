@@ -1,6 +1,5 @@
 -- `cnf::minus` meets its contract: the negation is read back from its bits.
 -- Assumes nothing.
-use borrow.Author.Rules.{rules}
 use Rattle.cnf.proofs.Signed.{taken_fits, taken_is}
 use Rattle.cnf.proofs.minus.Goals as goal
 

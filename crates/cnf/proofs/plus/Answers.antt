@@ -1,6 +1,5 @@
 -- `cnf::plus` meets its contract: the number is read back from its bits.
 -- Assumes nothing.
-use borrow.Author.Rules.{rules}
 use Rattle.cnf.proofs.Signed.{plus_is}
 use Rattle.cnf.proofs.plus.Goals as goal
 

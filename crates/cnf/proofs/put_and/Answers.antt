@@ -1,7 +1,6 @@
 -- `cnf::put_and` meets its contract: three clauses, one after the other.
 -- Assumes nothing.
 use mir.Facts.{to_z-of_z}
-use borrow.Author.Rules.{rules}
 use Rattle.ground.proofs.Put.{put_then}
 use Rattle.cnf.proofs.put_and.Goals as goal
 

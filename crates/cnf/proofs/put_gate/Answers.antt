@@ -1,7 +1,6 @@
 -- `cnf::put_gate` meets its contract: nothing for an input, else the shape of the kind with the literals of the gate.
 -- Assumes nothing.
 use native.Mathlib.Omega.{arith}
-use borrow.Author.Rules.{rules}
 use Rattle.ground.proofs.Put.{put_none}
 use Rattle.cnf.proofs.Shapes.{no-shape, shape_is, shape-length}
 use Rattle.cnf.proofs.Signed.{literal_back}

@@ -5,7 +5,6 @@ use lib.ListN.{length-set}
 use native.Mathlib.Omega.{arith}
 use native.Mathlib.Numerals.{add-one, add-two}
 use mathlib.Core.Path.{refl}
-use borrow.Author.Rules.{rules}
 use Rattle.cnf.proofs.put_pair.Goals as goal
 
 pub bounds-words-at-2 : goal.bounds-words-at-2

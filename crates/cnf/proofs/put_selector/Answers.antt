@@ -6,6 +6,22 @@ use Rattle.ground.proofs.Put.{put_then}
 use Rattle.cnf.proofs.Signed.{plus_back, minus_back}
 use Rattle.cnf.proofs.put_selector.Goals as goal
 
+pub put_triple-second-requires : goal.put_triple-second-requires
+unfolding gate_clauses clause_table
+put_triple-second-requires c = search rules
+
+pub put_triple-third-requires : goal.put_triple-third-requires
+unfolding gate_clauses clause_table
+put_triple-third-requires c = search rules
+
+pub put_triple-fourth-requires : goal.put_triple-fourth-requires
+unfolding gate_clauses clause_table
+put_triple-fourth-requires c = search rules
+
+pub put_triple-requires : goal.put_triple-requires
+unfolding gate_clauses clause_table
+put_triple-requires c = search rules
+
 pub returns : goal.returns
 unfolding gate_clauses clause_table
 returns c =

@@ -3,7 +3,6 @@
 use borrow.Author.Tests.{le-leb, lt-leb}
 use mir.Facts.{to_z-of_z}
 use native.Mathlib.Omega.{arith}
-use borrow.Author.Rules.{rules}
 use Rattle.cnf.specs.Owed.{by_shape}
 use Rattle.cnf.proofs.put_shape.Goals as goal
 

@@ -5,7 +5,6 @@ use lib.ListN.{length-set}
 use native.Mathlib.Omega.{arith}
 use native.Mathlib.Numerals.{add-one}
 use mathlib.Core.Path.{refl}
-use borrow.Author.Rules.{rules}
 use Rattle.cnf.proofs.put_single.Goals as goal
 
 pub slice_set_of-words : goal.slice_set_of-words

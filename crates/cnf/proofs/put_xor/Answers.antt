@@ -1,7 +1,6 @@
 -- `cnf::put_xor` meets its contract: four clauses, one after the other.
 -- Assumes nothing.
 use mir.Facts.{to_z-of_z}
-use borrow.Author.Rules.{rules}
 use Rattle.ground.proofs.Put.{put_then}
 use Rattle.cnf.proofs.put_xor.Goals as goal
 
