@@ -1,6 +1,8 @@
 // The dictionary program; its data is example A.
 #![tactic(auto)]
 
-fn main() {
-    program::run();
+use std::io;
+
+fn main(rt: HostRuntime) -> io::Result<()> {
+    program::run(&rt)
 }

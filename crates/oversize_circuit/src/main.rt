@@ -1,6 +1,8 @@
 // The dictionary program on a circuit of 2,049 records.
 #![tactic(auto)]
 
-fn main() {
-    program::run();
+use std::io;
+
+fn main(rt: HostRuntime) -> io::Result<()> {
+    program::run(&rt)
 }

@@ -1,39 +1,55 @@
 // The dictionary program: reads its three files, lists, prints. What it prints is `listing`'s promise.
 #![tactic(auto)]
 
-ghost use Rattle.io.specs.Counts.{IsPrefixLen};
+ghost use Rattle.std.specs.Prelude.{◌≡◌, ◌≤◌, length, take};
 
-use libc::STDOUT_FILENO;
 use listing::listing;
+use std::io::{Read, Write};
+use std::rt::Files;
+use std::{fs, io};
+
+// As much of the file as buf holds: until it is full, the file ends or a read fails.
+fn fill<F: Read>(file: &mut F, buf: &mut [u8]) -> usize
+    ensures fits { result ≤ length buf.new }
+    ensures prefix { result ≡ length (take result buf.new) }
+{
+    let mut done = 0;
+    while done < buf.len() {
+        match file.read(&mut buf[done..]) {
+            Ok(0) => break,
+            Ok(n) => done += n,
+            Err(_) => break,
+        }
+    }
+    done
+}
 
 // As much of the file as buf holds; a file that is absent reads as empty.
-fn load(path: &[u8], buf: &mut [u8]) -> usize
-    ensures { IsPrefixLen result buf.new }
+fn load<R: Files>(rt: &R, path: &str, buf: &mut [u8]) -> usize
+    ensures fits { result ≤ length buf.new }
+    ensures prefix { result ≡ length (take result buf.new) }
 {
-    let fd = os::open_read(path);
-    if fd < 0 {
-        return io::count(0, buf);
+    match fs::open(rt, path) {
+        Ok(mut file) => fill(&mut file, buf),
+        Err(_) => 0,
     }
-    let n = io::read_full(fd, buf);
-    libc::close(fd);
-    n
 }
 
 // Prints what belongs to a circuit, faults and patterns.
-fn print(circuit: &[u8], faults: &[u8], patterns: &[u8]) {
+fn print<R: Print>(rt: &R, circuit: &[u8], faults: &[u8], patterns: &[u8]) -> io::Result<()> {
     let mut table = [2u8; 65536];
     let mut out = [0u8; 71680];
     let n = listing(circuit, faults, patterns, &mut table, &mut out);
-    io::write_all(STDOUT_FILENO, &out[..n]);
+    io::writer(rt).write_all(&out[..n])
 }
 
 // Reads the files, each at most one byte above its limit, and prints.
-pub fn run() {
+pub fn run<R: Files + Print>(rt: &R) -> io::Result<()> {
     let mut circuit = [0u8; 16385];
     let mut faults = [0u8; 2049];
     let mut patterns = [0u8; 16385];
-    let c = load(b"circuit.rec", &mut circuit);
-    let f = load(b"faults.rec", &mut faults);
-    let p = load(b"patterns.rec", &mut patterns);
-    print(&circuit[..c], &faults[..f], &patterns[..p]);
+    let c = load(rt, "circuit.rec", &mut circuit);
+    let f = load(rt, "faults.rec", &mut faults);
+    let p = load(rt, "patterns.rec", &mut patterns);
+    print(rt, &circuit[..c], &faults[..f], &patterns[..p])
 }

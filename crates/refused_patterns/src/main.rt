@@ -1,6 +1,8 @@
 // The dictionary program on example A with a pattern byte above 2.
 #![tactic(auto)]
 
-fn main() {
-    program::run();
+use std::io;
+
+fn main(rt: HostRuntime) -> io::Result<()> {
+    program::run(&rt)
 }
