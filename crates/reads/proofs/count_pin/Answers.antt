@@ -5,8 +5,7 @@ use native.Mathlib.Omega.{arith}
 use borrow.Author.Rules.{rules}
 use lib.ListN.{length}
 use Rattle.reads.proofs.Counted.{pin_counted}
-use Rattle.reads.proofs.count_pin.Statement.{statement}
-use Rattle.reads.proofs.count_pin.Tie as tie
+use Rattle.reads.proofs.count_pin.Goals as goal
 
 -- the source is a line
 below : (c : tie.After-source) → c.source.result < length c.before.before.before.args.reads.now
@@ -14,16 +13,5 @@ below c =
     let s = c.before.before.before in
     omega (arith, c.source.ensures, s.requires.0.inside s.args.j s.args.s s.requires.1 s.requires.2 s.requires.3)
 
-returns : tie.Need-returns
-returns c = let read = c.before.before in pin_counted _ _ _ _ read.source.ensures (below read) c.one_more.ensures
-
-pub count-pin-spec : {M : Type 1} → statement M
-count-pin-spec =
-    tie.close
-    (tie.spec
-    (λ c κs. search rules)
-    (λ c. below c.before)
-    (λ c κs. search rules)
-    (λ c. below c.before.before)
-    (λ c. search rules)
-    returns)
+pub returns : goal.returns
+returns c = pin_counted _ _ _ _ c.source-k.ensures (below c) c.one_more-read.ensures

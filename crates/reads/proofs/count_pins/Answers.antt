@@ -1,0 +1,28 @@
+-- `reads::count_pins` meets its contract: one pin after the other.
+-- Assumes nothing.
+use native.Mathlib.Omega.{arith}
+use Prim.Native.Nat.{◌-◌}
+use borrow.Author.Rules.{rules}
+use Rattle.gates.proofs.Laws.{few_pins}
+use Rattle.circuit.specs.Record.{kind_at}
+use Rattle.reads.proofs.Counted.{Pins, no_pin, next-pin, all_pins}
+use Rattle.reads.proofs.count_pins.Goals as goal
+
+pub loop-s-init : goal.loop-s-init
+loop-s-init c = no_pin _ _ _ _
+
+pub count_pin-requires : goal.count_pin-requires
+count_pin-requires c =
+    let few = few_pins (kind_at c.args.circuit.now c.args.j) in
+    rw c.loop-s.invariant.long (c.requires.0, c.requires.1, omega arith, omega (arith, c.pins-has.ensures))
+
+pub loop-s-preserved : goal.loop-s-preserved
+loop-s-preserved c =
+    let call = c.count_pin in
+    next-pin c.loop-s.invariant (omega arith) call.auto.1.1.1.0 call.ensures
+
+-- LOST same-length
+-- same_length c = c.before.loop.invariant.long
+
+pub returns : goal.returns
+returns c = all_pins c.loop-s.invariant (omega arith) c.pins-has.ensures
