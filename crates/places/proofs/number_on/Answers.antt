@@ -1,6 +1,5 @@
 -- `places::number_on` meets its contract: by whether the line is an input's.
 -- Assumes nothing.
-use borrow.Author.Rules.{rules}
 use borrow.Author.Tests.{lt-ltb, le-ltb}
 use Rattle.places.specs.Owed.{number_by}
 use Rattle.places.proofs.number_on.Goals as goal

@@ -1,7 +1,6 @@
 -- `places::put_places` meets its contract: memory for the definition of each number is lent.
 -- Assumes nothing.
 use mathlib.Core.Path.{sym}
-use borrow.Author.Rules.{rules}
 use Rattle.ground.proofs.Filled.{front_length}
 use Rattle.places.proofs.put_places.Goals as goal
 
