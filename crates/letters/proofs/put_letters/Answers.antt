@@ -1,14 +1,11 @@
 -- `letters::put_letters` meets its contract. The invariant: the first i letters stand.
 -- Assumes nothing.
-use lib.ListN.{length-set, length, length-map}
-use borrow.Author.Rules.{rules}
+use lib.ListN.{length-set, length-map}
 use native.Mathlib.Omega.{arith}
-use mathlib.Core.List.{map}
-use mathlib.Core.Path.{◌≡◌, refl}
-use Prim.Native.Nat.{◌≤◌, ◌-◌}
+use mathlib.Core.Path.{refl}
 use Rattle.letters.proofs.Pieces.{letter_at}
 use Rattle.letters.specs.Text.{letter_of}
-use Rattle.ground.proofs.Put.{Partly, partly_none, partly_more, partly_all}
+use Rattle.ground.proofs.Put.{partly_none, partly_more, partly_all}
 use Rattle.letters.proofs.put_letters.Goals as goal
 
 pub loop-i-init : goal.loop-i-init

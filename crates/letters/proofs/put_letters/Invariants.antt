@@ -1,14 +1,11 @@
 -- `letters::put_letters` meets its contract. The invariant: the first i letters stand.
 -- Assumes nothing.
-use lib.ListN.{length-set, length, length-map}
-use borrow.Author.Rules.{rules}
-use native.Mathlib.Omega.{arith}
+use lib.ListN.{length}
 use mathlib.Core.List.{map}
-use mathlib.Core.Path.{◌≡◌, refl}
+use mathlib.Core.Path.{◌≡◌}
 use Prim.Native.Nat.{◌≤◌, ◌-◌}
-use Rattle.letters.proofs.Pieces.{letter_at}
 use Rattle.letters.specs.Text.{letter_of}
-use Rattle.ground.proofs.Put.{Partly, partly_none, partly_more, partly_all}
+use Rattle.ground.proofs.Put.{Partly}
 use Rattle.letters.proofs.put_letters.Given as goal
 
 abbrev pub invariant-loop-i : goal.invariant-loop-i

@@ -2,7 +2,6 @@
 -- Assumes nothing.
 use lib.ListN.{length-map}
 use native.Mathlib.Omega.{arith}
-use borrow.Author.Rules.{rules}
 use Rattle.letters.specs.Text.{letter_of}
 use Rattle.decimals.proofs.Digits.{digits_short}
 use Rattle.letters.proofs.Pieces.{line_put}
@@ -12,20 +11,20 @@ use Rattle.letters.proofs.put_line.Goals as goal
 pub put_three-letters-requires : goal.put_three-letters-requires
 put_three-letters-requires c =
     let p = c.put_decimal-number.ensures in
-    omega (arith, p.next-is, put_long p, digits_short 20 (entry c).args.p)
+    omega (arith, p.next-is, put_long p, digits_short 20 c.args.p)
 
 pub put_letters-end-requires : goal.put_letters-end-requires
 put_letters-end-requires c =
     let p = c.put_decimal-number.ensures in
     let q = c.put_three-letters.ensures in
-    omega (arith, p.next-is, q.next-is, put_long p, put_long q, digits_short 20 (entry c).args.p)
+    omega (arith, p.next-is, q.next-is, put_long p, put_long q, digits_short 20 c.args.p)
 
 pub put_byte-requires : goal.put_byte-requires
 put_byte-requires c =
     let p = c.put_decimal-number.ensures in
     let q = c.put_three-letters.ensures in
     let r = c.put_letters-end.ensures in
-    let a = (entry c).args in
+    let a = c.args in
     omega (
       arith,
       p.next-is,

@@ -2,9 +2,7 @@
 -- Assumes nothing.
 use lib.ListN.{length-take}
 use native.Mathlib.Omega.{arith}
-use Prim.Native.Nat.{◌-◌}
-use Rattle.letters.proofs.Lines.{SoFar, start, row_fits, line-fits, more, finished}
-use Rattle.ground.proofs.Put.{put_long}
+use Rattle.letters.proofs.Lines.{start, row_fits, line-fits, more, finished}
 use Rattle.letters.proofs.put_lines.Goals as goal
 
 pub loop-p-init : goal.loop-p-init
@@ -13,9 +11,6 @@ loop-p-init c = start _ _ _ _ _
 pub overflow_add-to : goal.overflow_add-to
 overflow_add-to c = omega (arith, row_fits c.requires c.loop-p.invariant (omega arith))
 
--- LOST slice-bounds-put-line-end
--- part-put-line-end c = omega (arith, row_fits c.before.before.before.before.before.before.before.requires c.before.before.before.loop.invariant (omega arith))
-
 pub put_line-at-requires : goal.put_line-at-requires
 put_line-at-requires c =
     simp length-take (omega (arith, line-fits c.requires c.loop-p.invariant (omega arith)))
@@ -23,9 +18,6 @@ put_line-at-requires c =
 pub loop-p-preserved : goal.loop-p-preserved
 loop-p-preserved c =
     more c.loop-p.invariant (omega arith) c.put_line-at.ensures
-
--- LOST same-length
--- same_length c = put_long c.before.loop.invariant.put
 
 pub returns : goal.returns
 returns c = finished c.loop-p.invariant (omega arith)

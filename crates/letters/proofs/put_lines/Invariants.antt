@@ -1,10 +1,7 @@
 -- `letters::put_lines` meets its contract. The invariant: the lines of the first p patterns stand.
 -- Assumes nothing.
-use lib.ListN.{length-take}
-use native.Mathlib.Omega.{arith}
 use Prim.Native.Nat.{◌-◌}
-use Rattle.letters.proofs.Lines.{SoFar, start, row_fits, line-fits, more, finished}
-use Rattle.ground.proofs.Put.{put_long}
+use Rattle.letters.proofs.Lines.{SoFar}
 use Rattle.letters.proofs.put_lines.Given as goal
 
 abbrev pub invariant-loop-p : goal.invariant-loop-p

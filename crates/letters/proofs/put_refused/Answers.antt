@@ -1,7 +1,6 @@
 -- `letters::put_refused` meets its contract: the word, the number and the place, one behind the other.
 -- Assumes nothing.
 use native.Mathlib.Omega.{arith}
-use borrow.Author.Rules.{rules}
 use Rattle.letters.proofs.Pieces.{refused_put}
 use Rattle.decimals.proofs.Digits.{digits_short}
 use Rattle.ground.proofs.Put.{put_long}

@@ -2,7 +2,6 @@
 -- Assumes nothing.
 use lib.ListN.{length-set}
 use native.Mathlib.Omega.{arith}
-use borrow.Author.Rules.{rules}
 use Rattle.letters.proofs.put_refused_word.Goals as goal
 
 pub bounds-out-1 : goal.bounds-out-1
