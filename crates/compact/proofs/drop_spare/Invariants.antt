@@ -1,0 +1,14 @@
+-- `compact::drop_spare` meets its contract. The invariant: the turns of the first patterns are left, and the counts are those of the set.
+-- Assumes nothing.
+use mathlib.Core.Path.{refl, ap, ◌∙◌}
+use borrow.Author.Rules.{rules}
+use lib.ListN.{length, length-replicate}
+use Rattle.tallies.proofs.Tallies.{room_after}
+use Rattle.compact.proofs.Turns.{ToGo, all_to_go, ready-next, one_gone, none_to_go}
+use Rattle.compact.proofs.drop_spare.Given as goal
+
+abbrev pub invariant-loop-left : goal.invariant-loop-left
+invariant-loop-left l = ToGo l.table l.faults l.patterns l.seen l.initial.counts l.initial.marks l.left l.counts l.marks
+
+abbrev pub decreases-loop-left : goal.decreases-loop-left
+decreases-loop-left l = l.left
