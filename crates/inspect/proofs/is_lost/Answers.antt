@@ -1,0 +1,14 @@
+-- `inspect::is_lost` meets its contract: by its tests.
+-- Assumes nothing.
+use borrow.Author.Rules.{rules}
+use borrow.Author.Tests.{eq-eqb, ne_eqb}
+use Rattle.inspect.specs.Owed.{lost_in}
+use Rattle.inspect.proofs.is_lost.Goals as goal
+
+pub returns-then-dropped-f-ne1 : goal.returns-then-dropped-f-ne1
+unfolding lost_in
+returns-then-dropped-f-ne1 c = simp (ne_eqb _ _ c.if-dropped-f-ne1.true)
+
+pub returns : goal.returns
+unfolding lost_in
+returns c = simp (eq-eqb _ _ c.if-dropped-f-ne1.false)
