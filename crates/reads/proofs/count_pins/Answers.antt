@@ -1,11 +1,9 @@
 -- `reads::count_pins` meets its contract: one pin after the other.
 -- Assumes nothing.
 use native.Mathlib.Omega.{arith}
-use Prim.Native.Nat.{◌-◌}
-use borrow.Author.Rules.{rules}
 use Rattle.gates.proofs.Laws.{few_pins}
 use Rattle.circuit.specs.Record.{kind_at}
-use Rattle.reads.proofs.Counted.{Pins, no_pin, next-pin, all_pins}
+use Rattle.reads.proofs.Counted.{no_pin, next-pin, all_pins}
 use Rattle.reads.proofs.count_pins.Goals as goal
 
 pub loop-s-init : goal.loop-s-init
@@ -19,10 +17,7 @@ count_pin-requires c =
 pub loop-s-preserved : goal.loop-s-preserved
 loop-s-preserved c =
     let call = c.count_pin in
-    next-pin c.loop-s.invariant (omega arith) call.auto.1.1.1.0 call.ensures
-
--- LOST same-length
--- same_length c = c.before.loop.invariant.long
+    next-pin c.loop-s.invariant (omega arith) call.auto.reads call.ensures
 
 pub returns : goal.returns
 returns c = all_pins c.loop-s.invariant (omega arith) c.pins-has.ensures

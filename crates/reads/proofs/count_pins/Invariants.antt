@@ -1,11 +1,7 @@
 -- `reads::count_pins` meets its contract: one pin after the other.
 -- Assumes nothing.
-use native.Mathlib.Omega.{arith}
 use Prim.Native.Nat.{◌-◌}
-use borrow.Author.Rules.{rules}
-use Rattle.gates.proofs.Laws.{few_pins}
-use Rattle.circuit.specs.Record.{kind_at}
-use Rattle.reads.proofs.Counted.{Pins, no_pin, next-pin, all_pins}
+use Rattle.reads.proofs.Counted.{Pins}
 use Rattle.reads.proofs.count_pins.Given as goal
 
 abbrev pub invariant-loop-s : goal.invariant-loop-s

@@ -1,9 +1,7 @@
 -- `reads::count_reads` meets its contract: one line after the other, from nothing counted on.
 -- Assumes nothing.
 use native.Mathlib.Omega.{arith}
-use Prim.Native.Nat.{◌-◌}
-use lib.ListN.{length}
-use Rattle.reads.proofs.Counted.{Lines, no_line, next-line, all_lines}
+use Rattle.reads.proofs.Counted.{no_line, next-line, all_lines}
 use Rattle.reads.proofs.count_reads.Goals as goal
 
 pub loop-j-init : goal.loop-j-init
@@ -18,10 +16,7 @@ pub loop-j-preserved : goal.loop-j-preserved
 loop-j-preserved c =
     let so = c.loop-j.invariant in
     let call = c.count_pins in
-    next-line so (omega (arith, so.long)) call.auto.1.1.0 call.ensures
-
--- LOST same-length
--- same_length c = c.before.loop.invariant.long
+    next-line so (omega (arith, so.long)) call.auto.reads call.ensures
 
 pub returns : goal.returns
 returns c = all_lines c.loop-j.invariant (omega (arith, c.loop-j.invariant.long))

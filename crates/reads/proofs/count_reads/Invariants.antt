@@ -1,9 +1,8 @@
 -- `reads::count_reads` meets its contract: one line after the other, from nothing counted on.
 -- Assumes nothing.
-use native.Mathlib.Omega.{arith}
 use Prim.Native.Nat.{◌-◌}
 use lib.ListN.{length}
-use Rattle.reads.proofs.Counted.{Lines, no_line, next-line, all_lines}
+use Rattle.reads.proofs.Counted.{Lines}
 use Rattle.reads.proofs.count_reads.Given as goal
 
 abbrev pub invariant-loop-j : goal.invariant-loop-j
