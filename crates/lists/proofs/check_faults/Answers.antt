@@ -4,7 +4,6 @@ use borrow.Author.Tests.{not-true, not-false}
 use mathlib.Core.Path.{refl, sym, ◌∙◌}
 use Rattle.answers.proofs.Places.{whole_broken, place_broken, none_broken}
 use Rattle.lists.specs.Faults.{fault_rules}
-use borrow.Author.Rules.{rules}
 use Rattle.lists.proofs.check_faults.Goals as goal
 
 pub returns-then-not-records_ok : goal.returns-then-not-records_ok

@@ -1,7 +1,6 @@
 -- `lists::check_lists` meets its contract: a refusal of the faults is handed on, else the patterns decide.
 -- Assumes nothing.
 use mathlib.Core.Path.{sym, ◌∙◌}
-use borrow.Author.Rules.{rules}
 use Rattle.lists.specs.Patterns.{pattern_rules}
 use Rattle.lists.specs.Faults.{fault_rules}
 use Rattle.answers.proofs.Rules.{after_refused, after_fine}

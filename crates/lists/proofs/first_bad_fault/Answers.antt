@@ -1,11 +1,9 @@
 -- `lists::first_bad_fault` meets its contract. The invariant: every record passed keeps its layout.
 -- Assumes nothing.
 use borrow.Author.Tests.{not-true, not-false}
-use Prim.Native.Nat.{◌≤◌, ◌-◌}
 use mathlib.Core.Path.{sym, ◌∙◌}
-use Rattle.ground.proofs.First.{Every, every_none, every_next, stopped, passed}
+use Rattle.ground.proofs.First.{every_none, every_next, stopped, passed}
 use native.Mathlib.Omega.{arith}
-use Rattle.lists.specs.Faults.{fault_ok}
 use Rattle.lists.proofs.first_bad_fault.Goals as goal
 
 pub loop-j-init : goal.loop-j-init

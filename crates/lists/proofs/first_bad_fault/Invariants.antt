@@ -1,10 +1,7 @@
 -- `lists::first_bad_fault` meets its contract. The invariant: every record passed keeps its layout.
 -- Assumes nothing.
-use borrow.Author.Tests.{not-true, not-false}
 use Prim.Native.Nat.{◌≤◌, ◌-◌}
-use mathlib.Core.Path.{sym, ◌∙◌}
-use Rattle.ground.proofs.First.{Every, every_none, every_next, stopped, passed}
-use native.Mathlib.Omega.{arith}
+use Rattle.ground.proofs.First.{Every}
 use Rattle.lists.specs.Faults.{fault_ok}
 use Rattle.lists.proofs.first_bad_fault.Given as goal
 

@@ -1,6 +1,5 @@
 -- `lists::read_fault` meets its contract: each field is read where the record has it.
 -- Assumes nothing.
-use borrow.Author.Rules.{rules}
 use Rattle.lists.proofs.read_fault.Goals as goal
 
 pub returns : goal.returns
