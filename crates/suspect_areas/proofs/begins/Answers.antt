@@ -2,13 +2,9 @@
 -- Assumes nothing.
 use mathlib.Core.Path.{refl, sym, ap}
 use mathlib.Core.Bool.{not}
-use Prim.Native.Nat.{◌-◌}
 use native.Mathlib.Omega.{arith}
-use lib.ListN.{length}
-use borrow.Author.Rules.{rules}
 use borrow.Author.Tests.{eq-eqb, ne_eqb}
-use Rattle.ground.proofs.Below.{None, none_yet, none_more, found, not_found}
-use Rattle.suspect_areas.specs.Bytes.{differs}
+use Rattle.ground.proofs.Below.{none_yet, none_more, found, not_found}
 use Rattle.suspect_areas.proofs.begins.Goals as goal
 
 pub loop-i-init : goal.loop-i-init

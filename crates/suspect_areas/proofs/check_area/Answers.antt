@@ -1,23 +1,16 @@
 -- `suspect_areas::check_area` meets its contract: the size first, then what the bytes hold.
 -- Assumes nothing.
-use mathlib.Core.Path.{◌≡◌, sym, ◌∙◌}
-use borrow.Author.Rules.{rules}
-use Rattle.answers.specs.declared.Ruling.TheVariants.{Fine}
-use Rattle.answers.specs.Rules.{refusal}
+use mathlib.Core.Path.{sym, ◌∙◌}
 use Rattle.answers.proofs.Rules.{after_refused, after_fine}
 use Rattle.suspect_areas.specs.Promise.{size_rules, held_area_rules}
 use Rattle.suspect_areas.proofs.Says.{fine_size}
 use Rattle.suspect_areas.proofs.check_area.Goals as goal
 
--- the area has its size
-fine : (c : tie.After-enum-told) → refusal (size_rules c.before.before.before.before.args.area.now) ≡ Fine
-fine c = sym c.before.before.check-size.ensures ∙ c.enum_told.given.1
-
 pub check_held-requires : goal.check_held-requires
-check_held-requires c = fine_size _ (fine c)
+check_held-requires c = fine_size _ (sym c.check_size.ensures ∙ c.in-Fine.is)
 
 pub returns-in-Refused : goal.returns-in-Refused
 returns-in-Refused c = sym (after_refused (size_rules _) (held_area_rules _) (sym c.check_size.ensures ∙ c.in-Refused.is))
 
 pub returns-in-Fine : goal.returns-in-Fine
-returns-in-Fine c = c.check_held.ensures ∙ sym (after_fine (size_rules _) (held_area_rules _) (fine c))
+returns-in-Fine c = c.check_held.ensures ∙ sym (after_fine (size_rules _) (held_area_rules _) (sym c.check_size.ensures ∙ c.in-Fine.is))

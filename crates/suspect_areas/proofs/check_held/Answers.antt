@@ -1,7 +1,6 @@
 -- `suspect_areas::check_held` meets its contract: by its test.
 -- Assumes nothing.
 use mathlib.Core.Path.{sym, ◌∙◌}
-use borrow.Author.Rules.{rules}
 use Rattle.answers.specs.Rules.{said, refusal}
 use Rattle.suspect_areas.specs.Promise.{held_area_rules}
 use Rattle.suspect_areas.proofs.check_held.Goals as goal

@@ -1,7 +1,6 @@
 -- `suspect_areas::check_opening` meets its contract: the size first, then the table's rules.
 -- Assumes nothing.
 use mathlib.Core.Path.{sym, ◌∙◌}
-use borrow.Author.Rules.{rules}
 use Rattle.answers.proofs.Rules.{after_refused, after_fine}
 use Rattle.tables.specs.Table.{table_rules}
 use Rattle.suspect_areas.specs.Promise.{size_rules}

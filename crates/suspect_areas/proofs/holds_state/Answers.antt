@@ -4,7 +4,6 @@ use mathlib.Core.Path.{sym, ap, ◌∙◌}
 use native.Mathlib.Omega.{arith}
 use lib.ListN.{length}
 use borrow.Author.Rules.{rules}
-use borrow.Author.Tests.{not-true, not-false}
 use Rattle.answers.proofs.Area.{area_length}
 use Rattle.suspects.proofs.State.{opened_same}
 use Rattle.suspect_areas.specs.Bytes.{numbers_of}
@@ -13,11 +12,11 @@ use Rattle.suspect_areas.proofs.holds_state.Goals as goal
 
 pub returns-then-not-is_opened : goal.returns-then-not-is_opened
 returns-then-not-is_opened c =
-    not_opened c.args.area.now c.requires c.state_in-state.ensures (sym c.is_opened.ensures ∙ not-true _ c.if-not-is_opened.true-raw)
+    not_opened c.args.area.now c.requires c.state_in-state.ensures (sym c.is_opened.ensures ∙ c.if-not-is_opened.true)
 
 pub put_front-requires : goal.put_front-requires
 put_front-requires c =
-    ((opened_same _).holds (sym c.is_opened.ensures ∙ not-false _ c.if-not-is_opened.false-raw), search rules)
+    ((opened_same _).holds (sym c.is_opened.ensures ∙ c.if-not-is_opened.false), search rules)
 
 pub begins-requires : goal.begins-requires
 begins-requires c =
@@ -25,5 +24,5 @@ begins-requires c =
 
 pub returns : goal.returns
 returns c =
-    by_front c.args.area.now c.requires c.state_in-state.ensures (sym c.is_opened.ensures ∙ not-false _ c.if-not-is_opened.false-raw)
+    by_front c.args.area.now c.requires c.state_in-state.ensures (sym c.is_opened.ensures ∙ c.if-not-is_opened.false)
     c.put_front.ensures c.begins.ensures

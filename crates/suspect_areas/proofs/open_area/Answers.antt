@@ -1,27 +1,20 @@
 -- `suspect_areas::open_area` meets its contract: the rules first, then the bytes of the state in which all faults remain.
 -- Assumes nothing.
-use mathlib.Core.Path.{◌≡◌, refl, sym, ap, ◌∙◌}
+use mathlib.Core.Path.{refl, sym, ap, ◌∙◌}
 use native.Mathlib.Omega.{arith}
-use borrow.Author.Rules.{rules}
-use Rattle.answers.specs.declared.Ruling.TheVariants.{Fine}
-use Rattle.answers.specs.Rules.{refusal}
 use Rattle.suspects.proofs.State.{state_opened}
 use Rattle.suspects.proofs.Promise.{is_refused, is_taken}
 use Rattle.suspect_areas.specs.Bytes.{bytes_of}
-use Rattle.suspect_areas.specs.Promise.{open_area_rules}
 use Rattle.suspect_areas.proofs.Says.{fine_open}
 use Rattle.suspect_areas.proofs.open_area.Goals as goal
 
-fine : (c : tie.After-enum-told) → let a = (entry c).args in refusal (open_area_rules a.area.now a.fault-count a.pattern-count a.table.now) ≡ Fine
-fine c = sym c.before.before.check-opening.ensures ∙ c.enum_told.given.1
-
 pub all_remain-requires : goal.all_remain-requires
-all_remain-requires c = let a = c.args in omega (arith, (fine_open a.area.now a.fault_count a.pattern_count a.table.now (fine c)).1.few_faults)
+all_remain-requires c = let a = c.args in omega (arith, (fine_open a.area.now a.fault_count a.pattern_count a.table.now (sym c.check_opening.ensures ∙ c.in-Fine.is)).1.few_faults)
 
 pub put_state-requires : goal.put_state-requires
 put_state-requires c =
     let a = c.args in
-    let w = fine_open a.area.now a.fault_count a.pattern_count a.table.now (fine c) in
+    let w = fine_open a.area.now a.fault_count a.pattern_count a.table.now (sym c.check_opening.ensures ∙ c.in-Fine.is) in
     (rw c.all_remain.ensures (state_opened _ _ _ w.1.some_fault w.1.few_faults w.1.some_pattern w.1.few_patterns), w.0)
 
 pub returns-in-Refused : goal.returns-in-Refused
@@ -29,4 +22,4 @@ returns-in-Refused c = is_refused (sym c.check_opening.ensures ∙ c.in-Refused.
 
 pub returns-in-Fine : goal.returns-in-Fine
 returns-in-Fine c =
-    is_taken (fine c) refl (c.put_state.ensures ∙ ap bytes_of c.all_remain.ensures)
+    is_taken (sym c.check_opening.ensures ∙ c.in-Fine.is) refl (c.put_state.ensures ∙ ap bytes_of c.all_remain.ensures)

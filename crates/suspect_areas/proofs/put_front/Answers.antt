@@ -2,7 +2,6 @@
 -- Assumes nothing.
 use native.Mathlib.Nat.{mul-le-mul}
 use native.Mathlib.Omega.{arith}
-use borrow.Author.Rules.{rules}
 use Rattle.suspect_areas.proofs.put_front.Goals as goal
 
 pub overflow_mul-state : goal.overflow_mul-state

@@ -1,26 +1,19 @@
 -- `suspect_areas::read_marks` meets its contract: the rules first, then the marks of the state that stands there.
 -- Assumes nothing.
-use mathlib.Core.Path.{◌≡◌, sym, ◌∙◌}
+use mathlib.Core.Path.{sym, ◌∙◌}
 use native.Mathlib.Omega.{arith}
-use borrow.Author.Rules.{rules}
-use Rattle.answers.specs.declared.Ruling.TheVariants.{Fine}
-use Rattle.answers.specs.Rules.{refusal}
-use Rattle.suspect_areas.specs.Promise.{marks_area_rules}
 use Rattle.suspect_areas.proofs.Held.{marks_long}
 use Rattle.suspect_areas.proofs.Says.{fine_marks}
 use Rattle.suspect_areas.proofs.Promise.{reading_refused, reading_fine}
 use Rattle.suspect_areas.proofs.read_marks.Goals as goal
 
-fine : (c : tie.After-enum-told) → refusal (marks_area_rules (entry c).args.area.now (entry c).args.marks.now) ≡ Fine
-fine c = sym c.before.before.check-reading.ensures ∙ c.enum_told.given.1
-
 pub state_in-state-requires : goal.state_in-state-requires
-state_in-state-requires c = (fine_marks c.args.area.now c.args.marks.now (fine c)).0.size
+state_in-state-requires c = (fine_marks c.args.area.now c.args.marks.now (sym c.check_reading.ensures ∙ c.in-Fine.is)).0.size
 
 pub put_marks-requires : goal.put_marks-requires
 put_marks-requires c =
     let area = c.args.area.now in
-    let w = fine_marks area c.args.marks.now (fine c) in
+    let w = fine_marks area c.args.marks.now (sym c.check_reading.ensures ∙ c.in-Fine.is) in
     rw c.state_in-state.ensures (w.1, omega (arith, w.0.opened.few_faults, marks_long area w.0.size))
 
 pub returns-in-Refused : goal.returns-in-Refused
@@ -29,4 +22,4 @@ returns-in-Refused c =
 
 pub returns-in-Fine : goal.returns-in-Fine
 returns-in-Fine c =
-    reading_fine c.args.area.now c.args.marks.now (fine c) c.state_in-state.ensures c.put_marks.ensures
+    reading_fine c.args.area.now c.args.marks.now (sym c.check_reading.ensures ∙ c.in-Fine.is) c.state_in-state.ensures c.put_marks.ensures
