@@ -1,6 +1,5 @@
 -- `states::check_clocked` meets its contract: a refusal of the circuit is handed on, else the steps decide.
 -- Assumes nothing.
-use borrow.Author.Rules.{rules}
 use Rattle.circuit.proofs.Accepted.{accepts, refuses, known}
 use Rattle.states.proofs.Steps.{circuit_refused, steps_decide}
 use Rattle.states.proofs.check_clocked.Goals as goal

@@ -1,7 +1,6 @@
 -- `states::check_states` meets its contract: one answer for each branch.
 -- Assumes nothing.
 use mathlib.Core.Path.{refl}
-use borrow.Author.Rules.{rules}
 use borrow.Author.Tests.{eq-eqb, ne_eqb}
 use Rattle.answers.proofs.Places.{whole_broken, place_broken, none_broken}
 use Rattle.states.specs.Rules.{state_rules}

@@ -1,12 +1,8 @@
 -- `states::first_with` meets its contract. The invariant: no record passed has this state line.
 -- Assumes nothing.
-use mathlib.Core.Bool.{not}
-use Prim.Native.Nat.{◌≤◌, ◌-◌}
 use native.Mathlib.Omega.{arith}
-use lib.Dec.{eqb}
 use borrow.Author.Tests.{eq-eqb, ne_eqb}
-use Rattle.ground.proofs.First.{Every, every_none, every_next, stopped, passed}
-use Rattle.states.specs.States.{state_line}
+use Rattle.ground.proofs.First.{every_none, every_next, stopped, passed}
 use Rattle.states.specs.Owed.{first_with}
 use Rattle.states.proofs.first_with.Goals as goal
 

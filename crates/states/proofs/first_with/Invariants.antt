@@ -2,12 +2,9 @@
 -- Assumes nothing.
 use mathlib.Core.Bool.{not}
 use Prim.Native.Nat.{◌≤◌, ◌-◌}
-use native.Mathlib.Omega.{arith}
 use lib.Dec.{eqb}
-use borrow.Author.Tests.{eq-eqb, ne_eqb}
-use Rattle.ground.proofs.First.{Every, every_none, every_next, stopped, passed}
+use Rattle.ground.proofs.First.{Every}
 use Rattle.states.specs.States.{state_line}
-use Rattle.states.specs.Owed.{first_with}
 use Rattle.states.proofs.first_with.Given as goal
 
 abbrev pub invariant-loop-r : goal.invariant-loop-r

@@ -1,9 +1,7 @@
 -- `states::free_inputs` meets its contract. The invariant: how many of the lines passed are free.
 -- Assumes nothing.
-use Prim.Native.Nat.{◌-◌}
 use native.Mathlib.Omega.{arith}
-use Rattle.ground.proofs.Counting.{Sum, no_sum, sum_small, sum_more, sum_all}
-use Rattle.states.specs.States.{is_free}
+use Rattle.ground.proofs.Counting.{no_sum, sum_small, sum_more, sum_all}
 use Rattle.states.proofs.free_inputs.Goals as goal
 
 pub loop-m-init : goal.loop-m-init

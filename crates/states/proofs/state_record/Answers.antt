@@ -1,6 +1,5 @@
 -- `states::state_record` meets its contract: the first of all records.
 -- Assumes nothing.
-use borrow.Author.Rules.{rules}
 use Rattle.states.specs.States.{state_record}
 use Rattle.states.specs.Owed.{first_with}
 use Rattle.states.proofs.state_record.Goals as goal
