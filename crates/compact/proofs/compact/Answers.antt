@@ -3,11 +3,11 @@
 use mathlib.Core.Path.{sym, ◌∙◌}
 use Rattle.tables.proofs.Says.{fine_kept}
 use Rattle.compact.proofs.Promise.{refused, marked}
-use borrow.Author.Rules.{rules}
 use Rattle.compact.proofs.compact.Goals as goal
 
 pub mark_table-requires : goal.mark_table-requires
-mark_table-requires c = fine_kept _ _ _ _ (sym c.check_marks.ensures ∙ c.in-Fine.is)
+mark_table-requires c =
+    let h = fine_kept _ _ _ _ (sym c.check_marks.ensures ∙ c.in-Fine.is) in record { sized = h.0; marks_len = h.1 }
 
 pub returns-in-Refused : goal.returns-in-Refused
 returns-in-Refused c = refused (sym c.check_marks.ensures ∙ c.in-Refused.is)

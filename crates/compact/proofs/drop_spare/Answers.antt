@@ -4,7 +4,7 @@ use mathlib.Core.Path.{refl, ap, ◌∙◌}
 use borrow.Author.Rules.{rules}
 use lib.ListN.{length, length-replicate}
 use Rattle.tallies.proofs.Tallies.{room_after}
-use Rattle.compact.proofs.Turns.{ToGo, all_to_go, ready-next, one_gone, none_to_go}
+use Rattle.compact.proofs.Turns.{all_to_go, ready-next, one_gone, none_to_go}
 use Rattle.compact.proofs.drop_spare.Goals as goal
 
 pub loop-left-init : goal.loop-left-init
@@ -12,18 +12,17 @@ loop-left-init c = all_to_go c.requires.marks_value c.requires.tallied
 
 pub turn-requires : goal.turn-requires
 turn-requires c =
-    let l = c.loop-left in record { tally_room = room_after _ _ c.requires.tally_room l.invariant.cells refl; turn_room = (record { marks = l.invariant.marks ∙ ap length c.requires.marks_value ∙ length-replicate _ 1; below = search rules }, ready-next l.invariant (search rules)); turn_ready =  }
+    let l = c.loop-left in
+    record {
+      tally_room = room_after _ _ c.requires.tally_room l.invariant.cells refl;
+      turn_room = record { marks = l.invariant.marks ∙ ap length c.requires.marks_value ∙ length-replicate _ 1; below = search rules };
+      turn_ready = ready-next l.invariant (search rules);
+    }
 
 pub loop-left-preserved : goal.loop-left-preserved
 loop-left-preserved c =
     let w = c.turn in
-    one_gone c.loop-left.invariant (search rules) w.auto.0 w.auto.1.1.0 w.ensures
-
--- LOST same-length
--- same_length c = c.before.loop.invariant.cells
-
--- LOST same-length-2
--- same-length-2 c = c.before.loop.invariant.marks
+    one_gone c.loop-left.invariant (search rules) w.auto.counts w.auto.marks w.ensures
 
 pub returns : goal.returns
 returns c = none_to_go c.loop-left.invariant (search rules)

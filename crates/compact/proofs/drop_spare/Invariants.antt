@@ -1,10 +1,6 @@
 -- `compact::drop_spare` meets its contract. The invariant: the turns of the first patterns are left, and the counts are those of the set.
 -- Assumes nothing.
-use mathlib.Core.Path.{refl, ap, ◌∙◌}
-use borrow.Author.Rules.{rules}
-use lib.ListN.{length, length-replicate}
-use Rattle.tallies.proofs.Tallies.{room_after}
-use Rattle.compact.proofs.Turns.{ToGo, all_to_go, ready-next, one_gone, none_to_go}
+use Rattle.compact.proofs.Turns.{ToGo}
 use Rattle.compact.proofs.drop_spare.Given as goal
 
 abbrev pub invariant-loop-left : goal.invariant-loop-left

@@ -1,12 +1,11 @@
 -- `compact::keep_all` meets its contract. The invariant: the first i marks are 1, and the others as they were.
 -- Assumes nothing.
 use mathlib.Core.Path.{◌≡◌, refl, ◌∙◌}
-use mathlib.Core.List.{◌++◌, append-nil}
-use Prim.Native.Nat.{◌-◌, ◌≤◌}
+use mathlib.Core.List.{append-nil}
 use native.Mathlib.Omega.{arith}
 use borrow.Author.Fill.{fill_none, fill_more}
 use borrow.Author.Rules.{rules}
-use lib.ListN.{length, drop, replicate, length-set, drop_of_length-le}
+use lib.ListN.{length, length-set, drop_of_length-le}
 use Rattle.compact.proofs.keep_all.Goals as goal
 
 pub loop-i-init : goal.loop-i-init
@@ -16,9 +15,6 @@ pub loop-i-preserved : goal.loop-i-preserved
 loop-i-preserved c =
     let l = c.loop-i in
     (search rules, simp length-set l.invariant.1, rw l.invariant.2 (fill_more l.i 1 c.args.marks.now (search rules)))
-
--- LOST same-length
--- same_length c = c.before.loop.invariant.1
 
 pub returns : goal.returns
 returns c =

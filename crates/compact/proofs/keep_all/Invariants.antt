@@ -1,12 +1,9 @@
 -- `compact::keep_all` meets its contract. The invariant: the first i marks are 1, and the others as they were.
 -- Assumes nothing.
-use mathlib.Core.Path.{◌≡◌, refl, ◌∙◌}
-use mathlib.Core.List.{◌++◌, append-nil}
+use mathlib.Core.Path.{◌≡◌}
+use mathlib.Core.List.{◌++◌}
 use Prim.Native.Nat.{◌-◌, ◌≤◌}
-use native.Mathlib.Omega.{arith}
-use borrow.Author.Fill.{fill_none, fill_more}
-use borrow.Author.Rules.{rules}
-use lib.ListN.{length, drop, replicate, length-set, drop_of_length-le}
+use lib.ListN.{length, drop, replicate}
 use Rattle.compact.proofs.keep_all.Given as goal
 
 abbrev pub invariant-loop-i : goal.invariant-loop-i

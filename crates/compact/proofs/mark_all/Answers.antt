@@ -5,7 +5,6 @@ use Prim.Native.Nat.{ℕ}
 use lib.ListN.{replicate}
 use Rattle.ground.proofs.Filled.{filled-length}
 use Rattle.tallies.proofs.Tallies.{started, room_after}
-use borrow.Author.Rules.{rules}
 use Rattle.compact.proofs.mark_all.Goals as goal
 
 pub tally-requires : goal.tally-requires
@@ -18,4 +17,9 @@ slice_bounds-drop_spare-end c = sym (c.tally.auto.seen ∙ filled-length 256 0)
 
 pub drop_spare-requires : goal.drop_spare-requires
 drop_spare-requires c =
-    let n = c.tally in record { tally_room = room_after _ _ (started c.requires.cleared c.requires.sized).0 n.auto.0 n.auto.1.0; marks_value = (c.keep_all.ensures ∙ ap (λ (n : ℕ). replicate n 1) c.requires.marks_len, n.ensures); tallied =  }
+    let n = c.tally in
+    record {
+      tally_room = room_after _ _ (started c.requires.cleared c.requires.sized).0 n.auto.counts n.auto.seen;
+      marks_value = c.keep_all.ensures ∙ ap (λ (n : ℕ). replicate n 1) c.requires.marks_len;
+      tallied = n.ensures;
+    }

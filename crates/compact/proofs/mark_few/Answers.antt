@@ -1,9 +1,6 @@
 -- `compact::mark_few` meets its contract: the counts start at 0.
 -- Assumes nothing.
-use mathlib.Core.Path.{sym}
 use native.Mathlib.Omega.{arith}
-use borrow.Author.Rules.{rules}
-use Rattle.ground.proofs.Filled.{filled-length}
 use Rattle.tallies.proofs.Tallies.{cleared}
 use Rattle.compact.proofs.mark_few.Goals as goal
 

@@ -25,4 +25,4 @@ count_pattern-requires c = row_cells c.requires.tally_room _ c.requires.turn_roo
 pub returns : goal.returns
 returns c =
     goes c.requires.tally_room.few_faults c.requires.tally_room.few_patterns c.requires.turn_room.below c.requires.turn_ready c.needed.ensures c.if-needed.false c.count_pattern.ensures
-    (λ k. omega (arith, c.slice_known-3-1.given k))
+    (λ k. omega (arith, c.type_inv.counts k))
