@@ -1,6 +1,5 @@
 -- `audit::audit_table` meets its contract: the marks first, then what the tallies show.
 -- Assumes nothing.
-use borrow.Author.Rules.{rules}
 use Rattle.inspect.proofs.InOrder.{found_bad, marks_ready}
 use Rattle.audit.proofs.audit_table.Goals as goal
 

@@ -1,7 +1,6 @@
 -- `audit::tally_both` meets its contract: what the two tallies leave is what is asked for to look.
 -- Assumes nothing.
 use mathlib.Core.Path.{sym, ◌∙◌}
-use borrow.Author.Rules.{rules}
 use Rattle.ground.proofs.Filled.{filled-length}
 use Rattle.tallies.proofs.Tallies.{started, room_after}
 use Rattle.audit.proofs.tally_both.Goals as goal
@@ -28,8 +27,8 @@ find-requires c =
     let k = c.tally in
     let d = c.tally-2 in
     record {
-      kept_room = room_after _ _ (started c.requires.cleared.0 c.requires.sized).0 k.auto.0 k.auto.1.0;
-      dropped_room = room_after _ _ (started c.requires.cleared.1 c.requires.sized).0 d.auto.0 d.auto.1.0;
+      kept_room = room_after _ _ (started c.requires.cleared.0 c.requires.sized).0 k.auto.counts k.auto.seen;
+      dropped_room = room_after _ _ (started c.requires.cleared.1 c.requires.sized).0 d.auto.counts d.auto.seen;
       marks = c.requires.marks_ready;
       kept_tally = k.ensures;
       dropped_tally = d.ensures;
