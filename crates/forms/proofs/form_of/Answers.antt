@@ -11,7 +11,6 @@ use mathlib.Core.Bool.{Bool}
 use mathlib.Core.List.{List}
 use Rattle.ground.specs.Choose.{choose}
 use native.Mathlib.Omega.{arith}
-use borrow.Author.Rules.{rules}
 use Rattle.forms.proofs.form_of.Goals as goal
 
 pub is_name-requires : goal.is_name-requires
@@ -27,35 +26,35 @@ form-two t ws es k p q w n e = rw (eq-eqb (size_at es k) 2 (sym p ∙ q), ← w,
 pub returns-then-is_name : goal.returns-then-is_name
 unfolding input_word
 returns-then-is_name c =
-    form-two _ _ _ _ c.type_size.ensures c.if-s-eq2.true c.word_in.ensures.0 c.is_name.ensures c.if-is_name.true
+    form-two _ _ _ _ c.size_of-s.ensures c.if-s-eq2.true c.word_in.ensures.0 c.is_name.ensures c.if-is_name.true
 
 pub returns-then-s-eq2 : goal.returns-then-s-eq2
 unfolding input_word
 returns-then-s-eq2 c =
-    form-two _ _ _ _ c.type_size.ensures c.if-s-eq2.true c.word_in.ensures.0 c.is_name.ensures c.if-is_name.false
+    form-two _ _ _ _ c.size_of-s.ensures c.if-s-eq2.true c.word_in.ensures.0 c.is_name.ensures c.if-is_name.false
 
 pub returns-then-s-eq3 : goal.returns-then-s-eq3
 unfolding form_of
 returns-then-s-eq3 c =
     simp (
-      ne_eqb _ _ (λ e. c.if-s-eq2.false (c.type_size.ensures ∙ e)),
-      eq-eqb _ _ (sym c.type_size.ensures ∙ c.if-s-eq3.true),
+      ne_eqb _ _ (λ e. c.if-s-eq2.false (c.size_of-s.ensures ∙ e)),
+      eq-eqb _ _ (sym c.size_of-s.ensures ∙ c.if-s-eq3.true),
     )
 
 pub returns-then-s-eq4 : goal.returns-then-s-eq4
 unfolding form_of
 returns-then-s-eq4 c =
     simp (
-      ne_eqb _ _ (λ e. c.if-s-eq2.false (c.type_size.ensures ∙ e)),
-      ne_eqb _ _ (λ e. c.if-s-eq3.false (c.type_size.ensures ∙ e)),
-      eq-eqb _ _ (sym c.type_size.ensures ∙ c.if-s-eq4.true),
+      ne_eqb _ _ (λ e. c.if-s-eq2.false (c.size_of-s.ensures ∙ e)),
+      ne_eqb _ _ (λ e. c.if-s-eq3.false (c.size_of-s.ensures ∙ e)),
+      eq-eqb _ _ (sym c.size_of-s.ensures ∙ c.if-s-eq4.true),
     )
 
 pub returns : goal.returns
 unfolding form_of
 returns c =
     simp (
-      ne_eqb _ _ (λ e. c.if-s-eq2.false (c.type_size.ensures ∙ e)),
-      ne_eqb _ _ (λ e. c.if-s-eq3.false (c.type_size.ensures ∙ e)),
-      ne_eqb _ _ (λ e. c.if-s-eq4.false (c.type_size.ensures ∙ e)),
+      ne_eqb _ _ (λ e. c.if-s-eq2.false (c.size_of-s.ensures ∙ e)),
+      ne_eqb _ _ (λ e. c.if-s-eq3.false (c.size_of-s.ensures ∙ e)),
+      ne_eqb _ _ (λ e. c.if-s-eq4.false (c.size_of-s.ensures ∙ e)),
     )

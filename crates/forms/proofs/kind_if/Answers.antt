@@ -1,7 +1,6 @@
 -- `forms::kind_if` meets its contract.
 -- Assumes nothing.
 use mathlib.Core.Path.{sym, ◌∙◌}
-use borrow.Author.Rules.{rules}
 use Rattle.forms.proofs.kind_if.Goals as goal
 
 pub returns-then-is_name : goal.returns-then-is_name

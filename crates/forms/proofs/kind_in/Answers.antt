@@ -5,7 +5,6 @@ use Rattle.words.specs.Words.{word_at}
 use borrow.Author.Tests.{le-leb, lt-leb}
 use Prim.Native.Nat.{ℕ}
 use mathlib.Core.Path.{ap, ◌∙◌}
-use borrow.Author.Rules.{rules}
 use Rattle.forms.proofs.kind_in.Goals as goal
 
 pub returns-then-form-ge3 : goal.returns-then-form-ge3

@@ -1,11 +1,8 @@
 -- `forms::put_forms` meets its contract: the lines are taken one after the other.
 -- Assumes nothing.
 use Rattle.ground.proofs.Counting.{sum_small}
-use Rattle.forms.proofs.Forms.{Forming, start, next, finished}
-use Prim.Native.Nat.{◌-◌}
-use lib.ListN.{length}
+use Rattle.forms.proofs.Forms.{start, next, finished}
 use native.Mathlib.Omega.{arith}
-use borrow.Author.Rules.{rules}
 use Rattle.forms.proofs.put_forms.Goals as goal
 
 pub loop-k-init : goal.loop-k-init

@@ -1,11 +1,8 @@
 -- `forms::put_forms` meets its contract: the lines are taken one after the other.
 -- Assumes nothing.
-use Rattle.ground.proofs.Counting.{sum_small}
-use Rattle.forms.proofs.Forms.{Forming, start, next, finished}
+use Rattle.forms.proofs.Forms.{Forming}
 use Prim.Native.Nat.{◌-◌}
 use lib.ListN.{length}
-use native.Mathlib.Omega.{arith}
-use borrow.Author.Rules.{rules}
 use Rattle.forms.proofs.put_forms.Given as goal
 
 abbrev pub invariant-loop-k : goal.invariant-loop-k

@@ -2,7 +2,6 @@
 -- Assumes nothing.
 use Rattle.forms.specs.Lines.{size_at}
 use native.Mathlib.Omega.{arith}
-use borrow.Author.Rules.{rules}
 use Rattle.forms.proofs.size_of.Goals as goal
 
 pub returns-then-e-s : goal.returns-then-e-s

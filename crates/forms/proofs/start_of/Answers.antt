@@ -3,7 +3,6 @@
 use Rattle.forms.proofs.Lines.{first_line, later-line}
 use mathlib.Core.Path.{◌∙◌}
 use native.Mathlib.Omega.{arith}
-use borrow.Author.Rules.{rules}
 use Rattle.forms.proofs.start_of.Goals as goal
 
 pub returns-then-k-eq0 : goal.returns-then-k-eq0

@@ -5,7 +5,6 @@ use lib.ListN.{get_or, get_or-eq_default}
 use Prim.Native.Nat.{ℕ, ◌+◌}
 use mathlib.Core.Path.{sym, ap, ◌∙◌}
 use native.Mathlib.Omega.{arith}
-use borrow.Author.Rules.{rules}
 use Rattle.forms.proofs.word_in.Goals as goal
 
 pub returns-then-i-words : goal.returns-then-i-words
