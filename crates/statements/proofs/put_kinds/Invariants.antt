@@ -1,0 +1,22 @@
+-- `statements::put_kinds` meets its contract: the lines are taken one after the other, and a gate's kind stays.
+-- Assumes nothing.
+use Rattle.statements.proofs.Filling.{Filling, begun, more, so_many_are}
+use Rattle.statements.specs.Tables.{kinds_of}
+use Rattle.forms.specs.Forms.{says_gate}
+use Rattle.forms.specs.Lines.{word_in}
+use Rattle.syntax.specs.Kinds.{kind_of}
+use Rattle.words.specs.Words.{word_at}
+use Rattle.ground.specs.Choose.{choose}
+use Prim.Native.Nat.{ℕ, ◌-◌}
+use lib.ListN.{length}
+use mathlib.Core.Bool.{Bool, true}
+use mathlib.Core.Path.{◌≡◌, ap, ◌∙◌}
+use native.Mathlib.Omega.{arith}
+use borrow.Author.Rules.{rules}
+use Rattle.statements.proofs.put_kinds.Given as goal
+
+abbrev pub invariant-loop-k : goal.invariant-loop-k
+invariant-loop-k l = Filling (says_gate l.forms) (λ i. kind_of (word_at l.text (word_in l.words l.ends i 1))) (length l.forms) l.kinds l.g l.k
+
+abbrev pub decreases-loop-k : goal.decreases-loop-k
+decreases-loop-k l = length l.forms - l.k

@@ -1,0 +1,18 @@
+-- `statements::put_outs` meets its contract: the lines are taken one after the other, and an output's name stays.
+-- Assumes nothing.
+use Rattle.statements.proofs.Filling.{Filling, begun, more, all_are}
+use Rattle.statements.specs.Tables.{outs_of}
+use Rattle.forms.specs.Forms.{says_output}
+use Rattle.forms.specs.Lines.{word_in}
+use Prim.Native.Nat.{◌-◌}
+use lib.ListN.{length}
+use mathlib.Core.Path.{◌∙◌}
+use native.Mathlib.Omega.{arith}
+use borrow.Author.Rules.{rules}
+use Rattle.statements.proofs.put_outs.Given as goal
+
+abbrev pub invariant-loop-k : goal.invariant-loop-k
+invariant-loop-k l = Filling (says_output l.forms) (λ i. word_in l.words l.ends i 1) (length l.forms) l.outs l.d l.k
+
+abbrev pub decreases-loop-k : goal.decreases-loop-k
+decreases-loop-k l = length l.forms - l.k
