@@ -1,0 +1,38 @@
+-- `names::enter` meets its contract: each definition is looked for, and then joins the table.
+-- Assumes nothing.
+use mathlib.Core.Path.{sym, ap, ◌∙◌}
+use Prim.Native.Nat.{ℕ, ◌-◌}
+use native.Mathlib.Omega.{arith}
+use lib.ListN.{length, length-replicate}
+use borrow.Author.Rules.{rules}
+use Rattle.words.specs.Words.{word_at}
+use Rattle.names.specs.Owed.{hash_from}
+use Rattle.names.proofs.Loops.{Entering, enter_none, enter_more, enter_all}
+use Rattle.names.proofs.enter.Goals as goal
+
+pub loop-n-init : goal.loop-n-init
+loop-n-init c = enter_none c.requires
+
+pub find-found-requires : goal.find-found-requires
+find-found-requires c = (c.loop-n.invariant.table, c.hash-h.ensures)
+
+pub add-requires : goal.add-requires
+add-requires c =
+    let text = c.args.text.now in
+    let hashed = c.hash-h.ensures in
+    let same_place = ap (λ (i : ℕ). hash_from 0 (word_at text i)) c.wide16-at.ensures.0 in
+    (c.loop-n.invariant.table, omega arith, (hashed.0 ∙ same_place, hashed.1))
+
+pub loop-n-preserved : goal.loop-n-preserved
+loop-n-preserved c =
+    enter_more c.loop-n.invariant c.add.ensures c.wide16-at.result c.find-found.result c.lower-low.result
+    c.wide16-at.ensures.0 c.find-found.ensures c.lower-low.ensures
+
+-- LOST same-length
+-- same_length c = c.before.loop.invariant.table.heads ∙ sym (ap length c.before.before.before.before.before.before.requires.none ∙ length-replicate {A = ℕ} 8192 0)
+
+-- LOST same-length-2
+-- same-length-2 c = c.before.loop.invariant.table.nexts ∙ sym c.before.before.before.before.before.before.requires.room
+
+pub returns : goal.returns
+returns c = enter_all c.loop-n.invariant (omega arith)

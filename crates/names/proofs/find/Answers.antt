@@ -1,0 +1,45 @@
+-- `names::find` meets its contract: the definitions with the same hash are followed, the last first.
+-- Assumes nothing.
+use mathlib.Core.Path.{sym, ap, ◌∙◌}
+use Prim.Native.Nat.{ℕ}
+use native.Mathlib.Omega.{arith}
+use borrow.Author.Rules.{rules}
+use Rattle.words.specs.Words.{word_at, same}
+use Rattle.names.proofs.Chain.{ChainWalk, start, ended, inside, hit, more, falls}
+use Rattle.names.proofs.find.Goals as goal
+
+pub loop-p-init : goal.loop-p-init
+loop-p-init c = start c.requires.0 c.requires.1.0 c.requires.1.1 c.wide16-p.ensures.0
+
+pub offset_bounds-defs-d : goal.offset_bounds-defs-d
+offset_bounds-defs-d c = omega (arith, inside c.loop-p.invariant (omega arith))
+
+pub bounds-defs-d : goal.bounds-defs-d
+bounds-defs-d c = omega (arith, inside c.loop-p.invariant (omega arith))
+
+pub returns-then-same_word : goal.returns-then-same_word
+returns-then-same_word c =
+    let first = c.args in
+    let text = first.text.now in
+    let same_place = ap (λ (i : ℕ). same (word_at text i) (word_at text first.at)) c.wide16.ensures.0 in
+    hit c.loop-p.invariant (omega arith) (sym same_place ∙ sym c.same_word.ensures ∙ c.if-same_word.true)
+
+pub offset_bounds-next-d : goal.offset_bounds-next-d
+offset_bounds-next-d c = omega (arith, inside c.loop-p.invariant (omega arith))
+
+pub bounds-next-d : goal.bounds-next-d
+bounds-next-d c = omega (arith, inside c.loop-p.invariant (omega arith))
+
+pub loop-p-smaller : goal.loop-p-smaller
+loop-p-smaller c =
+    rw c.wide16-p-in-loop-p.ensures.0 (falls c.loop-p.invariant (omega arith) c.requires.0)
+
+pub loop-p-preserved : goal.loop-p-preserved
+loop-p-preserved c =
+    let text = c.args.text.now in
+    let same_place = ap (λ (i : ℕ). same (word_at text i) (word_at text c.args.at)) c.wide16.ensures.0 in
+    let other = sym same_place ∙ sym c.same_word.ensures ∙ c.if-same_word.false in
+    more c.loop-p.invariant (omega arith) c.requires.0 c.wide16-p-in-loop-p.result other c.wide16-p-in-loop-p.ensures.0
+
+pub returns : goal.returns
+returns c = ended c.loop-p.invariant (omega arith)

@@ -1,0 +1,15 @@
+-- `names::find` meets its contract: the definitions with the same hash are followed, the last first.
+-- Assumes nothing.
+use mathlib.Core.Path.{sym, ap, ◌∙◌}
+use Prim.Native.Nat.{ℕ}
+use native.Mathlib.Omega.{arith}
+use borrow.Author.Rules.{rules}
+use Rattle.words.specs.Words.{word_at, same}
+use Rattle.names.proofs.Chain.{ChainWalk, start, ended, inside, hit, more, falls}
+use Rattle.names.proofs.find.Given as goal
+
+abbrev pub invariant-loop-p : goal.invariant-loop-p
+invariant-loop-p l = ChainWalk l.text l.defs (word_at l.text l.at) l.n l.h l.p
+
+abbrev pub decreases-loop-p : goal.decreases-loop-p
+decreases-loop-p l = l.p

@@ -1,0 +1,31 @@
+-- `names::look_up` meets its contract: each name is looked for, and its number written.
+-- Assumes nothing.
+use mathlib.Core.Path.{sym, ◌∙◌}
+use Prim.Native.Nat.{◌-◌}
+use native.Mathlib.Omega.{arith}
+use lib.ListN.{length}
+use borrow.Author.Rules.{rules}
+use Rattle.names.proofs.Loops.{Looking, look_none, look-more, look-all}
+use Rattle.names.proofs.look_up.Goals as goal
+
+pub loop-u-init : goal.loop-u-init
+loop-u-init c =
+    look_none c.args.numbers.now c.requires
+
+pub find-found-requires : goal.find-found-requires
+find-found-requires c =
+    (c.requires.table, c.hash-h.ensures)
+
+pub loop-u-preserved : goal.loop-u-preserved
+loop-u-preserved c =
+    look-more c.loop-u.invariant (omega arith)
+    c.wide16-at.result c.find-found.result c.entry_before.result c.lower-lowest.result
+    c.wide16-at.ensures.0 c.find-found.ensures c.entry_before.ensures c.lower-lowest.ensures
+
+-- LOST same-length
+-- same_length c =
+--     let turn = c.before in
+--     turn.loop.invariant.numbers_are.long ∙ sym turn.before.before.before.before.before.before.before.before.requires.room
+
+pub returns : goal.returns
+returns c = look-all c.loop-u.invariant (omega arith)
