@@ -13,7 +13,6 @@ use lib.ListN.{length, get_or, set, length-set, get_or-replicate}
 use lib.Seq.{get_or-set_same, get_or-set_other}
 use borrow.Author.Tests.{lt-ltb, le-ltb}
 use Rattle.ground.specs.Choose.{choose, one}
-use Rattle.ground.specs.Below.{any_below}
 use Rattle.ground.proofs.Tests.{either}
 use Rattle.ground.proofs.Below.{any_same}
 use mathlib.Core.Logic.{⊎_elim}

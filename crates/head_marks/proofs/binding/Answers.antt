@@ -1,6 +1,5 @@
 -- `head_marks::binding` meets its contract: one answer for each branch.
 -- Assumes nothing.
-use borrow.Author.Rules.{rules}
 use borrow.Author.Tests.{eq-eqb, ne_eqb}
 use Rattle.head_marks.specs.Owed.{binds}
 use Rattle.head_marks.proofs.binding.Goals as goal

@@ -1,12 +1,11 @@
 -- `head_marks::is_bound` meets its contract: the first pin that reads such a line decides.
 -- Assumes nothing.
 use native.Mathlib.Omega.{arith}
-use Prim.Native.Nat.{◌-◌, ◌+◌}
-use borrow.Author.Rules.{rules}
-use Rattle.ground.proofs.Below.{None, none_yet}
+use Prim.Native.Nat.{◌+◌}
+use Rattle.ground.proofs.Below.{none_yet}
 use Rattle.gates.proofs.Laws.{few_pins}
 use Rattle.circuit.specs.Record.{kind_at}
-use Rattle.head_marks.proofs.Pins.{pin_binds, binds_yes, binds-not, binds_none}
+use Rattle.head_marks.proofs.Pins.{binds_yes, binds-not, binds_none}
 use Rattle.head_marks.proofs.is_bound.Goals as goal
 
 pub loop-s-init : goal.loop-s-init

@@ -1,12 +1,8 @@
 -- `head_marks::is_bound` meets its contract: the first pin that reads such a line decides.
 -- Assumes nothing.
-use native.Mathlib.Omega.{arith}
-use Prim.Native.Nat.{◌-◌, ◌+◌}
-use borrow.Author.Rules.{rules}
-use Rattle.ground.proofs.Below.{None, none_yet}
-use Rattle.gates.proofs.Laws.{few_pins}
-use Rattle.circuit.specs.Record.{kind_at}
-use Rattle.head_marks.proofs.Pins.{pin_binds, binds_yes, binds-not, binds_none}
+use Prim.Native.Nat.{◌-◌}
+use Rattle.ground.proofs.Below.{None}
+use Rattle.head_marks.proofs.Pins.{pin_binds}
 use Rattle.head_marks.proofs.is_bound.Given as goal
 
 abbrev pub invariant-loop-s : goal.invariant-loop-s

@@ -1,7 +1,6 @@
 -- `head_marks::mark_line` meets its contract: a bound line is marked and then its sources; of a free one nothing changes.
 -- Assumes nothing.
-use mathlib.Core.Path.{refl, ◌∙◌}
-use borrow.Author.Rules.{rules}
+use mathlib.Core.Path.{refl}
 use lib.ListN.{length-set}
 use Rattle.head_marks.proofs.Lines.{bound-marked, free-left}
 use Rattle.head_marks.proofs.mark_line.Goals as goal
@@ -11,12 +10,6 @@ is_bound-requires c = let p = c.requires in (p.sourced, p.counted.long, p.line)
 
 pub mark_sources-requires : goal.mark_sources-requires
 mark_sources-requires c = let p = c.requires in simp length-set (p.sourced, p.line)
-
--- LOST same-length
--- same_length c =
---     let marked = c.before.before in
---     let a = (entry marked.before.before.before).args in
---     marked.mark-sources.auto.1.1.0 ∙ length-set a.marks.now a.k 2
 
 pub returns-then-is_bound : goal.returns-then-is_bound
 returns-then-is_bound c =

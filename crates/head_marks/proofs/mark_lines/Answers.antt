@@ -1,10 +1,7 @@
 -- `head_marks::mark_lines` meets its contract: the readings are counted, then the lines have their turns in order.
 -- Assumes nothing.
 use native.Mathlib.Omega.{arith}
-use Prim.Native.Nat.{◌-◌}
-use lib.ListN.{length}
-use borrow.Author.Rules.{rules}
-use Rattle.head_marks.proofs.Lines.{Turns, no-turn, turn-ready, next-turn, all-marked}
+use Rattle.head_marks.proofs.Lines.{no-turn, turn-ready, next-turn, all-marked}
 use Rattle.head_marks.proofs.mark_lines.Goals as goal
 
 pub count_reads-requires : goal.count_reads-requires
@@ -21,10 +18,7 @@ mark_line-requires c = turn-ready c.requires c.loop-k.invariant (omega arith)
 pub loop-k-preserved : goal.loop-k-preserved
 loop-k-preserved c =
     let call = c.mark_line in
-    next-turn c.requires c.loop-k.invariant (omega arith) call.auto.1.1.1.0 call.ensures
-
--- LOST same-length-2
--- same-length-2 c = c.before.loop.invariant.long
+    next-turn c.requires c.loop-k.invariant (omega arith) call.auto.marks call.ensures
 
 pub returns : goal.returns
 returns c = all-marked c.requires c.loop-k.invariant (omega arith)

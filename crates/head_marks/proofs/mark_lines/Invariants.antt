@@ -1,10 +1,8 @@
 -- `head_marks::mark_lines` meets its contract: the readings are counted, then the lines have their turns in order.
 -- Assumes nothing.
-use native.Mathlib.Omega.{arith}
 use Prim.Native.Nat.{◌-◌}
 use lib.ListN.{length}
-use borrow.Author.Rules.{rules}
-use Rattle.head_marks.proofs.Lines.{Turns, no-turn, turn-ready, next-turn, all-marked}
+use Rattle.head_marks.proofs.Lines.{Turns}
 use Rattle.head_marks.proofs.mark_lines.Given as goal
 
 abbrev pub invariant-loop-k : goal.invariant-loop-k

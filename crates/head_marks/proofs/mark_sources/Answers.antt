@@ -1,11 +1,9 @@
 -- `head_marks::mark_sources` meets its contract: one pin after the other.
 -- Assumes nothing.
 use native.Mathlib.Omega.{arith}
-use Prim.Native.Nat.{◌-◌}
-use borrow.Author.Rules.{rules}
 use Rattle.gates.proofs.Laws.{few_pins}
 use Rattle.circuit.specs.Record.{kind_at}
-use Rattle.head_marks.proofs.Pins.{Sources, no_source, next_source, all_sources}
+use Rattle.head_marks.proofs.Pins.{no_source, next_source, all_sources}
 use Rattle.head_marks.proofs.mark_sources.Goals as goal
 
 pub loop-s-init : goal.loop-s-init
@@ -19,10 +17,7 @@ mark_source-requires c =
 pub loop-s-preserved : goal.loop-s-preserved
 loop-s-preserved c =
     let call = c.mark_source in
-    next_source c.loop-s.invariant (omega arith) call.auto.1.1.1.0 call.ensures
-
--- LOST same-length
--- same_length c = c.before.loop.invariant.long
+    next_source c.loop-s.invariant (omega arith) call.auto.marks call.ensures
 
 pub returns : goal.returns
 returns c = all_sources c.loop-s.invariant (omega arith) c.pins-has.ensures
