@@ -1,0 +1,28 @@
+-- `simulate::line_value` meets its contract: an input keeps its value, a gate reads its sources.
+-- Assumes nothing.
+use native.Mathlib.Omega.{arith}
+use mathlib.Core.Path.{refl}
+use borrow.Author.Rules.{rules}
+use Rattle.simulate.proofs.Line.{input_in, small_gate_in, source_inside}
+use Rattle.simulate.specs.Simulate.{unforced}
+use Rattle.simulate.proofs.line_value.Goals as goal
+
+pub returns-then-kind-eq0 : goal.returns-then-kind-eq0
+returns-then-kind-eq0 c _ = input_in unforced _ _ _ c.if-kind-eq0.true
+
+pub bounds-values-i : goal.bounds-values-i
+bounds-values-i c =
+    rw c.source-i.ensures (source_inside c.requires.0 c.requires.1 c.if-kind-eq0.false 1 (omega arith) (omega arith))
+
+pub bounds-values-j : goal.bounds-values-j
+bounds-values-j c =
+    rw c.source-j.ensures (source_inside c.requires.0 c.requires.1 c.if-kind-eq0.false 2 (omega arith) (omega arith))
+
+pub bounds-values-select : goal.bounds-values-select
+bounds-values-select c =
+    rw c.source-select.ensures (source_inside c.requires.0 c.requires.1 c.if-kind-eq0.false 3 (omega arith) (omega arith))
+
+pub returns : goal.returns
+returns c small =
+    small_gate_in unforced _ _ _ c.if-kind-eq0.false (rw c.source-i.ensures refl) (rw c.source-j.ensures refl)
+    (rw c.source-select.ensures refl) c.gate.ensures small

@@ -1,0 +1,31 @@
+-- `simulate::put_inputs` meets its contract. The invariant: the inputs' lines passed hold their values.
+-- Assumes nothing.
+use borrow.Author.Rules.{rules}
+use native.Mathlib.Omega.{arith}
+use lib.ListN.{length}
+use Prim.Native.Nat.{◌-◌}
+use Rattle.simulate.proofs.Inputs.{SoFar, start, input_below, used_small, more, finished}
+use Rattle.simulate.proofs.put_inputs.Goals as goal
+
+pub loop-k-init : goal.loop-k-init
+loop-k-init c = start _ _ _
+
+pub input_or-v-requires : goal.input_or-v-requires
+input_or-v-requires c =
+    let so = c.loop-k.invariant in
+    (record { inside = omega arith }, λ e. rw so.used (input_below c.requires (omega (arith, so.long)) e))
+
+pub bounds-values-k : goal.bounds-values-k
+bounds-values-k c = omega (arith, c.loop-k.invariant.long)
+
+pub overflow_add-used : goal.overflow_add-used
+overflow_add-used c = omega (arith, used_small c.loop-k.invariant)
+
+pub loop-k-preserved : goal.loop-k-preserved
+loop-k-preserved c = more c.loop-k.invariant (omega arith) c.input_or-v.ensures c.equal-used.ensures.0
+
+-- LOST same-length
+-- same_length c = c.before.loop.invariant.long
+
+pub returns : goal.returns
+returns c = finished c.loop-k.invariant (omega (arith, c.loop-k.invariant.long))
