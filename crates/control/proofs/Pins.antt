@@ -15,7 +15,7 @@ use Rattle.reads.specs.Reads.{branches}
 use Rattle.reads.proofs.Counted.{counted_branches}
 use Rattle.halves.specs.Half.{half, least}
 use Rattle.chances.specs.declared.Chances.{Chances}
-use Rattle.chances.specs.Owed.{Are, Seen}
+use Rattle.chances.specs.Owed.{Seen}
 use Rattle.exponents.specs.Lines.{exponents, pin_exponents}
 use Rattle.exponents.proofs.Lines.{few}
 use Rattle.exponents.proofs.Exact.{pin_few}

@@ -1,18 +1,18 @@
 -- The promise and the words of the request and of paper 001 say the same.
 -- Assumes nothing.
-use mathlib.Core.Path.{◌≡◌, refl, sym, ap, ◌∙◌}
+use mathlib.Core.Path.{◌≡◌, sym, ◌∙◌}
 use mathlib.Core.Bool.{Bool, true, false}
 use mathlib.Core.List.{List}
-use Prim.Native.Nat.{ℕ, ◌≤◌, ◌<◌, ◌^◌}
+use Prim.Native.Nat.{ℕ, ◌≤◌, ◌<◌}
 use native.Mathlib.Omega.{arith}
-use lib.ListN.{length, get_or}
+use lib.ListN.{length}
 use lib.Seq.{ext_get_or}
 use lib.Ieee.{Float, nan}
 use Rattle.ground.specs.Lists.{table}
 use Rattle.ground.proofs.Grow.{table-length, table_at}
 use Rattle.answers.specs.declared.Ruling.{Ruling}
-use Rattle.answers.specs.declared.Ruling.TheVariants.{Fine, Refused}
-use Rattle.answers.specs.Rules.{refusal, AllSay}
+use Rattle.answers.specs.declared.Ruling.TheVariants.{Fine}
+use Rattle.answers.specs.Rules.{AllSay}
 use Rattle.answers.proofs.Rules.{applies, refused, both_fine, both_say}
 use Rattle.answers.proofs.Lent.{lent_says}
 use Rattle.answers.proofs.Words as words
@@ -25,7 +25,7 @@ use Rattle.halves.specs.Half.{half, floor_exponent}
 use Rattle.halves.proofs.Value.{is-half, half-fits}
 use Rattle.halves.proofs.Laws.{fraction_of}
 use Rattle.exponents.specs.Fraction.{Fraction, Equal, power}
-use Rattle.exponents.specs.Lines.{exponents, pin_exponents}
+use Rattle.exponents.specs.Lines.{exponents}
 use Rattle.exponents.specs.Words.{Measures}
 use Rattle.exponents.proofs.Lines.{few}
 use Rattle.exponents.proofs.Fraction.{bottom_is}

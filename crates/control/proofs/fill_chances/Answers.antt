@@ -1,11 +1,7 @@
 -- `control::fill_chances` meets its contract: the readings are counted, then the lines have their turns in order.
 -- Assumes nothing.
-use mathlib.Core.Path.{sym, ◌∙◌}
 use native.Mathlib.Omega.{arith}
-use Prim.Native.Nat.{◌-◌}
-use lib.ListN.{length}
-use borrow.Author.Rules.{rules}
-use Rattle.control.proofs.Lines.{Filling, no_line, line-ready, next-line, all_lines, sourced}
+use Rattle.control.proofs.Lines.{no_line, line-ready, next-line, all_lines, sourced}
 use Rattle.control.proofs.fill_chances.Goals as goal
 
 pub count_reads-requires : goal.count_reads-requires
@@ -32,10 +28,7 @@ pub loop-k-smaller : goal.loop-k-smaller
 loop-k-smaller c = let so = c.loop-k.invariant in omega (arith, so.ones_long)
 
 pub loop-k-preserved : goal.loop-k-preserved
-loop-k-preserved c = next-line c.requires.known c.loop-k.inv (omega arith) c.line_chances-chances.ensures
-
--- LOST same-length-3
--- zeros-kept c = let t = c.before in t.loop.invariant.zeros_long ∙ sym (entry t).requires.zeros_long
+loop-k-preserved c = next-line c.requires.known c.loop-k.invariant (omega arith) c.line_chances-chances.ensures
 
 pub returns : goal.returns
 returns c = all_lines c.requires.known c.loop-k.invariant (omega arith)

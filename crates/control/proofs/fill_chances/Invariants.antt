@@ -1,11 +1,8 @@
 -- `control::fill_chances` meets its contract: the readings are counted, then the lines have their turns in order.
 -- Assumes nothing.
-use mathlib.Core.Path.{sym, ◌∙◌}
-use native.Mathlib.Omega.{arith}
 use Prim.Native.Nat.{◌-◌}
 use lib.ListN.{length}
-use borrow.Author.Rules.{rules}
-use Rattle.control.proofs.Lines.{Filling, no_line, line-ready, next-line, all_lines, sourced}
+use Rattle.control.proofs.Lines.{Filling}
 use Rattle.control.proofs.fill_chances.Given as goal
 
 abbrev pub invariant-loop-k : goal.invariant-loop-k

@@ -1,7 +1,6 @@
 -- `control::fill_large` meets its contract: the front of so many zeros is room for the readings.
 -- Assumes nothing.
 use mathlib.Core.Path.{sym}
-use borrow.Author.Rules.{rules}
 use Rattle.ground.proofs.Filled.{front_length}
 use Rattle.control.proofs.Answer.{fill-ready}
 use Rattle.control.proofs.fill_large.Goals as goal

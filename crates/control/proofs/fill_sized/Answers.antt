@@ -1,7 +1,6 @@
 -- `control::fill_sized` meets its contract: an accepted circuit has at most 2,048 lines.
 -- Assumes nothing.
 use native.Mathlib.Omega.{arith}
-use borrow.Author.Rules.{rules}
 use Rattle.control.proofs.Answer.{few_lines}
 use Rattle.control.proofs.fill_sized.Goals as goal
 

@@ -2,7 +2,6 @@
 -- Assumes nothing.
 use Prim.Native.Nat.{ℕ}
 use lib.ListN.{length}
-use borrow.Author.Rules.{rules}
 use Rattle.chances.specs.Exponents.{Exponents, gate_exponents}
 use Rattle.chances.proofs.ByKind.{of_kind}
 use Rattle.exponents.specs.Lines.{pin_exponents}

@@ -1,6 +1,5 @@
 -- `control::line_chances` meets its contract: an input is certain, a gate's chances have a floor.
 -- Assumes nothing.
-use borrow.Author.Rules.{rules}
 use Rattle.control.proofs.Lines.{input-line, gate-line}
 use Rattle.control.proofs.line_chances.Goals as goal
 

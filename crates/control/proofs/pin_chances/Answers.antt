@@ -1,7 +1,6 @@
 -- `control::pin_chances` meets its contract.
 -- Assumes nothing.
 use native.Mathlib.Omega.{arith}
-use borrow.Author.Rules.{rules}
 use Rattle.control.proofs.Pins.{here, inside, inside_zeros, inside_reads, taken_is, seen_so}
 use Rattle.control.proofs.pin_chances.Goals as goal
 
