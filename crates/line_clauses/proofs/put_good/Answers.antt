@@ -11,11 +11,7 @@ use Rattle.line_clauses.specs.Clauses.{good_var, good_clauses}
 use Rattle.line_clauses.specs.Owed.{GateReady}
 use Rattle.line_clauses.proofs.Lines.{kind_last, gate-line, lower, good_none, good-gate, gate_room, put_line}
 use Rattle.ground.proofs.Put.{put_none}
-use Rattle.line_clauses.proofs.put_good.Statement.{statement}
-use Rattle.line_clauses.proofs.put_good.Tie as tie
-
-abbrev entry : tie.After-source2 → tie.Start
-entry c = c.before.before.before.before.before
+use Rattle.line_clauses.proofs.put_good.Goals as goal
 
 is-gate : (c : tie.After-source2) → let a = (entry c).args in GateReady a.circuit.now a.n a.k
 is-gate c = gate-line (entry c).requires.line c.before.before.if1.false
@@ -57,58 +53,25 @@ gate c =
     let sources = c.before in
     good-gate _ _ (kind_last (entry sources).requires.line) sources.before.source.ensures sources.source2.ensures (λ e. absurd (c.if2.false e))
 
-returns : tie.Need-returns
-returns c = rw (good_none _ _ c.if1.true) (put_none _ _)
+pub returns-then-kind-eq0 : goal.returns-then-kind-eq0
+returns-then-kind-eq0 c = rw (good_none _ _ c.if-kind-eq0.true) (put_none _ _)
 
-put-selector-requires : tie.Need-put-selector-requires
-put-selector-requires c κs =
-    let sources = c.before.before.before in
-    let h = low sources in
-    let select = low-select c.before in
-    gate_room _ _ _ _ _ (with-select c.before) (entry sources).requires.room (omega arith) (omega arith) (omega arith) (omega arith)
+pub put_selector-requires : goal.put_selector-requires
+put_selector-requires c =
+    let h = low c in
+    let select = low-select c in
+    gate_room _ _ _ _ _ (with-select c) c.requires.room (omega arith) (omega arith) (omega arith) (omega arith)
 
-returns-2 : tie.Need-returns-2
-returns-2 c = put_line (with-select c.before.before.before) c.before.put-selector.ensures
+pub returns-then-kind-eq-SELECTOR : goal.returns-then-kind-eq-SELECTOR
+returns-then-kind-eq-SELECTOR c = put_line (with-select c) c.put_selector.ensures
 
-put-gate-requires : tie.Need-put-gate-requires
-put-gate-requires c κs =
-    let sources = c.before.before in
-    let h = low sources in
-    let pre = (entry sources).requires in (
-      omega (arith, kind_last pre.line, c.before.if2.false),
-      gate_room _ _ _ _ _ (gate c.before) pre.room (omega arith) (omega arith) (omega arith) (omega arith),
+pub put_gate-requires : goal.put_gate-requires
+put_gate-requires c =
+    let h = low c in
+    let pre = c.requires in (
+      omega (arith, kind_last pre.line, c.if-kind-eq-SELECTOR.false),
+      gate_room _ _ _ _ _ (gate c) pre.room (omega arith) (omega arith) (omega arith) (omega arith),
     )
 
-returns-3 : tie.Need-returns-3
-returns-3 c = put_line (gate c.before.before.before) c.before.put-gate.ensures
-
-pub put-good-spec : {M : Type 1} → statement M
-put-good-spec =
-    tie.close
-    (tie.spec
-    (λ c. search rules)
-    (λ c. search rules)
-    returns
-    (λ c κs. search rules)
-    (λ c κs. search rules)
-    (λ c κs. search rules)
-    (λ c. search rules)
-    (λ c. search rules)
-    (λ c. omega (arith, low c.before.before.before))
-    (λ c. omega (arith, low c.before.before.before))
-    (λ c. omega (arith, low c.before.before.before))
-    (λ c. omega (arith, low c.before.before.before))
-    (λ c. omega (arith, low c.before.before.before, low-select c.before))
-    (λ c. omega (arith, low c.before.before.before, low-select c.before))
-    put-selector-requires
-    (λ c. search rules)
-    returns-2
-    (λ c. search rules)
-    (λ c. search rules)
-    (λ c. omega (arith, low c.before.before))
-    (λ c. omega (arith, low c.before.before))
-    (λ c. omega (arith, low c.before.before))
-    (λ c. omega (arith, low c.before.before))
-    put-gate-requires
-    (λ c. search rules)
-    returns-3)
+pub returns : goal.returns
+returns c = put_line (gate c) c.put_gate.ensures
