@@ -1,0 +1,33 @@
+-- `entry::compare` meets its contract: one answer for each branch.
+-- Assumes nothing.
+use mathlib.Core.Path.{◌∙◌}
+use borrow.Author.Tests.{eq-eqb, ne_eqb, lt-ltb, le-ltb}
+use Rattle.entry.specs.Entry.{differ, agree}
+use Rattle.entry.specs.Owed.{status_by}
+use Rattle.entry.proofs.Masks.{masked, compared}
+use Rattle.entry.proofs.compare.Goals as goal
+
+pub returns-then-a-ge2 : goal.returns-then-a-ge2
+unfolding status_by differ
+returns-then-a-ge2 c =
+    let x = c.if-a-ge2.true in
+    c.nothing_expected.ensures ∙ simp (le-ltb _ _ x, masked c.args.masks c.args.a c.args.b x)
+
+pub returns-then-b-ge2 : goal.returns-then-b-ge2
+unfolding status_by differ agree
+returns-then-b-ge2 c =
+    let known = c.if-a-ge2.false in
+    simp (compared c.args.masks c.args.a c.args.b known, lt-ltb _ _ known, le-ltb _ _ c.if-b-ge2.true)
+
+pub returns-then-a-b : goal.returns-then-a-b
+unfolding status_by differ agree
+returns-then-a-b c =
+    let known = c.if-a-ge2.false in
+    simp (compared c.args.masks c.args.a c.args.b known, lt-ltb _ _ known, lt-ltb _ _ c.if-b-ge2.false, eq-eqb _ _ c.if-a-b.true)
+
+pub returns : goal.returns
+unfolding status_by differ
+returns c = simp (lt-ltb _ _ c.if-a-ge2.false, lt-ltb _ _ c.if-b-ge2.false, ne_eqb _ _ c.if-a-b.false)
+
+pub nothing_expected-requires : goal.nothing_expected-requires
+nothing_expected-requires c = tt
