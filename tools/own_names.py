@@ -109,8 +109,11 @@ def main(look):
         return
     if clashes:
         raise SystemExit(1)
+    functions = {name for path, text in texts.items() if path.endswith(".rt") for name in re.findall(r"\bfn (\w+)", text)}
     for path, text in texts.items():
-        now = TOKEN.sub(lambda m: turn.get(m.group(), m.group()), text)
+        # the code's functions keep their names
+        stays = functions if path.endswith(".rt") else set()
+        now = TOKEN.sub(lambda m: m.group() if m.group() in stays else turn.get(m.group(), m.group()), text)
         if now != text:
             open(path, "w", encoding="utf-8").write(now)
 

@@ -122,7 +122,7 @@ fn set_line(circuit: &[u8], marks: &[u8], k: usize, want: &mut [u8])
 }
 
 // All lines, the highest first.
-fn set_below_lem(circuit: &[u8], marks: &[u8], want: &mut [u8])
+fn set_below(circuit: &[u8], marks: &[u8], want: &mut [u8])
     requires { Sourced circuit.now (length want.old) × Marked circuit.now (length want.old) marks.now }
     ensures { want.new ≡ set_below circuit.now (length want.old) (length want.old) want.old }
 {
@@ -190,6 +190,6 @@ pub fn set_trees(circuit: &[u8], marks: &[u8], node: &[u8], want: &mut [u8], tes
     ensures { test.new ≡ set_trees circuit.now (length want.old) node.now }
 {
     put_heads(circuit, marks, node, want);
-    set_below_lem(circuit, marks, want);
+    set_below(circuit, marks, want);
     take_inputs(circuit, want, test);
 }

@@ -119,7 +119,7 @@ fn check_states(circuit: &[u8], states: &[u8]) -> Ruling
 // ---- refusal 19: the sizes after unfolding
 
 // 1 where line m is an input and no state line, else 0. Only an input is looked for among the records.
-fn is_free_line(circuit: &[u8], states: &[u8], m: usize) -> usize
+fn is_free(circuit: &[u8], states: &[u8], m: usize) -> usize
     requires { Inside circuit.now m }
     ensures { (result ≡ one (is_free circuit.now states.now m)) × (result ≤ 1) }
 {
@@ -140,7 +140,7 @@ fn free_inputs(circuit: &[u8], states: &[u8], n: usize) -> usize
     let mut free = 0;
     let mut m = 0;
     while m < n {
-        free += is_free_line(circuit, states, m);
+        free += is_free(circuit, states, m);
         m += 1;
     }
     free

@@ -1,9 +1,9 @@
--- `setting::set_below_lem` meets its contract: one line after the other, the highest first.
+-- `setting::set_below` meets its contract: one line after the other, the highest first.
 -- Assumes nothing.
 use native.Mathlib.Omega.{arith}
 use Rattle.setting.proofs.Lines.{Below, all_below_lem, next_below, none_below}
-use Rattle.setting.proofs.set_below_lem.Statement.{statement}
-use Rattle.setting.proofs.set_below_lem.Tie as tie
+use Rattle.setting.proofs.set_below.Statement.{statement}
+use Rattle.setting.proofs.set_below.Tie as tie
 
 abbrev invariant-loop : tie.invariant-loop
 invariant-loop circuit marks want₀ k₀ want k = Below circuit want₀ want k

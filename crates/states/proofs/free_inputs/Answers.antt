@@ -11,10 +11,10 @@ loop-m-init c = no_sum _ _
 -- is-free-requires c κs = record { inside = omega arith }
 
 pub overflow_add-free : goal.overflow_add-free
-overflow_add-free c = omega (arith, sum_small c.loop-m.invariant, c.is_free_line-free.ensures.1)
+overflow_add-free c = omega (arith, sum_small c.loop-m.invariant, c.is_free-free.ensures.1)
 
 pub loop-m-preserved : goal.loop-m-preserved
-loop-m-preserved c = sum_more c.loop-m.invariant c.loop-m-test.true c.is_free_line-free.ensures.0
+loop-m-preserved c = sum_more c.loop-m.invariant c.loop-m-test.true c.is_free-free.ensures.0
 
 pub returns : goal.returns
 returns c = (sum_all c.loop-m.invariant c.loop-m-test.false, sum_small c.loop-m.invariant)

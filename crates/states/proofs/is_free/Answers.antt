@@ -1,9 +1,9 @@
--- `states::is_free_line` meets its contract: one answer for each branch.
+-- `states::is_free` meets its contract: one answer for each branch.
 -- Assumes nothing.
 use borrow.Author.Rules.{rules}
 use borrow.Author.Tests.{eq-eqb, ne_eqb, lt-ltb, le-ltb}
 use Rattle.states.specs.States.{is_state, is_free}
-use Rattle.states.proofs.is_free_line.Goals as goal
+use Rattle.states.proofs.is_free.Goals as goal
 
 pub returns-then-circuit-m-ne0 : goal.returns-then-circuit-m-ne0
 unfolding is_free
