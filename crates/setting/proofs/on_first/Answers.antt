@@ -1,0 +1,13 @@
+-- `setting::on_first` meets its contract: one answer for each branch.
+-- Assumes nothing.
+use borrow.Author.Tests.{eq-eqb, ne_eqb}
+use Rattle.setting.specs.Owed.{alone}
+use Rattle.setting.proofs.on_first.Goals as goal
+
+pub returns-then-s-ne1 : goal.returns-then-s-ne1
+unfolding alone
+returns-then-s-ne1 c = simp (ne_eqb _ _ c.if-s-ne1.true)
+
+pub returns : goal.returns
+unfolding alone
+returns c = simp (eq-eqb _ _ c.if-s-ne1.false)

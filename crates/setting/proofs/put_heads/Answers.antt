@@ -1,0 +1,36 @@
+-- `setting::put_heads` meets its contract: line by line, with the number of head lines so far.
+-- Assumes nothing.
+use native.Mathlib.Omega.{arith}
+use Prim.Native.Nat.{◌-◌}
+use borrow.Author.Rules.{rules}
+use lib.ListN.{length}
+use Rattle.setting.proofs.Heads.{Heads, no-head, used_small, head-ready, next-head, all_heads}
+use Rattle.setting.proofs.put_heads.Goals as goal
+
+pub loop-k-init : goal.loop-k-init
+loop-k-init c = no-head _ _ _
+
+pub head_or-v-requires : goal.head_or-v-requires
+head_or-v-requires c =
+    let so = c.loop-k.invariant in
+    head-ready c.requires.0 so c.requires.1 (omega (arith, so.long))
+
+pub bounds-want-k : goal.bounds-want-k
+bounds-want-k c = omega (arith, c.loop-k.invariant.long)
+
+pub bounds-marks-k : goal.bounds-marks-k
+bounds-marks-k c = omega (arith, c.requires.0.long, c.loop-k.invariant.long)
+
+pub overflow_add-used : goal.overflow_add-used
+overflow_add-used c = omega (arith, used_small c.requires.0 c.loop-k.invariant)
+
+pub loop-k-preserved : goal.loop-k-preserved
+loop-k-preserved c =
+    let so = c.loop-k.invariant in
+    next-head c.requires.0 so (omega (arith, so.long)) c.head_or-v.ensures c.equal-used.ensures.0
+
+-- LOST same-length
+-- same_length c = c.before.loop.invariant.long
+
+pub returns : goal.returns
+returns c = let so = c.loop-k.invariant in all_heads c.requires.0 so (omega (arith, so.long))

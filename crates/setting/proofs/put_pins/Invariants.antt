@@ -1,0 +1,14 @@
+-- `setting::put_pins` meets its contract: one pin after the other.
+-- Assumes nothing.
+use mathlib.Core.Path.{refl}
+use native.Mathlib.Omega.{arith}
+use Prim.Native.Nat.{◌-◌, ◌+◌}
+use borrow.Author.Rules.{rules}
+use Rattle.setting.proofs.Lines.{Pins, no_pin, next-pin, all_pins}
+use Rattle.setting.proofs.put_pins.Given as goal
+
+abbrev pub invariant-loop-s : goal.invariant-loop-s
+invariant-loop-s l = Pins l.circuit l.k l.v l.initial.want l.kind l.has l.want l.s
+
+abbrev pub decreases-loop-s : goal.decreases-loop-s
+decreases-loop-s l = l.has - l.s

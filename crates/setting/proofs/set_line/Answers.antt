@@ -1,0 +1,13 @@
+-- `setting::set_line` meets its contract: a bound line puts nothing, a free one what its pins need.
+-- Assumes nothing.
+use borrow.Author.Rules.{rules}
+use Rattle.setting.proofs.Lines.{line-bound, line-free}
+use Rattle.setting.proofs.set_line.Goals as goal
+
+pub returns-then-marks-k-eq2 : goal.returns-then-marks-k-eq2
+returns-then-marks-k-eq2 c =
+    line-bound c.args.want.now c.requires.1 c.requires.2 c.if-marks-k-eq2.true
+
+pub returns : goal.returns
+returns c =
+    line-free c.args.want.now c.requires.1 c.requires.2 c.if-marks-k-eq2.false c.put_pins.ensures

@@ -1,0 +1,28 @@
+-- `setting::take_inputs` meets its contract: line by line, with the number of inputs so far.
+-- Assumes nothing.
+use native.Mathlib.Omega.{arith}
+use Prim.Native.Nat.{◌-◌}
+use borrow.Author.Rules.{rules}
+use lib.ListN.{length}
+use Rattle.setting.proofs.Inputs.{Inputs, no-input, used_small, input-ready, next-input, all-inputs}
+use Rattle.setting.proofs.take_inputs.Goals as goal
+
+pub loop-k-init : goal.loop-k-init
+loop-k-init c = no-input _ _ _
+
+pub put_input-requires : goal.put_input-requires
+put_input-requires c = input-ready c.requires c.loop-k.invariant (omega arith)
+
+pub overflow_add-used : goal.overflow_add-used
+overflow_add-used c =
+    omega (arith, used_small c.requires c.loop-k.invariant)
+
+pub loop-k-preserved : goal.loop-k-preserved
+loop-k-preserved c =
+    next-input c.requires c.loop-k.invariant (omega arith) c.put_input.auto.test c.put_input.ensures c.equal-used.ensures.0
+
+-- LOST same-length
+-- same_length c = c.before.loop.invariant.long
+
+pub returns : goal.returns
+returns c = all-inputs c.requires c.loop-k.invariant (omega arith)
