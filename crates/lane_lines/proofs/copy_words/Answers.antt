@@ -1,9 +1,7 @@
 -- `lane_lines::copy_words` meets its contract. The invariant: the first half stays, and the words passed are copied.
 -- Assumes nothing.
 use native.Mathlib.Omega.{arith}
-use mathlib.Core.Path.{sym, ◌∙◌}
-use Prim.Native.Nat.{◌-◌}
-use Rattle.simulate.proofs.Halves.{SoFar, start, more, finished}
+use Rattle.simulate.proofs.Halves.{start, more, finished}
 use Rattle.lane_lines.proofs.copy_words.Goals as goal
 
 pub loop-k-init : goal.loop-k-init
@@ -17,9 +15,6 @@ bounds-work-half c = omega (arith, c.loop-k.invariant.long)
 
 pub loop-k-preserved : goal.loop-k-preserved
 loop-k-preserved c = more c.requires.0 c.loop-k.invariant (omega arith)
-
--- LOST same-length
--- same_length c = c.before.loop.invariant.long ∙ sym c.before.before.requires.0
 
 pub returns : goal.returns
 returns c = finished c.requires.0 c.loop-k.invariant (omega arith)

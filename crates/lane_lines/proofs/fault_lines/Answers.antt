@@ -1,7 +1,6 @@
 -- `lane_lines::fault_lines` meets its contract: the fault's line is set, and the lines after it are simulated as any.
 -- Assumes nothing.
 use native.Mathlib.Omega.{arith}
-use borrow.Author.Rules.{rules}
 use Rattle.lane_lines.proofs.Faults.{fault_lines_made}
 use Rattle.lane_lines.proofs.fault_lines.Goals as goal
 

@@ -4,7 +4,6 @@ use mathlib.Core.Path.{◌≡◌, refl, ◌∙◌}
 use Prim.Native.Nat.{◌+◌, ◌*◌}
 use native.Mathlib.Omega.{arith}
 use lib.ListN.{length}
-use borrow.Author.Rules.{rules}
 use Rattle.simulate.specs.Simulate.{stuck_in_steps}
 use Rattle.simulate.proofs.Halves.{lent_long}
 use Rattle.lane_lines.proofs.Faults.{adds_forced_words}

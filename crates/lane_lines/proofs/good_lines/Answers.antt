@@ -2,7 +2,6 @@
 -- Assumes nothing.
 use mathlib.Core.Path.{◌∙◌}
 use native.Mathlib.Omega.{arith}
-use borrow.Author.Rules.{rules}
 use Rattle.lane_lines.proofs.Inputs.{lines_ready, good_lines_made}
 use Rattle.lane_lines.proofs.good_lines.Goals as goal
 

@@ -6,7 +6,6 @@ use Prim.Native.Nat.{ℕ, ◌*◌}
 use mathlib.Core.List.{List, ◌++◌}
 use mathlib.Core.Path.{sym, ap}
 use native.Mathlib.Omega.{arith}
-use borrow.Author.Rules.{rules}
 use Rattle.lane_lines.specs.Lines.{good_words}
 use Rattle.lane_lines.proofs.good_words.Goals as goal
 

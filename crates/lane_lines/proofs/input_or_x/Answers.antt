@@ -1,6 +1,5 @@
 -- `lane_lines::input_or_x` meets its contract: an input reads the patterns, a gate is X until its turn.
 -- Assumes nothing.
-use borrow.Author.Rules.{rules}
 use Rattle.lane_lines.proofs.Inputs.{input-set, gate-set}
 use Rattle.lane_lines.proofs.input_or_x.Goals as goal
 

@@ -2,7 +2,6 @@
 -- Assumes nothing.
 use native.Mathlib.Omega.{arith}
 use mathlib.Core.Path.{refl, ap, ◌∙◌}
-use borrow.Author.Rules.{rules}
 use Rattle.simulate.specs.Simulate.{unforced}
 use Rattle.lane_lines.specs.Owed.{lanes_at}
 use Rattle.lane_lines.proofs.Line.{as_read, source_pair, input-done, gate-done}
@@ -10,7 +9,7 @@ use Rattle.lane_lines.proofs.line_lanes.Goals as goal
 
 pub returns-then-kind-eq0 : goal.returns-then-kind-eq0
 returns-then-kind-eq0 c =
-    input-done unforced c.requires.0 c.requires.1 (record { ones_fit = omega (arith, c.lanes_at.type-inv); zeros_fit = omega (arith, c.lanes_at.type-inv) }) c.if-kind-eq0.true (as_read c.lanes_at.ensures)
+    input-done unforced c.requires.0 c.requires.1 (record { ones_fit = omega (arith, c.lanes_at.type_inv); zeros_fit = omega (arith, c.lanes_at.type_inv) }) c.if-kind-eq0.true (as_read c.lanes_at.ensures)
 
 pub lanes_at-a-requires : goal.lanes_at-a-requires
 lanes_at-a-requires c =
@@ -31,7 +30,7 @@ gate_lanes-requires c =
 pub returns : goal.returns
 returns c =
     let w = c.args.words.now in
-    gate-done unforced c.requires.0 c.requires.1 (record { ones_fit = omega (arith, c.gate_lanes.type-inv); zeros_fit = omega (arith, c.gate_lanes.type-inv) }) c.if-kind-eq0.false
+    gate-done unforced c.requires.0 c.requires.1 (record { ones_fit = omega (arith, c.gate_lanes.type_inv); zeros_fit = omega (arith, c.gate_lanes.type_inv) }) c.if-kind-eq0.false
     (as_read (c.lanes_at-a.ensures ∙ ap (lanes_at w) c.source.ensures))
     (as_read (c.lanes_at-b.ensures ∙ ap (lanes_at w) c.source-2.ensures))
     (as_read (c.lanes_at-c.ensures ∙ ap (lanes_at w) c.source-3.ensures)) c.gate_lanes.ensures (as_read refl)

@@ -1,12 +1,9 @@
 -- `lane_lines::put_input_words` meets its contract. The invariant: the lines passed are set.
 -- Assumes nothing.
 use native.Mathlib.Omega.{arith}
-use Prim.Native.Nat.{◌-◌}
-use borrow.Author.Rules.{rules}
-use mathlib.Core.Path.{sym, ◌∙◌}
 use Rattle.simulate.proofs.Inputs.{input_below}
 use Rattle.simulate.proofs.Settled.{shaped}
-use Rattle.lane_lines.proofs.Inputs.{SoFar, start, used_small, here_inside, more, finished}
+use Rattle.lane_lines.proofs.Inputs.{start, used_small, here_inside, more, finished}
 use Rattle.lane_lines.proofs.put_input_words.Goals as goal
 
 pub loop-k-init : goal.loop-k-init
@@ -32,9 +29,6 @@ overflow_add-used c = omega (arith, used_small c.loop-k.invariant)
 pub loop-k-preserved : goal.loop-k-preserved
 loop-k-preserved c =
     rw c.put_lanes.ensures (more c.loop-k.invariant (omega arith) c.input_or_x-lanes.ensures c.equal-used.ensures.0)
-
--- LOST same-length
--- same_length c = c.before.loop.invariant.long ∙ sym c.before.before.before.before.before.requires.2
 
 pub returns : goal.returns
 returns c = finished c.loop-k.invariant (omega arith)

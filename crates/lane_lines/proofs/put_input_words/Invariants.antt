@@ -1,12 +1,7 @@
 -- `lane_lines::put_input_words` meets its contract. The invariant: the lines passed are set.
 -- Assumes nothing.
-use native.Mathlib.Omega.{arith}
 use Prim.Native.Nat.{◌-◌}
-use borrow.Author.Rules.{rules}
-use mathlib.Core.Path.{sym, ◌∙◌}
-use Rattle.simulate.proofs.Inputs.{input_below}
-use Rattle.simulate.proofs.Settled.{shaped}
-use Rattle.lane_lines.proofs.Inputs.{SoFar, start, used_small, here_inside, more, finished}
+use Rattle.lane_lines.proofs.Inputs.{SoFar}
 use Rattle.lane_lines.proofs.put_input_words.Given as goal
 
 abbrev pub invariant-loop-k : goal.invariant-loop-k

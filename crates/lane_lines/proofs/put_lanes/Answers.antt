@@ -2,7 +2,6 @@
 -- Assumes nothing.
 use lib.ListN.{length-set}
 use native.Mathlib.Omega.{arith}
-use borrow.Author.Rules.{rules}
 use Rattle.lane_lines.proofs.put_lanes.Goals as goal
 
 pub bounds-words-k-2 : goal.bounds-words-k-2

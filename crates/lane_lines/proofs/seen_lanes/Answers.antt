@@ -1,6 +1,5 @@
 -- `lane_lines::seen_lanes` meets its contract: at the fault's site the stuck value in every lane, elsewhere the lanes themselves.
 -- Assumes nothing.
-use borrow.Author.Rules.{rules}
 use Rattle.lane_lines.proofs.Line.{seen-stuck, seen_off}
 use Rattle.lane_lines.proofs.seen_lanes.Goals as goal
 

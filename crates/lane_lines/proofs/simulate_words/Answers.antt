@@ -1,8 +1,7 @@
 -- `lane_lines::simulate_words` meets its contract. The invariant: in every lane the lines passed have had their turn.
 -- Assumes nothing.
 use native.Mathlib.Omega.{arith}
-use Prim.Native.Nat.{◌-◌}
-use Rattle.lane_lines.proofs.Turns.{SoFar, start, still, more, finished}
+use Rattle.lane_lines.proofs.Turns.{start, still, more, finished}
 use Rattle.lane_lines.proofs.simulate_words.Goals as goal
 
 pub loop-k-init : goal.loop-k-init
@@ -19,9 +18,6 @@ put_lanes-requires c =
 pub loop-k-preserved : goal.loop-k-preserved
 loop-k-preserved c =
     rw c.put_lanes.ensures (more c.loop-k.invariant c.requires.0 c.requires.2 (omega arith) c.line_lanes-lanes.ensures)
-
--- LOST same-length
--- same_length c = c.before.loop.invariant.long
 
 pub returns : goal.returns
 returns c = finished c.loop-k.invariant (omega arith)

@@ -1,8 +1,7 @@
 -- `lane_lines::simulate_words` meets its contract. The invariant: in every lane the lines passed have had their turn.
 -- Assumes nothing.
-use native.Mathlib.Omega.{arith}
 use Prim.Native.Nat.{◌-◌}
-use Rattle.lane_lines.proofs.Turns.{SoFar, start, still, more, finished}
+use Rattle.lane_lines.proofs.Turns.{SoFar}
 use Rattle.lane_lines.proofs.simulate_words.Given as goal
 
 abbrev pub invariant-loop-k : goal.invariant-loop-k

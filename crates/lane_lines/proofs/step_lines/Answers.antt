@@ -1,6 +1,5 @@
 -- `lane_lines::step_lines` meets its contract. The invariant: in every lane the lines below the fault's line of this step are settled.
 -- Assumes nothing.
-use Prim.Native.Nat.{◌-◌}
 use native.Mathlib.Omega.{arith}
 use Rattle.simulate.proofs.Steps.{after_line}
 use Rattle.lane_lines.proofs.Steps as steps
@@ -25,9 +24,6 @@ loop-line-smaller c =
 pub loop-line-preserved : goal.loop-line-preserved
 loop-line-preserved c =
     more _ _ c.loop-line.invariant (omega arith) c.smaller.ensures c.fault_lines.auto.words c.fault_lines.ensures
-
--- LOST same-length
--- same_length c = c.before.loop.invariant.long
 
 pub returns : goal.returns
 returns c = finished _ _ c.loop-line.invariant (omega arith)

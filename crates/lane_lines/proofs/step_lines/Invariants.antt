@@ -1,10 +1,7 @@
 -- `lane_lines::step_lines` meets its contract. The invariant: in every lane the lines below the fault's line of this step are settled.
 -- Assumes nothing.
 use Prim.Native.Nat.{◌-◌}
-use native.Mathlib.Omega.{arith}
-use Rattle.simulate.proofs.Steps.{after_line}
-use Rattle.lane_lines.proofs.Steps as steps
-use Rattle.lane_lines.proofs.Steps.{SoFar, more, finished}
+use Rattle.lane_lines.proofs.Steps.{SoFar}
 use Rattle.lane_lines.proofs.step_lines.Given as goal
 
 abbrev pub invariant-loop-line : goal.invariant-loop-line

@@ -1,7 +1,6 @@
 -- `lane_lines::stuck_lanes` meets its contract: as the words of any line, with the fault looked at on each of its sites.
 -- Assumes nothing.
 use native.Mathlib.Omega.{arith}
-use borrow.Author.Rules.{rules}
 use Rattle.simulate.specs.Simulate.{stuck_at}
 use Rattle.lane_lines.proofs.Line.{source_pair, input-done, gate-done}
 use Rattle.lane_lines.proofs.stuck_lanes.Goals as goal
@@ -9,7 +8,7 @@ use Rattle.lane_lines.proofs.stuck_lanes.Goals as goal
 pub returns-then-kind-eq0 : goal.returns-then-kind-eq0
 returns-then-kind-eq0 c =
     input-done (stuck_at c.args.fault) c.requires.0 c.requires.1
-    (record { ones_fit = omega (arith, c.seen_lanes.type-inv); zeros_fit = omega (arith, c.seen_lanes.type-inv) }) c.if-kind-eq0.true (rw c.lanes_at.ensures at c.seen_lanes.ensures)
+    (record { ones_fit = omega (arith, c.seen_lanes.type_inv); zeros_fit = omega (arith, c.seen_lanes.type_inv) }) c.if-kind-eq0.true (rw c.lanes_at.ensures at c.seen_lanes.ensures)
 
 pub lanes_at-requires-2 : goal.lanes_at-requires-2
 lanes_at-requires-2 c =
@@ -34,7 +33,7 @@ seen_lanes-requires-2 c =
 pub returns : goal.returns
 returns c =
     gate-done (stuck_at c.args.fault) c.requires.0 c.requires.1
-    (record { ones_fit = omega (arith, c.seen_lanes-2.type-inv); zeros_fit = omega (arith, c.seen_lanes-2.type-inv) }) c.if-kind-eq0.false
+    (record { ones_fit = omega (arith, c.seen_lanes-2.type_inv); zeros_fit = omega (arith, c.seen_lanes-2.type_inv) }) c.if-kind-eq0.false
     (rw (c.lanes_at-2.ensures, c.source-i.ensures) at c.seen_lanes-a.ensures)
     (rw (c.lanes_at-3.ensures, c.source-j.ensures) at c.seen_lanes-b.ensures)
     (rw (c.lanes_at-4.ensures, c.source-select.ensures) at c.seen_lanes-c.ensures) c.gate_lanes.ensures
