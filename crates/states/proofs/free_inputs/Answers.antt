@@ -7,9 +7,6 @@ use Rattle.states.proofs.free_inputs.Goals as goal
 pub loop-m-init : goal.loop-m-init
 loop-m-init c = no_sum _ _
 
--- LOST is-free-requires
--- is-free-requires c κs = record { inside = omega arith }
-
 pub overflow_add-free : goal.overflow_add-free
 overflow_add-free c = omega (arith, sum_small c.loop-m.invariant, c.is_free-free.ensures.1)
 
