@@ -1,0 +1,13 @@
+-- `unfold::put_step` meets its contract. The invariant: the records of the lines below m are written.
+-- Assumes nothing.
+use Prim.Native.Nat.{◌-◌}
+use native.Mathlib.Omega.{arith}
+use Rattle.ground.proofs.Put.{put_long}
+use Rattle.unfold.proofs.Steps.{StepSoFar, step_none, line_room, step_more, step_all}
+use Rattle.unfold.proofs.put_step.Given as goal
+
+abbrev pub invariant-loop-m : goal.invariant-loop-m
+invariant-loop-m l = StepSoFar l.circuit l.states l.steps l.i l.n l.initial.buffer l.buffer l.from l.at l.m
+
+abbrev pub decreases-loop-m : goal.decreases-loop-m
+decreases-loop-m l = l.n - l.m

@@ -1,0 +1,13 @@
+-- `unfold::put_steps` meets its contract. The invariant: the records of the steps below i are written.
+-- Assumes nothing.
+use Prim.Native.Nat.{◌-◌}
+use native.Mathlib.Omega.{arith}
+use Rattle.ground.proofs.Put.{put_long}
+use Rattle.unfold.proofs.Steps.{StepsSoFar, steps_none, step_room, steps_more, steps_all}
+use Rattle.unfold.proofs.put_steps.Given as goal
+
+abbrev pub invariant-loop-i : goal.invariant-loop-i
+invariant-loop-i l = StepsSoFar l.circuit l.states l.steps l.initial.buffer l.buffer l.at l.i
+
+abbrev pub decreases-loop-i : goal.decreases-loop-i
+decreases-loop-i l = l.steps - l.i
