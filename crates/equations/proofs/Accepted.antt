@@ -57,8 +57,8 @@ accepted t a =
     let none = right_names t a.names in
     let cycles = no_cycle_fine t none a.no_cycle in
     let r = right_net t none a.syntax.is-formed cycles in
-    let o = a.some_output_lem.1 in
-    let d = (a.names.outputs a.some_output_lem.0 o).1 in
+    let o = a.has_output.1 in
+    let d = (a.names.outputs a.has_output.0 o).1 in
     all_parts t buffer_bytes
     (record {
       syntax = text_fine t a.syntax;
@@ -86,7 +86,7 @@ acceptable t room e =
         no_cycle = fine_no_cycle t p.names p.cycles;
         few_lines = omega (arith, s.most_lines, size_is t);
         few_inputs = omega (arith, s.most_inputs, inputs_are t);
-        some_output_lem = (n.place, n.line);
+        has_output = (n.place, n.line);
       },
       fine_buffer room p.buffer,
     )

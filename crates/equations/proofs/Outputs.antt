@@ -14,7 +14,7 @@ use Rattle.ground.proofs.Below.{any_some, some_any}
 use Rattle.ground.proofs.Elem.{elem_at, elem_place}
 use Rattle.answers.specs.declared.Ruling.TheVariants.{Fine}
 use Rattle.answers.specs.Rules.{refusal}
-use Rattle.circuit.specs.Record as record_of_lem
+use Rattle.circuit.specs.Record as record_of
 use Rattle.words.specs.Words.{same}
 use Rattle.words.proofs.Same.{same_eq, same_refl}
 use Rattle.forms.specs.Forms.{says_output, defines}
@@ -75,7 +75,7 @@ module _ (t : List ℕ) (none : refusal (name_rules t (defs_in t) (uses_in t)) �
   -- ---- lines
 
   abbrev out_line : ℕ → Bool
-  out_line = record_of_lem.is_output (records_of (net_in t))
+  out_line = record_of.is_output (records_of (net_in t))
 
   flag : (k : ℕ) → k < size_in t → out_line k ≡ elem (net_in t).outputs (number_on (net_in t) k)
   flag k l = rw (net_out (net_in t) k (rw (size_is t) l)) (one-is (elem (net_in t).outputs (number_on (net_in t) k)))
@@ -132,7 +132,7 @@ module _ (t : List ℕ) (none : refusal (name_rules t (defs_in t) (uses_in t)) �
       let e = own.apart (name_on t l) (name_on t m) (l, a.names) (m, b.names) (a.is ∙ sym b.is) in
       (names_right t none).once l m (name_on t m) (record { line = a.names.line; is = e }) b.names
 
-  pub outputs_count : record_of_lem.outputs_of (records_of (net_in t)) ≡ outputs_in t
+  pub outputs_count : record_of.outputs_of (records_of (net_in t)) ≡ outputs_in t
   unfolding outputs_in
   outputs_count =
       let p = count_related At (λ k l j a b. sym a.is ∙ b.is) (lines_in t) out_line (size_in t) out_name text_line in

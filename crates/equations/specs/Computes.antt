@@ -6,7 +6,7 @@ use Rattle.ground.specs.Below.{any_below, count_below}
 use Rattle.gates.specs.Gate.{pins_of, gate_of}
 use Rattle.gates.specs.Boolean.{bool_gate}
 use Rattle.circuit.specs.declared.Checked.TheVariants.{Accepted}
-use Rattle.circuit.specs.Record as record_of_lem
+use Rattle.circuit.specs.Record as record_of
 use Rattle.circuit.specs.Promise.{check_of}
 use Rattle.simulate.specs.Work.{good_of}
 use Rattle.simulate.specs.Boolean.{Vector, good, truth_at}
@@ -32,7 +32,7 @@ pub record Acceptable (t : List ℕ) : Type 0 where
   pub no_cycle : TextCycle t → ⊥
   pub few_lines : size_in t ≤ 2048
   pub few_inputs : inputs_in (forms_in t) ≤ 64
-  pub some_output_lem : (k : ℕ) × Line says_output t k
+  pub has_output : (k : ℕ) × Line says_output t k
 
 -- ---- lines and names
 
@@ -45,9 +45,9 @@ pub record OwnLines (t : List ℕ) : Type 0 where
 
 -- the records by the names of their lines: an input's has kind 0, a gate's its kind, and at each pin of it the line of the source's name
 pub record OwnRecords (t c : List ℕ) : Type 0 where
-  pub input : (k : ℕ) → Line says_input t k → record_of_lem.kind_at c (line_for t (name_on t k)) ≡ 0
-  pub kind : (k : ℕ) → Line says_gate t k → record_of_lem.kind_at c (line_for t (name_on t k)) ≡ kind_on t k
-  pub pin : (k : ℕ) → Line says_gate t k → (s : ℕ) → 1 ≤ s → s ≤ pins_of (kind_on t k) → record_of_lem.pin_at c (line_for t (name_on t k)) s ≡ line_for t (source_on t k s)
+  pub input : (k : ℕ) → Line says_input t k → record_of.kind_at c (line_for t (name_on t k)) ≡ 0
+  pub kind : (k : ℕ) → Line says_gate t k → record_of.kind_at c (line_for t (name_on t k)) ≡ kind_on t k
+  pub pin : (k : ℕ) → Line says_gate t k → (s : ℕ) → 1 ≤ s → s ≤ pins_of (kind_on t k) → record_of.pin_at c (line_for t (name_on t k)) s ≡ line_for t (source_on t k s)
 
 -- the name w stands in some OUTPUT
 pub record IsOutput (t w : List ℕ) : Type 0 where
@@ -76,7 +76,7 @@ pub record Computes (t c : List ℕ) : Type 0 where
   pub lines : OwnLines t
   pub gates : InOrder t
   pub records : OwnRecords t c
-  pub outputs : (k : ℕ) → k < size_in t → (record_of_lem.is_output c k ≡ true) ↔ ((w : List ℕ) × IsOutput t w × (line_for t w ≡ k))
+  pub outputs : (k : ℕ) → k < size_in t → (record_of.is_output c k ≡ true) ↔ ((w : List ℕ) × IsOutput t w × (line_for t w ≡ k))
   -- for every pattern, with three values
   pub values : (p : List ℕ) → OneSolution gate_of t (λ j. get_or p j 0) (λ w. get_or (good_of c p (size_in t)) (line_for t w) 0)
   -- for every complete vector, over Bool
