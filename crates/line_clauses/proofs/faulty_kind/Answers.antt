@@ -3,7 +3,6 @@
 use borrow.Author.Tests.{eq-eqb, ne_eqb}
 use native.Mathlib.Omega.{arith}
 use mathlib.Core.Path.{sym, ◌∙◌}
-use borrow.Author.Rules.{rules}
 use Rattle.line_clauses.proofs.Lines.{kind_last}
 use Rattle.line_clauses.specs.Owed.{faulty_kind}
 use Rattle.line_clauses.proofs.faulty_kind.Goals as goal
