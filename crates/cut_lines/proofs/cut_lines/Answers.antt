@@ -1,0 +1,24 @@
+-- `cut_lines::cut_lines` meets its contract: two bytes of each line, one line after the other.
+-- Assumes nothing.
+use native.Mathlib.Omega.{arith}
+use Prim.Native.Nat.{◌-◌}
+use borrow.Author.Rules.{rules}
+use lib.ListN.{length, length-set}
+use Rattle.cut_lines.proofs.Lines.{SoFar, start, more, finished}
+use Rattle.cut_lines.proofs.cut_lines.Goals as goal
+
+pub loop-k-init : goal.loop-k-init
+loop-k-init c = start c.requires
+
+pub bounds-lines-k-in-loop-k : goal.bounds-lines-k-in-loop-k
+bounds-lines-k-in-loop-k c = simp length-set (omega arith)
+
+pub loop-k-preserved : goal.loop-k-preserved
+loop-k-preserved c =
+    more c.requires c.loop-k.invariant (omega arith) c.cut_kind-kind.ensures c.cut_out-out.ensures
+
+-- LOST same-length
+-- same_length c = c.before.loop.invariant.same
+
+pub returns : goal.returns
+returns c = finished c.requires c.loop-k.invariant (omega arith)

@@ -1,0 +1,13 @@
+-- `cut_lines::cut_out` meets its contract: one answer for each branch.
+-- Assumes nothing.
+use borrow.Author.Tests.{eq-eqb, ne_eqb}
+use Rattle.cut_lines.specs.Owed.{out_by}
+use Rattle.cut_lines.proofs.cut_out.Goals as goal
+
+pub returns-then-mark-eq0 : goal.returns-then-mark-eq0
+unfolding out_by
+returns-then-mark-eq0 c = simp (eq-eqb _ _ c.if-mark-eq0.true)
+
+pub returns : goal.returns
+unfolding out_by
+returns c = simp (ne_eqb _ _ c.if-mark-eq0.false)
