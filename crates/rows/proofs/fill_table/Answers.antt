@@ -1,0 +1,33 @@
+-- `rows::fill_table` meets its contract. The invariant: the rows passed are in the table.
+-- Assumes nothing.
+use native.Mathlib.Omega.{arith}
+use mathlib.Core.Path.{◌≡◌, refl, sym, ◌∙◌}
+use Prim.Native.Nat.{◌-◌}
+use Rattle.simulate.specs.Simulate.{stuck_at}
+use Rattle.rows.proofs.Tables.{SoFar, start, still, more, finished}
+use Rattle.lists.specs.Patterns.{pattern_count}
+use Rattle.rows.proofs.fill_table.Goals as goal
+
+pub loop-i-init : goal.loop-i-init
+loop-i-init c = (refl, start _ _ c.requires)
+
+pub put_row-requires : goal.put_row-requires
+put_row-requires c =
+    (still c.loop-i.invariant.1 c.requires, omega arith)
+
+pub loop-i-preserved : goal.loop-i-preserved
+loop-i-preserved c = let so = c.loop-i.invariant.1 in (
+  c.loop-i.invariant.0,
+  more so
+      (still so c.requires) (omega arith)
+      c.put_row.ensures,
+)
+
+-- LOST same-length
+-- same_length c = c.before.loop.invariant.1.long ∙ sym c.before.before.before.before.before.before.before.requires.entries
+
+-- LOST same-length-2
+-- same-length-2 c = omega (arith, c.before.loop.invariant.1.room, c.before.before.before.before.before.before.before.requires.room)
+
+pub returns : goal.returns
+returns c = finished c.loop-i.invariant.1 (omega arith) c.requires.patterns.some
