@@ -1,7 +1,6 @@
 -- `unfold::held_by` meets its contract: none in the first step, none of a gate, else the first record.
 -- Assumes nothing.
 use mathlib.Core.Path.{◌∙◌}
-use borrow.Author.Rules.{rules}
 use Rattle.unfold.proofs.Line.{held_none, held-gate, held-later}
 use Rattle.unfold.proofs.held_by.Goals as goal
 

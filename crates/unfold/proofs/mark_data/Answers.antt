@@ -1,9 +1,7 @@
 -- `unfold::mark_data` meets its contract. The invariant: the data lines of the records passed are marked.
 -- Assumes nothing.
-use Prim.Native.Nat.{◌-◌}
 use native.Mathlib.Omega.{arith}
-use Rattle.states.specs.States.{state_count}
-use Rattle.unfold.proofs.Marking.{MarkedTo, marked_none, marked_more, marked_all}
+use Rattle.unfold.proofs.Marking.{marked_none, marked_more, marked_all}
 use Rattle.unfold.proofs.mark_data.Goals as goal
 
 pub loop-r-init : goal.loop-r-init
@@ -18,9 +16,6 @@ bounds-marks-m c =
 
 pub loop-r-preserved : goal.loop-r-preserved
 loop-r-preserved c = rw c.data_line-m.ensures (marked_more c.loop-r.invariant c.loop-r-test.true)
-
--- LOST same-length
--- same_length c = c.before.loop.invariant.long
 
 pub returns : goal.returns
 returns c = marked_all c.loop-r.invariant c.loop-r-test.false

@@ -1,9 +1,8 @@
 -- `unfold::mark_data` meets its contract. The invariant: the data lines of the records passed are marked.
 -- Assumes nothing.
 use Prim.Native.Nat.{◌-◌}
-use native.Mathlib.Omega.{arith}
 use Rattle.states.specs.States.{state_count}
-use Rattle.unfold.proofs.Marking.{MarkedTo, marked_none, marked_more, marked_all}
+use Rattle.unfold.proofs.Marking.{MarkedTo}
 use Rattle.unfold.proofs.mark_data.Given as goal
 
 abbrev pub invariant-loop-r : goal.invariant-loop-r

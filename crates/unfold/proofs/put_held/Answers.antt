@@ -1,6 +1,5 @@
 -- `unfold::put_held` meets its contract: a buffer of the data line.
 -- Assumes nothing.
-use borrow.Author.Rules.{rules}
 use Rattle.unfold.proofs.put_held.Goals as goal
 
 pub returns : goal.returns

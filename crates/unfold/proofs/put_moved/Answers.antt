@@ -1,6 +1,5 @@
 -- `unfold::put_moved` meets its contract: the record of the line's kind with its three sources.
 -- Assumes nothing.
-use borrow.Author.Rules.{rules}
 use Rattle.unfold.proofs.put_moved.Goals as goal
 
 pub returns : goal.returns

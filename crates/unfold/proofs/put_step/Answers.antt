@@ -1,9 +1,6 @@
 -- `unfold::put_step` meets its contract. The invariant: the records of the lines below m are written.
 -- Assumes nothing.
-use Prim.Native.Nat.{◌-◌}
-use native.Mathlib.Omega.{arith}
-use Rattle.ground.proofs.Put.{put_long}
-use Rattle.unfold.proofs.Steps.{StepSoFar, step_none, line_room, step_more, step_all}
+use Rattle.unfold.proofs.Steps.{step_none, line_room, step_more, step_all}
 use Rattle.unfold.proofs.put_step.Goals as goal
 
 pub loop-m-init : goal.loop-m-init
@@ -16,9 +13,6 @@ put_step_line-at-requires c =
 pub loop-m-preserved : goal.loop-m-preserved
 loop-m-preserved c =
     step_more c.loop-m.invariant c.loop-m-test.true c.put_step_line-at.ensures
-
--- LOST same-length
--- same_length c = put_long c.before.loop.invariant.put
 
 pub returns : goal.returns
 returns c = step_all c.loop-m.invariant c.loop-m-test.false

@@ -1,9 +1,7 @@
 -- `unfold::put_step` meets its contract. The invariant: the records of the lines below m are written.
 -- Assumes nothing.
 use Prim.Native.Nat.{◌-◌}
-use native.Mathlib.Omega.{arith}
-use Rattle.ground.proofs.Put.{put_long}
-use Rattle.unfold.proofs.Steps.{StepSoFar, step_none, line_room, step_more, step_all}
+use Rattle.unfold.proofs.Steps.{StepSoFar}
 use Rattle.unfold.proofs.put_step.Given as goal
 
 abbrev pub invariant-loop-m : goal.invariant-loop-m

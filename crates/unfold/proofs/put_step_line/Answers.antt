@@ -1,7 +1,6 @@
 -- `unfold::put_step_line` meets its contract: a buffer where the line holds a value, else its own record, moved.
 -- Assumes nothing.
 use native.Mathlib.Omega.{arith}
-use borrow.Author.Rules.{rules}
 use Rattle.ground.proofs.Put.{put_as}
 use Rattle.unfold.proofs.Line.{later, held-ready, held_record, moved_ready, moved_record}
 use Rattle.unfold.proofs.put_step_line.Goals as goal

@@ -1,9 +1,6 @@
 -- `unfold::put_steps` meets its contract. The invariant: the records of the steps below i are written.
 -- Assumes nothing.
-use Prim.Native.Nat.{◌-◌}
-use native.Mathlib.Omega.{arith}
-use Rattle.ground.proofs.Put.{put_long}
-use Rattle.unfold.proofs.Steps.{StepsSoFar, steps_none, step_room, steps_more, steps_all}
+use Rattle.unfold.proofs.Steps.{steps_none, step_room, steps_more, steps_all}
 use Rattle.unfold.proofs.put_steps.Goals as goal
 
 pub loop-i-init : goal.loop-i-init
@@ -16,9 +13,6 @@ put_step-at-requires c =
 pub loop-i-preserved : goal.loop-i-preserved
 loop-i-preserved c =
     steps_more c.loop-i.invariant c.requires.1 c.loop-i-test.true (rw c.requires.0.ready.lines at c.put_step-at.ensures)
-
--- LOST same-length
--- same_length c = put_long c.before.loop.invariant.put
 
 pub returns : goal.returns
 returns c = steps_all c.loop-i.invariant c.requires.1 c.loop-i-test.false

@@ -1,9 +1,7 @@
 -- `unfold::put_steps` meets its contract. The invariant: the records of the steps below i are written.
 -- Assumes nothing.
 use Prim.Native.Nat.{◌-◌}
-use native.Mathlib.Omega.{arith}
-use Rattle.ground.proofs.Put.{put_long}
-use Rattle.unfold.proofs.Steps.{StepsSoFar, steps_none, step_room, steps_more, steps_all}
+use Rattle.unfold.proofs.Steps.{StepsSoFar}
 use Rattle.unfold.proofs.put_steps.Given as goal
 
 abbrev pub invariant-loop-i : goal.invariant-loop-i

@@ -1,7 +1,6 @@
 -- `unfold::step_out` meets its contract: a marked line of the last step is an output, else what the circuit says.
 -- Assumes nothing.
 use native.Mathlib.Omega.{arith}
-use borrow.Author.Rules.{rules}
 use Rattle.unfold.proofs.Line.{out_before, out_marked, out_unmarked}
 use Rattle.unfold.proofs.step_out.Goals as goal
 

@@ -1,6 +1,5 @@
 -- `unfold::unfold` meets its contract: a refusal of the clocked circuit is handed on, else the buffer's size decides.
 -- Assumes nothing.
-use borrow.Author.Rules.{rules}
 use Rattle.states.proofs.Steps.{clocked_accepts}
 use Rattle.unfold.proofs.Answer.{ready, refused_answer, room_answer}
 use Rattle.unfold.proofs.unfold.Goals as goal

@@ -1,7 +1,6 @@
 -- `unfold::unfold_checked` meets its contract: a buffer of another size is refused, else the records are written.
 -- Assumes nothing.
 use native.Mathlib.Omega.{arith}
-use borrow.Author.Rules.{rules}
 use Rattle.unfold.proofs.Whole.{lines_after_lem, few_after}
 use Rattle.unfold.proofs.Answer.{room_refused, room_fine}
 use Rattle.unfold.proofs.unfold_checked.Goals as goal

@@ -1,7 +1,6 @@
 -- `unfold::unfold_lines` meets its contract: memory for as many marks as there are lines is lent, with none set.
 -- Assumes nothing.
 use mathlib.Core.Path.{sym}
-use borrow.Author.Rules.{rules}
 use Rattle.ground.proofs.Filled.{take-replicate, filled_at, front_length}
 use Rattle.unfold.proofs.Whole.{few_lines}
 use Rattle.unfold.proofs.unfold_lines.Goals as goal

@@ -1,6 +1,5 @@
 -- `unfold::unfold_lines_in` meets its contract: the data lines are marked, the records written.
 -- Assumes nothing.
-use borrow.Author.Rules.{rules}
 use Rattle.unfold.proofs.Whole.{not-marked, are_marked}
 use Rattle.unfold.proofs.unfold_lines_in.Goals as goal
 
