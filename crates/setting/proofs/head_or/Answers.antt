@@ -1,6 +1,5 @@
 -- `setting::head_or` meets its contract: one answer for each branch.
 -- Assumes nothing.
-use borrow.Author.Rules.{rules}
 use borrow.Author.Tests.{eq-eqb, ne_eqb}
 use Rattle.setting.specs.Owed.{head_or}
 use Rattle.setting.proofs.head_or.Goals as goal

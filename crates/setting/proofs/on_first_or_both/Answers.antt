@@ -1,6 +1,5 @@
 -- `setting::on_first_or_both` meets its contract: one answer for each branch.
 -- Assumes nothing.
-use borrow.Author.Rules.{rules}
 use borrow.Author.Tests.{eq-eqb, ne_eqb}
 use Rattle.setting.specs.Owed.{forced_or}
 use Rattle.setting.proofs.on_first_or_both.Goals as goal

@@ -1,10 +1,7 @@
 -- `setting::put_heads` meets its contract: line by line, with the number of head lines so far.
 -- Assumes nothing.
 use native.Mathlib.Omega.{arith}
-use Prim.Native.Nat.{◌-◌}
-use borrow.Author.Rules.{rules}
-use lib.ListN.{length}
-use Rattle.setting.proofs.Heads.{Heads, no-head, used_small, head-ready, next-head, all_heads}
+use Rattle.setting.proofs.Heads.{no-head, used_small, head-ready, next-head, all_heads}
 use Rattle.setting.proofs.put_heads.Goals as goal
 
 pub loop-k-init : goal.loop-k-init
@@ -28,9 +25,6 @@ pub loop-k-preserved : goal.loop-k-preserved
 loop-k-preserved c =
     let so = c.loop-k.invariant in
     next-head c.requires.0 so (omega (arith, so.long)) c.head_or-v.ensures c.equal-used.ensures.0
-
--- LOST same-length
--- same_length c = c.before.loop.invariant.long
 
 pub returns : goal.returns
 returns c = let so = c.loop-k.invariant in all_heads c.requires.0 so (omega (arith, so.long))

@@ -1,10 +1,8 @@
 -- `setting::put_heads` meets its contract: line by line, with the number of head lines so far.
 -- Assumes nothing.
-use native.Mathlib.Omega.{arith}
 use Prim.Native.Nat.{◌-◌}
-use borrow.Author.Rules.{rules}
 use lib.ListN.{length}
-use Rattle.setting.proofs.Heads.{Heads, no-head, used_small, head-ready, next-head, all_heads}
+use Rattle.setting.proofs.Heads.{Heads}
 use Rattle.setting.proofs.put_heads.Given as goal
 
 abbrev pub invariant-loop-k : goal.invariant-loop-k

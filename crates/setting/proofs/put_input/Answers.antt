@@ -1,6 +1,5 @@
 -- `setting::put_input` meets its contract: an input has its place, of a gate nothing is written.
 -- Assumes nothing.
-use borrow.Author.Rules.{rules}
 use borrow.Author.Tests.{eq-eqb, ne_eqb}
 use Rattle.setting.specs.Owed.{input_put}
 use Rattle.setting.proofs.put_input.Goals as goal

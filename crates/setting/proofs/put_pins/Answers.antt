@@ -2,9 +2,8 @@
 -- Assumes nothing.
 use mathlib.Core.Path.{refl}
 use native.Mathlib.Omega.{arith}
-use Prim.Native.Nat.{◌-◌, ◌+◌}
-use borrow.Author.Rules.{rules}
-use Rattle.setting.proofs.Lines.{Pins, no_pin, next-pin, all_pins}
+use Prim.Native.Nat.{◌+◌}
+use Rattle.setting.proofs.Lines.{no_pin, next-pin, all_pins}
 use Rattle.setting.proofs.put_pins.Goals as goal
 
 pub loop-s-init : goal.loop-s-init
@@ -20,9 +19,6 @@ bounds-want-i c =
 
 pub loop-s-preserved : goal.loop-s-preserved
 loop-s-preserved c = next-pin c.loop-s.invariant (omega arith) c.need-x.ensures c.source-i.ensures
-
--- LOST same-length
--- same_length c = c.before.loop.invariant.long
 
 pub returns : goal.returns
 returns c = all_pins c.loop-s.invariant (omega arith)

@@ -1,10 +1,7 @@
 -- `setting::put_pins` meets its contract: one pin after the other.
 -- Assumes nothing.
-use mathlib.Core.Path.{refl}
-use native.Mathlib.Omega.{arith}
-use Prim.Native.Nat.{◌-◌, ◌+◌}
-use borrow.Author.Rules.{rules}
-use Rattle.setting.proofs.Lines.{Pins, no_pin, next-pin, all_pins}
+use Prim.Native.Nat.{◌-◌}
+use Rattle.setting.proofs.Lines.{Pins}
 use Rattle.setting.proofs.put_pins.Given as goal
 
 abbrev pub invariant-loop-s : goal.invariant-loop-s

@@ -1,7 +1,7 @@
 -- `setting::set_below` meets its contract: one line after the other, the highest first.
 -- Assumes nothing.
 use native.Mathlib.Omega.{arith}
-use Rattle.setting.proofs.Lines.{Below, all_below_lem, next_below, none_below}
+use Rattle.setting.proofs.Lines.{all_below_lem, next_below, none_below}
 use Rattle.setting.proofs.set_below.Goals as goal
 
 pub loop-k-init : goal.loop-k-init
@@ -15,9 +15,6 @@ set_line-requires c =
 pub loop-k-preserved : goal.loop-k-preserved
 loop-k-preserved c =
     next_below c.loop-k.invariant (omega arith) c.set_line.auto.want c.set_line.ensures
-
--- LOST same-length
--- same_length c = c.before.loop.invariant.long
 
 pub returns : goal.returns
 returns c = none_below c.loop-k.invariant (omega arith)

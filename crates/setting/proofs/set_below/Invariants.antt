@@ -1,7 +1,6 @@
 -- `setting::set_below` meets its contract: one line after the other, the highest first.
 -- Assumes nothing.
-use native.Mathlib.Omega.{arith}
-use Rattle.setting.proofs.Lines.{Below, all_below_lem, next_below, none_below}
+use Rattle.setting.proofs.Lines.{Below}
 use Rattle.setting.proofs.set_below.Given as goal
 
 abbrev pub invariant-loop-k : goal.invariant-loop-k

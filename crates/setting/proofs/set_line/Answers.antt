@@ -1,6 +1,5 @@
 -- `setting::set_line` meets its contract: a bound line puts nothing, a free one what its pins need.
 -- Assumes nothing.
-use borrow.Author.Rules.{rules}
 use Rattle.setting.proofs.Lines.{line-bound, line-free}
 use Rattle.setting.proofs.set_line.Goals as goal
 

@@ -1,10 +1,7 @@
 -- `setting::take_inputs` meets its contract: line by line, with the number of inputs so far.
 -- Assumes nothing.
 use native.Mathlib.Omega.{arith}
-use Prim.Native.Nat.{◌-◌}
-use borrow.Author.Rules.{rules}
-use lib.ListN.{length}
-use Rattle.setting.proofs.Inputs.{Inputs, no-input, used_small, input-ready, next-input, all-inputs}
+use Rattle.setting.proofs.Inputs.{no-input, used_small, input-ready, next-input, all-inputs}
 use Rattle.setting.proofs.take_inputs.Goals as goal
 
 pub loop-k-init : goal.loop-k-init
@@ -20,9 +17,6 @@ overflow_add-used c =
 pub loop-k-preserved : goal.loop-k-preserved
 loop-k-preserved c =
     next-input c.requires c.loop-k.invariant (omega arith) c.put_input.auto.test c.put_input.ensures c.equal-used.ensures.0
-
--- LOST same-length
--- same_length c = c.before.loop.invariant.long
 
 pub returns : goal.returns
 returns c = all-inputs c.requires c.loop-k.invariant (omega arith)

@@ -1,10 +1,8 @@
 -- `setting::take_inputs` meets its contract: line by line, with the number of inputs so far.
 -- Assumes nothing.
-use native.Mathlib.Omega.{arith}
 use Prim.Native.Nat.{◌-◌}
-use borrow.Author.Rules.{rules}
 use lib.ListN.{length}
-use Rattle.setting.proofs.Inputs.{Inputs, no-input, used_small, input-ready, next-input, all-inputs}
+use Rattle.setting.proofs.Inputs.{Inputs}
 use Rattle.setting.proofs.take_inputs.Given as goal
 
 abbrev pub invariant-loop-k : goal.invariant-loop-k
