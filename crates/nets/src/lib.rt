@@ -32,7 +32,7 @@ fn lay(records: &[u8], n: usize, circuit: &mut [u8]) -> Read
     if circuit.len() != 16384 {
         return Read::Refused(10, 0);
     }
-    circuit.copy_from_slice(records);
+    circuit[..records.len()].copy_from_slice(records);
     Read::Records(n)
 }
 

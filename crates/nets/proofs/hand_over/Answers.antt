@@ -3,7 +3,6 @@
 use Rattle.answers.proofs.Answer.{first_refused, first_fine}
 use Rattle.nets.proofs.Answer.{whole}
 use Rattle.circuit.proofs.Accepted.{accepts, refuses}
-use borrow.Author.Rules.{rules}
 use Rattle.nets.proofs.hand_over.Goals as goal
 
 pub lay-requires : goal.lay-requires

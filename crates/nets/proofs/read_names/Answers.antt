@@ -2,7 +2,6 @@
 -- Assumes nothing.
 use Rattle.ground.proofs.Filled.{front_length}
 use mathlib.Core.Path.{sym, ◌∙◌}
-use borrow.Author.Rules.{rules}
 use Rattle.nets.proofs.read_names.Goals as goal
 
 pub slice_bounds-a-end : goal.slice_bounds-a-end
@@ -25,6 +24,6 @@ slice_bounds-read_names_in-end-3 c = sym (front_length 8192 0 _ c.requires.read_
 
 pub read_names_in-requires : goal.read_names_in-requires
 read_names_in-requires c =
-    let (p, room) = c.requires in
+    let p = c.requires.read_names_ready in
     let gates = front_length 8192 0 _ p.few_gates in
-    record { read_names_ready = p; a_len = (gates, gates ∙ sym p.seconds, front_length 8192 0 _ p.few_outs, room) }
+    record { read_names_ready = p; a_len = (gates, gates ∙ sym p.seconds, front_length 8192 0 _ p.few_outs, c.requires.order_len) }

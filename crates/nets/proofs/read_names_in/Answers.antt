@@ -2,7 +2,6 @@
 -- Assumes nothing.
 use Rattle.nets.proofs.Names.{unresolved, firsts_long, unnamed, resolved, read_numbers_lem}
 use mathlib.Core.Path.{sym, ◌∙◌}
-use borrow.Author.Rules.{rules}
 use Rattle.nets.proofs.read_names_in.Goals as goal
 
 pub resolve-v-requires : goal.resolve-v-requires

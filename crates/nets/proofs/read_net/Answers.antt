@@ -1,7 +1,6 @@
 -- `nets::read_net` meets its contract: refusal 16, or the records in the order of the gates.
 -- Assumes nothing.
 use Rattle.nets.proofs.Order.{ordered, unordered, read_ordered}
-use borrow.Author.Rules.{rules}
 use Rattle.nets.proofs.read_net.Goals as goal
 
 pub read_order-requires : goal.read_order-requires

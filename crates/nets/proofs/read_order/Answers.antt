@@ -4,7 +4,6 @@ use Rattle.nets.proofs.Order.{too_many, fits}
 use Rattle.ground.proofs.Filled.{front_length}
 use mathlib.Core.Path.{sym}
 use native.Mathlib.Omega.{arith}
-use borrow.Author.Rules.{rules}
 use Rattle.nets.proofs.read_order.Goals as goal
 
 pub returns-then-n-gt2048 : goal.returns-then-n-gt2048

@@ -1,6 +1,5 @@
 -- `nets::read_order_in` meets its contract: the records that were written are handed over.
 -- Assumes nothing.
-use borrow.Author.Rules.{rules}
 use Rattle.nets.proofs.read_order_in.Goals as goal
 
 pub returns : goal.returns
