@@ -1,0 +1,17 @@
+-- `groups::fill_groups_in_steps` meets its contract. The invariant: the rows of the groups passed are in the table.
+-- Assumes nothing.
+use native.Mathlib.Omega.{arith}
+use mathlib.Core.Path.{◌≡◌, refl, sym, ◌∙◌}
+use Prim.Native.Nat.{◌-◌}
+use Rattle.lists.specs.Patterns.{pattern_count}
+use Rattle.simulate.specs.Simulate.{stuck_in_steps}
+use Rattle.groups.specs.Owed.{GroupCount}
+use Rattle.groups.proofs.Groups.{SoFar, start, still, more, finished}
+use Rattle.groups.proofs.fill_groups_in_steps.Given as goal
+
+abbrev pub invariant-loop-g : goal.invariant-loop-g
+invariant-loop-g l =
+    (l.count ≡ pattern_count l.inputs l.patterns) × GroupCount (pattern_count l.inputs l.patterns) l.groups × SoFar (stuck_in_steps l.step) l.circuit l.n l.inputs l.faults l.patterns l.table l.work l.groups l.g
+
+abbrev pub decreases-loop-g : goal.decreases-loop-g
+decreases-loop-g l = l.groups - l.g
