@@ -1,0 +1,23 @@
+-- `clauses::put_faulties` meets its contract. The invariant: the lines below k have been written.
+-- Assumes nothing.
+use native.Mathlib.Omega.{arith}
+use Prim.Native.Nat.{◌-◌}
+use Rattle.clauses.proofs.Loops.{SoFar, so_far_none, line_room, so_far_more, so_far_all}
+use Rattle.line_clauses.specs.Clauses.{faulty_clauses}
+use Rattle.ground.proofs.Put.{put_long}
+use Rattle.clauses.proofs.put_faulties.Goals as goal
+
+pub loop-k-init : goal.loop-k-init
+loop-k-init c = so_far_none _ _ _ _
+
+pub put_faulty-next-requires : goal.put_faulty-next-requires
+put_faulty-next-requires c = line_room c.loop-k.invariant c.requires.circuit c.requires.room c.loop-k-test.true
+
+pub loop-k-preserved : goal.loop-k-preserved
+loop-k-preserved c = so_far_more c.loop-k.invariant c.loop-k-test.true c.put_faulty-next.ensures
+
+-- LOST same-length
+-- same_length c = put_long c.before.loop.invariant.put
+
+pub returns : goal.returns
+returns c = so_far_all c.loop-k.invariant c.loop-k-test.false
