@@ -11,7 +11,7 @@ use std::sync::{Mutex, MutexGuard, PoisonError};
 use std::time::{Duration, SystemTime};
 
 /// A file of each sort that something is made of.
-const LIBRARY: [&str; 3] = ["crates/dictionary/src/lib.rt", "crates.txt", ".ci/native"];
+const LIBRARY: [&str; 3] = ["crates/entries/src/lib.rt", "crates.txt", ".ci/native"];
 const PROGRAM: [&str; 7] = [
     "rust/src/lib.rs",
     "rust/build.rs",
@@ -92,7 +92,7 @@ fn ran(before: &str) -> Said {
     (Some(0), "program check a b\n".to_string(), before.to_string())
 }
 
-const ALL: [&str; 3] = ["rt staticlib entries", "native", "cargo build compiler"];
+const ALL: [&str; 3] = ["rt lib", "native", "cargo build compiler"];
 
 #[test]
 fn everything_is_built_once() {
@@ -138,7 +138,7 @@ fn what_is_newer() {
         assert_eq!(repository.called(), (ran(""), vec![]), "{file}");
     }
     // a file that is new, and one that is gone
-    let new = repository.0.write("crates/dictionary/src/more.rt", "more");
+    let new = repository.0.write("crates/entries/src/more.rt", "more");
     assert_eq!(repository.called().1, ALL);
     fs::remove_file(new).expect("a file");
     assert_eq!(repository.called().1, ALL);
