@@ -1,12 +1,8 @@
 -- `groups::fill_group` meets its contract. The invariant: the columns of the faults passed are in the table, and the good lines stand.
 -- Assumes nothing.
 use native.Mathlib.Omega.{arith}
-use mathlib.Core.Path.{◌≡◌, refl, sym, ◌∙◌}
-use Prim.Native.Nat.{◌-◌}
-use Rattle.lists.specs.Faults.{fault_count}
-use Rattle.lists.specs.Patterns.{pattern_count}
-use Rattle.simulate.specs.Simulate.{stuck_in_steps}
-use Rattle.groups.proofs.Columns.{SoFar, good-ready, start, fault_ready, column_ready, more, finished}
+use mathlib.Core.Path.{refl}
+use Rattle.groups.proofs.Columns.{good-ready, start, fault_ready, column_ready, more, finished}
 use Rattle.groups.proofs.fill_group.Goals as goal
 
 pub good_words-requires : goal.good_words-requires
@@ -37,12 +33,6 @@ pub loop-j-preserved : goal.loop-j-preserved
 loop-j-preserved c =
     let inv = c.loop-j.invariant in
     (inv.0, inv.1, more inv.2 (omega arith) c.read_fault-fault.ensures c.fault_entries-entries.ensures (rw (inv.0, inv.1) at c.put_column.ensures))
-
--- LOST same-length
--- same_length c = c.before.loop.invariant.2.long ∙ sym (entry c.before).pre.0.entries
-
--- LOST same-length-2
--- same-length-2 c = c.before.loop.invariant.2.room ∙ sym (entry c.before).pre.0.room
 
 pub returns : goal.returns
 returns c = finished c.loop-j.invariant.2 c.requires.0 (omega arith)

@@ -1,12 +1,11 @@
 -- `groups::fill_group` meets its contract. The invariant: the columns of the faults passed are in the table, and the good lines stand.
 -- Assumes nothing.
-use native.Mathlib.Omega.{arith}
-use mathlib.Core.Path.{◌≡◌, refl, sym, ◌∙◌}
+use mathlib.Core.Path.{◌≡◌}
 use Prim.Native.Nat.{◌-◌}
 use Rattle.lists.specs.Faults.{fault_count}
 use Rattle.lists.specs.Patterns.{pattern_count}
 use Rattle.simulate.specs.Simulate.{stuck_in_steps}
-use Rattle.groups.proofs.Columns.{SoFar, good-ready, start, fault_ready, column_ready, more, finished}
+use Rattle.groups.proofs.Columns.{SoFar}
 use Rattle.groups.proofs.fill_group.Given as goal
 
 abbrev pub invariant-loop-j : goal.invariant-loop-j

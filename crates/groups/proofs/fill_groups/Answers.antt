@@ -1,6 +1,5 @@
 -- `groups::fill_groups` meets its contract: one step of all lines.
 -- Assumes nothing.
-use borrow.Author.Rules.{rules}
 use Rattle.groups.proofs.OneStep.{one_step_done}
 use Rattle.groups.proofs.fill_groups.Goals as goal
 

@@ -1,12 +1,8 @@
 -- `groups::fill_groups_in_steps` meets its contract. The invariant: the rows of the groups passed are in the table.
 -- Assumes nothing.
 use native.Mathlib.Omega.{arith}
-use mathlib.Core.Path.{◌≡◌, refl, sym, ◌∙◌}
-use Prim.Native.Nat.{◌-◌}
-use Rattle.lists.specs.Patterns.{pattern_count}
-use Rattle.simulate.specs.Simulate.{stuck_in_steps}
-use Rattle.groups.specs.Owed.{GroupCount}
-use Rattle.groups.proofs.Groups.{SoFar, start, still, more, finished}
+use mathlib.Core.Path.{refl}
+use Rattle.groups.proofs.Groups.{start, still, more, finished}
 use Rattle.groups.proofs.fill_groups_in_steps.Goals as goal
 
 pub group_count-groups-requires : goal.group_count-groups-requires
@@ -34,12 +30,6 @@ pub loop-g-preserved : goal.loop-g-preserved
 loop-g-preserved c =
     let inv = c.loop-g.invariant in
     (inv.0, inv.1, more inv.2 (still inv.2 c.requires.0) (omega arith) inv.1 (rw inv.0 at c.group_rows-rows.ensures) c.put_group.ensures)
-
--- LOST same-length
--- same_length c = c.before.loop.invariant.2.long ∙ sym (entry c.before).pre.0.entries
-
--- LOST same-length-2
--- same-length-2 c = c.before.loop.invariant.2.room ∙ sym (entry c.before).pre.0.room
 
 pub returns : goal.returns
 returns c =

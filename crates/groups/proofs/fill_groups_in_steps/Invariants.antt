@@ -1,12 +1,11 @@
 -- `groups::fill_groups_in_steps` meets its contract. The invariant: the rows of the groups passed are in the table.
 -- Assumes nothing.
-use native.Mathlib.Omega.{arith}
-use mathlib.Core.Path.{◌≡◌, refl, sym, ◌∙◌}
+use mathlib.Core.Path.{◌≡◌}
 use Prim.Native.Nat.{◌-◌}
 use Rattle.lists.specs.Patterns.{pattern_count}
 use Rattle.simulate.specs.Simulate.{stuck_in_steps}
 use Rattle.groups.specs.Owed.{GroupCount}
-use Rattle.groups.proofs.Groups.{SoFar, start, still, more, finished}
+use Rattle.groups.proofs.Groups.{SoFar}
 use Rattle.groups.proofs.fill_groups_in_steps.Given as goal
 
 abbrev pub invariant-loop-g : goal.invariant-loop-g

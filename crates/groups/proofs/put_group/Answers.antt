@@ -1,13 +1,15 @@
 -- `groups::put_group` meets its contract: the patterns and their rows are parts of their lists.
 -- Assumes nothing.
-use native.Mathlib.Omega.{arith}
-use borrow.Author.Rules.{rules}
-use Prim.Native.Nat.{◌+◌, ◌*◌, ◌≤◌}
-use lib.ListN.{length}
-use Rattle.lists.specs.Faults.{fault_count}
 use Rattle.simulate.specs.Simulate.{stuck_in_steps}
 use Rattle.groups.proofs.Parts.{patterns_fit, entries_fit, group_ready, put}
 use Rattle.groups.proofs.put_group.Goals as goal
+
+-- the patterns, and their entries, lie in their memory
+pub slice_bounds-group-end : goal.slice_bounds-group-end
+slice_bounds-group-end c = patterns_fit c.args.patterns.now c.requires.0.patterns c.requires.2
+
+pub slice_bounds-fill_group-end : goal.slice_bounds-fill_group-end
+slice_bounds-fill_group-end c = entries_fit c.requires.0 c.requires.2
 
 pub fill_group-requires : goal.fill_group-requires
 fill_group-requires c = (
