@@ -1,6 +1,5 @@
 -- `sides::look_at` meets its contract: the faulty values, and what both say without masks.
 -- Assumes nothing.
-use borrow.Author.Rules.{rules}
 use Rattle.simulate.specs.Simulate.{stuck_at}
 use Rattle.entry.proofs.Halves.{of_halves}
 use Rattle.sides.specs.Look.{settled, look_of, look_work}

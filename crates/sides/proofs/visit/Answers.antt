@@ -3,7 +3,6 @@
 use mathlib.Core.Path.{◌≡◌, ap, ◌∙◌}
 use mathlib.Core.List.{List}
 use Prim.Native.Nat.{ℕ}
-use borrow.Author.Rules.{rules}
 use lib.ListN.{take, drop}
 use Rattle.simulate.specs.Owed.{Shaped}
 use Rattle.simulate.proofs.Work.{good_front}
