@@ -1,0 +1,27 @@
+-- `bench_names::hand_over` meets its contract. The invariant: the places of the lines below k are written.
+-- Assumes nothing.
+use Prim.Native.Nat.{◌-◌}
+use native.Mathlib.Nat.{zero-add}
+use native.Mathlib.Omega.{arith}
+use lib.ListN.{length}
+use borrow.Author.Rules.{rules}
+use Rattle.ground.proofs.Put.{Partly, partly_long, partly_none, partly_more}
+use Rattle.answers.proofs.Answer.{refused_done}
+use Rattle.bench_names.proofs.Room.{other_count, all_over}
+use Rattle.bench_names.proofs.hand_over.Goals as goal
+
+pub returns-then-places-ne2048 : goal.returns-then-places-ne2048
+returns-then-places-ne2048 c = refused_done (other_count c.if-places-ne2048.true)
+
+pub bounds-places-k : goal.bounds-places-k
+bounds-places-k c = omega (arith, partly_long c.loop-k.invariant, c.loop-k.invariant.at_most)
+
+pub loop-k-preserved : goal.loop-k-preserved
+loop-k-preserved c =
+    rw (zero-add c.loop-k.k) at (partly_more 0 c.loop-k.invariant c.loop-k-test.true c.wide16.ensures.0)
+
+-- LOST same-length
+-- same_length c = partly_long c.before.loop.invariant
+
+pub returns : goal.returns
+returns c = all_over c.loop-k.invariant c.if-places-ne2048.false c.requires c.loop-k-test.false
