@@ -1,7 +1,6 @@
 -- `listing::listing` meets its contract: a refusal of the circuit, or the rest.
 -- Assumes nothing.
 use native.Mathlib.Omega.{arith}
-use borrow.Author.Rules.{rules}
 use Rattle.listing.proofs.Whole.{circuit_listed}
 use Rattle.circuit.proofs.Accepted.{accepts, refuses, known}
 use Rattle.listing.proofs.listing.Goals as goal
@@ -10,4 +9,4 @@ pub put_accepted-requires : goal.put_accepted-requires
 put_accepted-requires c = (known (accepts c.in-Accepted.is c.check-v.ensures), omega arith, omega arith)
 
 pub returns-in-Refused : goal.returns-in-Refused
-returns-in-Refused c = circuit_listed (omega arith) (refuses c.in-Refused.is c.check-v.ensures) c.Put-refused.ensures
+returns-in-Refused c = circuit_listed (omega arith) (refuses c.in-Refused.is c.check-v.ensures) c.put_refused.ensures

@@ -3,7 +3,6 @@
 use lib.Seq.{length-take-le}
 use mathlib.Core.Path.{sym}
 use native.Mathlib.Omega.{arith}
-use borrow.Author.Rules.{rules}
 use Rattle.listing.proofs.Made.{tabled}
 use Rattle.listing.proofs.make.Goals as goal
 

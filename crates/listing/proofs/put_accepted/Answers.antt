@@ -1,7 +1,6 @@
 -- `listing::put_accepted` meets its contract: as much of the table as the entries need is lent.
 -- Assumes nothing.
 use mathlib.Core.Path.{sym}
-use borrow.Author.Rules.{rules}
 use Rattle.listing.proofs.Whole.{counted, lent_long, sizes, listed}
 use Rattle.listing.proofs.put_accepted.Goals as goal
 

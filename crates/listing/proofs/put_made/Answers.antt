@@ -1,6 +1,5 @@
 -- `listing::put_made` meets its contract: a refusal, or the lines.
 -- Assumes nothing.
-use borrow.Author.Rules.{rules}
 use Rattle.listing.proofs.Whole.{refused_lists, fine_lists}
 use Rattle.listing.proofs.Made.{full}
 use Rattle.listing.proofs.put_made.Goals as goal
@@ -11,7 +10,7 @@ put_table-requires c =
 
 pub returns-in-Refused : goal.returns-in-Refused
 returns-in-Refused c =
-    refused_lists c.requires.put_made_ready.1 (rw c.in-Refused.is at c.make-v.ensures) c.Put-refused.ensures
+    refused_lists c.requires.put_made_ready.1 (rw c.in-Refused.is at c.make-v.ensures) c.put_refused.ensures
 
 pub returns-in-Fine : goal.returns-in-Fine
 returns-in-Fine c =

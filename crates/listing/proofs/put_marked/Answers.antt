@@ -1,6 +1,5 @@
 -- `listing::put_marked` meets its contract: the compactor makes the marks.
 -- Assumes nothing.
-use borrow.Author.Rules.{rules}
 use Rattle.listing.proofs.Made.{marks_are}
 use Rattle.listing.proofs.put_marked.Goals as goal
 

@@ -3,7 +3,6 @@
 use lib.Seq.{length-take-le}
 use mathlib.Core.Path.{sym}
 use native.Mathlib.Omega.{arith}
-use borrow.Author.Rules.{rules}
 use Rattle.listing.proofs.put_table.Goals as goal
 
 pub slice_bounds-put_marked-end : goal.slice_bounds-put_marked-end
