@@ -2,7 +2,7 @@
 -- Assumes nothing.
 use mathlib.Core.Path.{◌≡◌, refl, sym, ap, ◌∙◌}
 use mathlib.Core.Bool.{Bool, true, false, ◌||◌}
-use mathlib.Core.List.{List, ◌∷◌, ◌++◌, map}
+use mathlib.Core.List.{List, [], ◌∷◌, ◌++◌, map}
 use Prim.Native.Nat.{ℕ, zero, suc, ◌+◌, ◌-◌, ◌<◌}
 use native.Mathlib.Nat.{le_of_suc-le-suc}
 use native.Mathlib.Omega.{arith}
@@ -53,6 +53,7 @@ nth test t {j} l =
     record { place = w.place; line = record { inside = w.below; passes = w.passes }; before = w.before }
 
 pub map_get : (f : ℕ → ℕ) (l : List ℕ) (k : ℕ) → k < length l → get_or (map f l) k 0 ≡ f (get_or l k 0)
+map_get f [] k h = elim h [ ]
 map_get f (x ∷ l) zero h = refl
 map_get f (x ∷ l) (suc k) h = map_get f l k (le_of_suc-le-suc h)
 
