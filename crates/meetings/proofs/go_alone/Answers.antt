@@ -4,7 +4,6 @@ use mathlib.Core.Path.{sym}
 use mathlib.Core.Bool.{false≢true}
 use Prim.Native.Nat.{◌-◌}
 use native.Mathlib.Omega.{arith}
-use borrow.Author.Rules.{rules}
 use Rattle.standings.proofs.Meeting.{met_alone}
 use Rattle.sides.specs.Look.{look_of}
 use Rattle.meetings.proofs.Alone.{run_ready, nodes_fit}

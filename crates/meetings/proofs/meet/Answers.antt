@@ -2,7 +2,6 @@
 -- Assumes nothing.
 use mathlib.Core.Path.{sym}
 use native.Mathlib.Omega.{arith}
-use borrow.Author.Rules.{rules}
 use Rattle.standings.proofs.Meeting.{met_spent}
 use Rattle.meetings.proofs.Alone.{ready_so, done_so}
 use Rattle.meetings.proofs.meet.Goals as goal

@@ -1,9 +1,7 @@
 -- `meetings::meet_all` meets its contract. The invariant: the faults passed have come to the node, and the good values stand.
 -- Assumes nothing.
 use native.Mathlib.Omega.{arith}
-use Prim.Native.Nat.{◌-◌}
-use lib.ListN.{length}
-use Rattle.meetings.proofs.Coming.{SoFar, start, next-ready, more}
+use Rattle.meetings.proofs.Coming.{start, next-ready, more}
 use Rattle.meetings.proofs.meet_all.Goals as goal
 
 pub loop-i-init : goal.loop-i-init

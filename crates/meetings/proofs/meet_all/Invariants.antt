@@ -1,9 +1,8 @@
 -- `meetings::meet_all` meets its contract. The invariant: the faults passed have come to the node, and the good values stand.
 -- Assumes nothing.
-use native.Mathlib.Omega.{arith}
 use Prim.Native.Nat.{◌-◌}
 use lib.ListN.{length}
-use Rattle.meetings.proofs.Coming.{SoFar, start, next-ready, more}
+use Rattle.meetings.proofs.Coming.{SoFar}
 use Rattle.meetings.proofs.meet_all.Given as goal
 
 abbrev pub invariant-loop-i : goal.invariant-loop-i

@@ -2,7 +2,6 @@
 -- Assumes nothing.
 use mathlib.Core.Path.{◌∙◌}
 use native.Mathlib.Omega.{arith}
-use borrow.Author.Rules.{rules}
 use Rattle.lists.proofs.Parts.{lent_long}
 use Rattle.meetings.specs.Owed.{Held}
 use Rattle.meetings.proofs.Held.{test_fits, unmet, meet_ready, met_back}
@@ -18,9 +17,6 @@ overflow_mul-at c = omega (arith, test_fits c.requires.0.list c.requires.1)
 
 pub overflow_add-to : goal.overflow_add-to
 overflow_add-to c = omega (arith, test_fits c.requires.0.list c.requires.1)
-
--- LOST slice-bounds-meet-end
--- part-meet-end c = let p = (entry c.before.before).requires in omega (arith, test_fits p.0.list p.1)
 
 pub meet-met-requires : goal.meet-met-requires
 meet-met-requires c =
