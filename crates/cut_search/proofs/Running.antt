@@ -63,7 +63,7 @@ module _ {c marks lines : List ℕ} {fault : Fault} {s : Node} {n test room : �
 -- ---- before the circuit is cut
 
 module _ {c marks : List ℕ} {lines : ℕ} {fault : Fault} {s : Node} {n test room : ℕ} (p : RunCutReady c marks lines fault s n test room) where
-  size : length c ≡ 8 * n
+  pub size : length c ≡ 8 * n
   size = (well p.ready.known).size
 
   pub copy_room : length c ≤ lines

@@ -1,11 +1,7 @@
 -- `cut_search::count_heads` meets its contract: line by line.
 -- Assumes nothing.
 use native.Mathlib.Omega.{arith}
-use Prim.Native.Nat.{◌-◌}
-use borrow.Author.Rules.{rules}
-use lib.Dec.{eqb}
-use lib.ListN.{length, get_or}
-use Rattle.ground.proofs.Counting.{Sum, no_sum, sum_small, sum_more, sum_all}
+use Rattle.ground.proofs.Counting.{no_sum, sum_small, sum_more, sum_all}
 use Rattle.cut_search.proofs.count_heads.Goals as goal
 
 pub loop-k-init : goal.loop-k-init

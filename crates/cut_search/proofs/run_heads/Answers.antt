@@ -2,7 +2,6 @@
 -- Assumes nothing.
 use mathlib.Core.Path.{◌≡◌, sym, ap, ◌∙◌}
 use lib.ListN.{length, take}
-use borrow.Author.Rules.{rules}
 use Rattle.ground.proofs.Filled.{front_length}
 use Rattle.nodes.specs.Node.{start}
 use Rattle.nodes.proofs.Node.{start_part}

@@ -1,6 +1,5 @@
 -- `cut_search::search_cut` meets its contract: the search of the bytes that were cut, and what it leaves of the node with its trees set.
 -- Assumes nothing.
-use borrow.Author.Rules.{rules}
 use Rattle.cut_search.proofs.Running.{side-ready, trees_ready, cut-done}
 use Rattle.cut_search.proofs.search_cut.Goals as goal
 
