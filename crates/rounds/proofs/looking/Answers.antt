@@ -1,11 +1,7 @@
 -- `rounds::looking` meets its contract. The invariant: those passed that look are counted.
 -- Assumes nothing.
-use Prim.Native.Nat.{◌-◌}
 use native.Mathlib.Omega.{arith}
-use borrow.Author.Rules.{rules}
-use lib.ListN.{length}
-use Rattle.ground.proofs.Counting.{Sum, no_sum, sum_small, sum_more, sum_all}
-use Rattle.rounds.specs.Owed.{looks_at}
+use Rattle.ground.proofs.Counting.{no_sum, sum_small, sum_more, sum_all}
 use Rattle.rounds.proofs.looking.Goals as goal
 
 pub loop-i-preserved : goal.loop-i-preserved

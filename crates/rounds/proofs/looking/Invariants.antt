@@ -1,10 +1,8 @@
 -- `rounds::looking` meets its contract. The invariant: those passed that look are counted.
 -- Assumes nothing.
 use Prim.Native.Nat.{◌-◌}
-use native.Mathlib.Omega.{arith}
-use borrow.Author.Rules.{rules}
 use lib.ListN.{length}
-use Rattle.ground.proofs.Counting.{Sum, no_sum, sum_small, sum_more, sum_all}
+use Rattle.ground.proofs.Counting.{Sum}
 use Rattle.rounds.specs.Owed.{looks_at}
 use Rattle.rounds.proofs.looking.Given as goal
 

@@ -3,7 +3,6 @@
 use mathlib.Core.Path.{refl, sym, ap, ◌∙◌}
 use mathlib.Core.Bool.{false≢true}
 use native.Mathlib.Omega.{arith}
-use borrow.Author.Rules.{rules}
 use lib.ListN.{length, take, drop}
 use Rattle.ground.proofs.Counting.{count_most}
 use Rattle.nodes.proofs.Node.{x_inside, x_nowhere}
@@ -40,7 +39,7 @@ pub returns-then-few : goal.returns-then-few
 returns-then-few c =
     record {
       first = λ h. absurd (omega arith);
-      c = λ h. absurd (omega arith);
+      met = λ h. absurd (omega arith);
       over = λ h j b. (c.meet_all.ensures j b).nodes_met refl;
     }
 
@@ -53,7 +52,7 @@ meet_all-requires-2 c =
     record {
       list = ready_still (same_size (c.args.reaches.now, c.args.counts.now, c.args.tests.now)) c.good_values.auto.work c.requires.list;
       node = c.requires.node;
-      c = λ e. ap (take c.args.n) c.good_values.ensures ∙ good_front c.args.circuit.now c.args.node.now c.args.n (drop c.args.n c.args.work.now);
+      good = λ e. ap (take c.args.n) c.good_values.ensures ∙ good_front c.args.circuit.now c.args.node.now c.args.n (drop c.args.n c.args.work.now);
       levels = c.requires.levels;
       below = omega (arith, c.requires.most);
     }
@@ -63,6 +62,6 @@ returns c =
     let s = c.args.node.now in
     record {
       first = λ h. x_inside c.first_x.ensures h;
-      c = λ h. c.meet_all-2.ensures;
+      met = λ h. c.meet_all-2.ensures;
       over = λ h j b. met_last (x_nowhere s c.first_x.ensures h) ((c.meet_all-2.ensures j b).node_met refl);
     }
