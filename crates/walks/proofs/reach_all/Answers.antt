@@ -1,0 +1,17 @@
+-- `walks::reach_all` meets its contract. The invariant: the faults passed have the reach, and no nodes.
+-- Assumes nothing.
+use Prim.Native.Nat.{◌-◌}
+use native.Mathlib.Omega.{arith}
+use borrow.Author.Rules.{rules}
+use lib.ListN.{length}
+use Rattle.walks.proofs.Alike.{SoFar, start, more}
+use Rattle.walks.proofs.reach_all.Goals as goal
+
+pub bounds-counts-i : goal.bounds-counts-i
+bounds-counts-i c =
+    omega (arith, c.loop-i.invariant.reaches, c.loop-i.invariant.counts, c.requires)
+
+pub loop-i-preserved : goal.loop-i-preserved
+loop-i-preserved c =
+    let so = c.loop-i.invariant in
+    more so (omega arith) (omega (arith, so.reaches, so.counts, c.requires))
