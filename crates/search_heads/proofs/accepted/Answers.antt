@@ -3,7 +3,6 @@
 use mathlib.Core.Path.{◌≡◌, sym, ◌∙◌}
 use native.Mathlib.Omega.{arith}
 use lib.ListN.{length}
-use borrow.Author.Rules.{rules}
 use Rattle.answers.specs.declared.Ruling.TheVariants.{Fine}
 use Rattle.answers.specs.Rules.{refusal}
 use Rattle.answers.proofs.Answer.{refused_done}
@@ -20,7 +19,7 @@ read_fault-at-requires c =
 pub run_sized-found-requires : goal.run_sized-found-requires
 run_sized-found-requires c =
     let fine : refusal (search_rest_rules c.args.circuit.now c.args.fault.now c.args.inputs c.args.n (length c.args.test.now) (length c.args.work.now)) ≡ Fine = sym c.check_rest-v.ensures ∙ c.in-Fine.is in
-    (omega (arith, c.requires.lines, c.requires.good.most_lines), record { c.requires = c.requires; run = (runs _ _ _ _ _ _ fine c.read_fault-at.ensures c.requires).1 })
+    (omega (arith, c.requires.lines, c.requires.good.most_lines), record { known = c.requires; run = (runs _ _ _ _ _ _ fine c.read_fault-at.ensures c.requires).1 })
 
 pub returns-in-Refused : goal.returns-in-Refused
 returns-in-Refused c = refused_done (sym c.check_rest-v.ensures ∙ c.in-Refused.is)

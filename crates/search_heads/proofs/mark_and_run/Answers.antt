@@ -1,7 +1,6 @@
 -- `search_heads::mark_and_run` meets its contract: the marks are made, and what counted the readings is free again.
 -- Assumes nothing.
 use mathlib.Core.Path.{◌∙◌}
-use borrow.Author.Rules.{rules}
 use Rattle.search_heads.proofs.Answer.{mark-ready, either-ready}
 use Rattle.search_heads.proofs.mark_and_run.Goals as goal
 

@@ -1,7 +1,6 @@
 -- `search_heads::run_either` meets its contract: the mark of the fault's line decides which search runs.
 -- Assumes nothing.
 use native.Mathlib.Omega.{arith}
-use borrow.Author.Rules.{rules}
 use Rattle.search_heads.proofs.Answer.{heads_ready, over_heads, over_inputs}
 use Rattle.search_heads.proofs.run_either.Goals as goal
 

@@ -3,7 +3,6 @@
 use mathlib.Core.Path.{sym}
 use Prim.Native.Nat.{◌*◌}
 use native.Mathlib.Omega.{arith}
-use borrow.Author.Rules.{rules}
 use Rattle.ground.proofs.Filled.{front_length}
 use Rattle.search_heads.proofs.Answer.{room_ready}
 use Rattle.search_heads.proofs.run_large.Goals as goal

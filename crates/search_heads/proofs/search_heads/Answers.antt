@@ -1,6 +1,5 @@
 -- `search_heads::search_heads` meets its contract: a refusal of the circuit is handed on, else the rest decides.
 -- Assumes nothing.
-use borrow.Author.Rules.{rules}
 use Rattle.answers.proofs.Answer.{first_refused, first_fine}
 use Rattle.search_heads.proofs.Answer.{searches}
 use Rattle.circuit.proofs.Accepted.{accepts, refuses, known}
