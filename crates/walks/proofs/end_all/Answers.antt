@@ -1,11 +1,7 @@
 -- `walks::end_all` meets its contract. The invariant: the reaches passed have become outcomes.
 -- Assumes nothing.
-use mathlib.Core.Path.{refl}
-use Prim.Native.Nat.{◌-◌}
 use native.Mathlib.Omega.{arith}
-use borrow.Author.Rules.{rules}
-use lib.ListN.{length}
-use Rattle.walks.proofs.Reaches.{SoFar, ended_more}
+use Rattle.walks.proofs.Reaches.{ended_more}
 use Rattle.walks.proofs.end_all.Goals as goal
 
 pub loop-i-preserved : goal.loop-i-preserved

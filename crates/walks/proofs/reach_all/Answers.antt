@@ -1,10 +1,7 @@
 -- `walks::reach_all` meets its contract. The invariant: the faults passed have the reach, and no nodes.
 -- Assumes nothing.
-use Prim.Native.Nat.{◌-◌}
 use native.Mathlib.Omega.{arith}
-use borrow.Author.Rules.{rules}
-use lib.ListN.{length}
-use Rattle.walks.proofs.Alike.{SoFar, start, more}
+use Rattle.walks.proofs.Alike.{more}
 use Rattle.walks.proofs.reach_all.Goals as goal
 
 pub bounds-counts-i : goal.bounds-counts-i

@@ -1,10 +1,8 @@
 -- `walks::reach_all` meets its contract. The invariant: the faults passed have the reach, and no nodes.
 -- Assumes nothing.
 use Prim.Native.Nat.{◌-◌}
-use native.Mathlib.Omega.{arith}
-use borrow.Author.Rules.{rules}
 use lib.ListN.{length}
-use Rattle.walks.proofs.Alike.{SoFar, start, more}
+use Rattle.walks.proofs.Alike.{SoFar}
 use Rattle.walks.proofs.reach_all.Given as goal
 
 abbrev pub invariant-loop-i : goal.invariant-loop-i

@@ -2,7 +2,6 @@
 -- Assumes nothing.
 use mathlib.Core.Path.{refl, sym, ap, ◌∙◌}
 use native.Mathlib.Omega.{arith}
-use borrow.Author.Rules.{rules}
 use lib.ListN.{length, length-replicate}
 use Rattle.nodes.proofs.Node.{start_part}
 use Rattle.meetings.proofs.Coming.{SameSize, ready_still}
