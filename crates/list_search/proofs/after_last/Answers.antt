@@ -1,0 +1,23 @@
+-- `list_search::after_last` meets its contract. The invariant: every budget passed is 0.
+-- Assumes nothing.
+use Prim.Native.Nat.{◌≤◌}
+use native.Mathlib.Omega.{arith}
+use lib.ListN.{length}
+use Rattle.list_search.proofs.Budgets.{NoneFrom, none_outside, none_before}
+use Rattle.list_search.proofs.after_last.Goals as goal
+
+pub loop-i-init : goal.loop-i-init
+loop-i-init c = (omega arith, none_outside c.args.budgets.now)
+
+pub returns-then-budgets-i-ne0 : goal.returns-then-budgets-i-ne0
+returns-then-budgets-i-ne0 c =
+    let so = c.loop-i.invariant in
+    record { inside = so.0; none = so.1; last = λ _. omega (arith, c.if-budgets-i-ne0.true) }
+
+pub loop-i-preserved : goal.loop-i-preserved
+loop-i-preserved c = (omega arith, none_before c.args.budgets.now _ (omega arith) c.loop-i.invariant.1 c.if-budgets-i-ne0.false)
+
+pub returns : goal.returns
+returns c =
+    let none = c.loop-i.invariant.1 in
+    record { inside = omega arith; none = λ j _. none j (omega arith); last = λ h. absurd (omega arith) }
