@@ -11,6 +11,12 @@ ghost use Rattle.answers.specs.Area.{area_of};
 
 use little::put_eight;
 
+// How many records an empty list has.
+const EMPTY: usize = 0;
+
+// The largest byte that is a value or an entry.
+const LARGEST: u8 = 2;
+
 // What a list of rules says.
 #[derive(Drop)]
 pub enum Ruling {
@@ -28,7 +34,7 @@ pub fn records_ok(bytes: usize, width: usize, most: usize) -> bool
         return false;
     }
     let n = bytes / width;
-    if n == 0 {
+    if n == EMPTY {
         return false;
     }
     n <= most
@@ -40,7 +46,7 @@ pub fn first_big(bytes: &[u8]) -> usize
 {
     let mut i = 0;
     while i < bytes.len() {
-        if 2 < bytes[i] {
+        if LARGEST < bytes[i] {
             return i;
         }
         i += 1;

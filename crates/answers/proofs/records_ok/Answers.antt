@@ -10,10 +10,10 @@ pub returns-then-bytes-width-ne0 : goal.returns-then-bytes-width-ne0
 unfolding records_ok
 returns-then-bytes-width-ne0 c = simp (ne_eqb _ _ c.if-bytes-width-ne0.true)
 
-pub returns-then-n-eq0 : goal.returns-then-n-eq0
+pub returns-then-n-eq-EMPTY : goal.returns-then-n-eq-EMPTY
 unfolding records_ok
-returns-then-n-eq0 c = simp (eq-eqb _ _ c.if-bytes-width-ne0.false, c.if-n-eq0.true)
+returns-then-n-eq-EMPTY c = simp (eq-eqb _ _ c.if-bytes-width-ne0.false, c.if-n-eq-EMPTY.true)
 
 pub returns : goal.returns
 unfolding records_ok
-returns c = simp (eq-eqb _ _ c.if-bytes-width-ne0.false, some _ c.if-n-eq0.false)
+returns c = simp (eq-eqb _ _ c.if-bytes-width-ne0.false, some _ c.if-n-eq-EMPTY.false)
