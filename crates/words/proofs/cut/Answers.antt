@@ -25,8 +25,5 @@ loop-i-preserved c =
     rw c.narrow.ensures
     (more turn.invariant (omega arith) c.bit-w.result c.lead-m.result c.end_line-k.ensures counted c.lead-m.ensures)
 
--- LOST same-length-2
--- same-length-2 c = simp length-set (omega arith)
-
 pub returns : goal.returns
 returns c = rw c.narrow-2.ensures (finished c.loop-i.invariant (omega arith))
