@@ -20,8 +20,5 @@ pub loop-k-preserved : goal.loop-k-preserved
 loop-k-preserved c =
     rw (zero-add c.loop-k.k) at (partly_more 0 c.loop-k.invariant c.loop-k-test.true c.wide16.ensures.0)
 
--- LOST same-length
--- same_length c = partly_long c.before.loop.invariant
-
 pub returns : goal.returns
 returns c = all_over c.loop-k.invariant c.if-places-ne2048.false c.requires c.loop-k-test.false

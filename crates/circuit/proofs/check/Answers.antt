@@ -7,9 +7,6 @@ use Rattle.circuit.proofs.check.Goals as goal
 pub returns-then-not-records_ok : goal.returns-then-not-records_ok
 returns-then-not-records_ok c = checks _ (size_refused _ (sym c.records_ok.ensures ∙ c.if-not-records_ok.true))
 
--- LOST overflow-add-place
--- add-place c = omega (arith, c.before.before.count-lines.ensures.inside)
-
 pub returns-then-bad-n : goal.returns-then-bad-n
 returns-then-bad-n c =
     checks _ (line_refused _ (sym c.records_ok.ensures ∙ c.if-not-records_ok.false) c.count_lines-counts.ensures c.if-bad-n.true)

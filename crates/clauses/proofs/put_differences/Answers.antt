@@ -25,8 +25,5 @@ loop-k-preserved c =
     let inv = c.loop-k.invariant in
     (so_far_more inv.0 below c.put_difference-next.ensures, sum_more inv.1 below c.equal-j.ensures.0)
 
--- LOST same-length
--- same_length c = put_long c.before.loop.invariant.0.put
-
 pub returns : goal.returns
 returns c = so_far_all c.loop-k.invariant.0 c.loop-k-test.false

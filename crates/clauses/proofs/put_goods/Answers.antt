@@ -16,8 +16,5 @@ put_good-next-requires c = line_room c.loop-k.invariant c.requires.circuit c.req
 pub loop-k-preserved : goal.loop-k-preserved
 loop-k-preserved c = so_far_more c.loop-k.invariant c.loop-k-test.true c.put_good-next.ensures
 
--- LOST same-length
--- same_length c = put_long c.before.loop.invariant.put
-
 pub returns : goal.returns
 returns c = so_far_all c.loop-k.invariant c.loop-k-test.false

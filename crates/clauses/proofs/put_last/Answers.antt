@@ -24,8 +24,5 @@ loop-j-preserved c = last_more c.loop-j.invariant (omega arith) (rw c.plus-z.ens
 pub slice_set_of-words : goal.slice_set_of-words
 slice_set_of-words c = omega (arith, put_long c.loop-j.invariant.put)
 
--- LOST same-length
--- same_length c = put_long (last_all c.before.loop.invariant (omega arith))
-
 pub returns : goal.returns
 returns c = last_all c.loop-j.invariant (omega arith)

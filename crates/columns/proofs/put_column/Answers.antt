@@ -11,14 +11,8 @@ loop-i-init c = start _ _ _ _ _ _
 pub bounds-table-at : goal.bounds-table-at
 bounds-table-at c = inside c.requires c.loop-i.invariant (omega arith)
 
--- LOST overflow-add-at
--- add_at c = omega (arith, fits c.before.before.requires c.before.loop.invariant (omega arith))
-
 pub loop-i-preserved : goal.loop-i-preserved
 loop-i-preserved c = more c.requires c.loop-i.invariant (omega arith)
-
--- LOST same-length
--- same_length c = c.before.loop.invariant.long
 
 pub returns : goal.returns
 returns c = finished c.args.entries c.requires c.loop-i.invariant (omega arith)

@@ -19,9 +19,6 @@ loop-g-preserved c =
     let l = c.loop-g in
     (search rules, c.count_pairs.auto.counts ∙ l.invariant.1, pairs_next _ _ _ l.invariant.2 (search rules) c.count_pairs.ensures)
 
--- LOST same-length
--- same_length c = c.before.before.count-row.auto.0 ∙ c.before.before.before.before.before.loop.invariant.1
-
 pub returns : goal.returns
 returns c =
     let l = c.loop-g in

@@ -18,9 +18,6 @@ loop-f-preserved c =
     let l = c.loop-f in
     (search rules, simp length-set l.invariant.1, row_next _ _ _ _ _ _ l.invariant.2 c.same-x.ensures (search rules) c.count_cell.ensures)
 
--- LOST same-length
--- same_length c = c.before.loop.invariant.1
-
 pub returns : goal.returns
 returns c =
     let l = c.loop-f in

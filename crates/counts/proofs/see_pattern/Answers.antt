@@ -15,8 +15,5 @@ loop-f-preserved c =
     let l = c.loop-f in
     (search rules, simp length-set l.invariant.1, saw_one l.invariant.2 c.same-x.ensures (search rules))
 
--- LOST same-length
--- same_length c = c.before.loop.invariant.1
-
 pub returns : goal.returns
 returns c = saw_all c.loop-f.invariant.2 _ (search rules)

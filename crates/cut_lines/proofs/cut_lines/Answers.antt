@@ -17,8 +17,5 @@ pub loop-k-preserved : goal.loop-k-preserved
 loop-k-preserved c =
     more c.requires c.loop-k.invariant (omega arith) c.cut_kind-kind.ensures c.cut_out-out.ensures
 
--- LOST same-length
--- same_length c = c.before.loop.invariant.same
-
 pub returns : goal.returns
 returns c = finished c.requires c.loop-k.invariant (omega arith)

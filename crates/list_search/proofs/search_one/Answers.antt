@@ -15,10 +15,6 @@ overflow_mul-from c = omega (arith, part_inside c.requires.0 c.requires.1)
 pub overflow_add-to : goal.overflow_add-to
 overflow_add-to c = omega (arith, part_inside c.requires.0 c.requires.1)
 
--- LOST slice-bounds-run-all-x-end
--- part-run-all-x-end c = let s = c.before.before.before.before.before.before.before.before.before in
---     omega (arith, part_inside s.requires.0 s.requires.1)
-
 pub run_all_x-found-requires : goal.run_all_x-found-requires
 run_all_x-found-requires c =
     one-ready c.args.tests.now c.requires.0 c.requires.1 c.read_fault-fault.ensures

@@ -28,11 +28,5 @@ loop-n-preserved c =
     enter_more c.loop-n.invariant c.add.ensures c.wide16-at.result c.find-found.result c.lower-low.result
     c.wide16-at.ensures.0 c.find-found.ensures c.lower-low.ensures
 
--- LOST same-length
--- same_length c = c.before.loop.invariant.table.heads ∙ sym (ap length c.before.before.before.before.before.before.requires.none ∙ length-replicate {A = ℕ} 8192 0)
-
--- LOST same-length-2
--- same-length-2 c = c.before.loop.invariant.table.nexts ∙ sym c.before.before.before.before.before.before.requires.room
-
 pub returns : goal.returns
 returns c = enter_all c.loop-n.invariant (omega arith)

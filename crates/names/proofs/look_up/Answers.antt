@@ -22,10 +22,5 @@ loop-u-preserved c =
     c.wide16-at.result c.find-found.result c.entry_before.result c.lower-lowest.result
     c.wide16-at.ensures.0 c.find-found.ensures c.entry_before.ensures c.lower-lowest.ensures
 
--- LOST same-length
--- same_length c =
---     let turn = c.before in
---     turn.loop.invariant.numbers_are.long ∙ sym turn.before.before.before.before.before.before.before.before.requires.room
-
 pub returns : goal.returns
 returns c = look-all c.loop-u.invariant (omega arith)

@@ -16,12 +16,6 @@ pub bounds-order-n : goal.bounds-order-n
 bounds-order-n c =
     omega (arith, n_small c.loop-c.invariant (omega arith) (sym c.is_ready.ensures ∙ c.if-is_ready.true))
 
--- LOST overflow-mul-order
--- mul-order c = omega (arith, slice-write-order c)
-
--- LOST overflow-add-n
--- add-n c = omega (arith, slice-write-order c)
-
 pub loop-c-smaller-then-is_ready : goal.loop-c-smaller-then-is_ready
 loop-c-smaller-then-is_ready c =
     falls c.loop-c.invariant (omega arith) (sym c.is_ready.ensures ∙ c.if-is_ready.true) c.back-c.result
@@ -35,11 +29,6 @@ loop-c-preserved-then-is_ready c =
 
 pub loop-c-preserved : goal.loop-c-preserved
 loop-c-preserved c = skipped c.loop-c.invariant (omega arith) (sym c.is_ready.ensures ∙ c.if-is_ready.false)
-
--- LOST same-length
--- same_length c =
---     let f = c.before.before.before.before.before.before.before in
---     omega (arith, ap length f.requires.unmarked ∙ length-replicate (length f.args.a.now) 0)
 
 pub returns : goal.returns
 returns c = finished c.loop-c.invariant (omega arith)

@@ -38,15 +38,6 @@ pub loop-j-preserved : goal.loop-j-preserved
 loop-j-preserved c =
     more c.loop-j.invariant (omega (arith, c.loop-j.invariant.long)) c.read_fault-fault.ensures c.requires.small c.fault_entry-e.ensures
 
--- LOST same-length
--- same_length c = c.before.loop.invariant.long
-
--- LOST same-length-2
--- same-length-2 c =
---     let turn = c.before in
---     let s = turn.before.before.before.before.before.before.before.before.before.before in
---     turn.loop.invariant.room ∙ sym s.requires.two
-
 pub returns : goal.returns
 returns c =
     finished c.loop-j.invariant (omega (arith, c.loop-j.invariant.long)) c.requires.some c.requires.faults

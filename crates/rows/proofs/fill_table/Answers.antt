@@ -23,11 +23,5 @@ loop-i-preserved c = let so = c.loop-i.invariant.1 in (
       c.put_row.ensures,
 )
 
--- LOST same-length
--- same_length c = c.before.loop.invariant.1.long ∙ sym c.before.before.before.before.before.before.before.requires.entries
-
--- LOST same-length-2
--- same-length-2 c = omega (arith, c.before.loop.invariant.1.room, c.before.before.before.before.before.before.before.requires.room)
-
 pub returns : goal.returns
 returns c = finished c.loop-i.invariant.1 (omega arith) c.requires.patterns.some

@@ -21,14 +21,6 @@ overflow_mul-at c = omega (arith, row_fits c.requires.0 c.requires.1)
 pub overflow_add-to : goal.overflow_add-to
 overflow_add-to c = omega (arith, row_fits c.requires.0 c.requires.1)
 
--- LOST slice-bounds-pattern-end
--- part-pattern-end c =
---     let s = c.before.before.before.before.before in
---     omega (arith, pattern_fits s.args.patterns.now s.requires.0.patterns s.requires.1)
-
--- LOST slice-bounds-fill-row-end
--- part-fill-row-end c = let s = c.before.before.before.before.before.before in omega (arith, row_fits s.requires.0 s.requires.1)
-
 pub fill_row-requires : goal.fill_row-requires
 fill_row-requires c = row-ready c.args.circuit.now c.args.n c.args.inputs c.args.faults.now c.args.patterns.now c.args.table.now
     c.args.i c.requires.0 c.requires.1

@@ -18,8 +18,5 @@ bounds-work-n c = omega (arith, c.loop-k.invariant.long)
 pub loop-k-preserved : goal.loop-k-preserved
 loop-k-preserved c = more c.requires c.loop-k.invariant (omega arith)
 
--- LOST same-length
--- same_length c = c.before.loop.invariant.long ∙ sym c.before.before.requires
-
 pub returns : goal.returns
 returns c = finished c.requires c.loop-k.invariant (omega arith)

@@ -24,8 +24,5 @@ overflow_add-used c = omega (arith, used_small c.loop-k.invariant)
 pub loop-k-preserved : goal.loop-k-preserved
 loop-k-preserved c = more c.loop-k.invariant (omega arith) c.input_or-v.ensures c.equal-used.ensures.0
 
--- LOST same-length
--- same_length c = c.before.loop.invariant.long
-
 pub returns : goal.returns
 returns c = finished c.loop-k.invariant (omega (arith, c.loop-k.invariant.long))

@@ -14,9 +14,6 @@ pub simulate_lines-requires : goal.simulate_lines-requires
 simulate_lines-requires c =
     simp length-set (c.requires.0, omega (arith, c.requires.1.line), c.requires.1.at_most)
 
--- LOST same-length
--- same_length c = c.before.before.simulate-lines.auto.1.0 ∙ simp length-set
-
 pub returns : goal.returns
 returns c =
     let inside : c.args.fault.line < length c.args.values.now = omega (arith, c.requires.1.line, c.requires.1.at_most) in

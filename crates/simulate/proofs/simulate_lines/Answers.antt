@@ -26,8 +26,5 @@ loop-k-preserved c =
     more c.loop-k.invariant ordered c.requires.2 (omega arith)
     (λ f p small so left. c.line_value-v.ensures (agreed_small small _ (ordered.lower _ (omega (arith, c.requires.2))) so unforced left))
 
--- LOST same-length
--- same_length c = c.before.loop.invariant.long
-
 pub returns : goal.returns
 returns c = finished c.loop-k.invariant (omega arith)

@@ -29,8 +29,5 @@ loop-line-preserved c =
     let so = c.loop-line.invariant in
     more _ _ so (omega (arith, so.long)) (rw so.long at c.smaller.ensures) c.simulate_fault.auto.values c.simulate_fault.ensures
 
--- LOST same-length
--- same_length c = c.before.loop.invariant.long
-
 pub returns : goal.returns
 returns c = finished _ _ c.loop-line.invariant (omega (arith, c.loop-line.invariant.long))

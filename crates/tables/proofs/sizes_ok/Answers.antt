@@ -17,13 +17,6 @@ pub returns-then-not-in_range-2 : goal.returns-then-not-in_range-2
 unfolding sizes_ok
 returns-then-not-in_range-2 c = simp (sym c.in_range.ensures ∙ not-false _ c.if-not-in_range.false-raw, sym c.in_range-2.ensures ∙ not-true _ c.if-not-in_range-2.true-raw)
 
--- LOST overflow-mul-result
--- mul-result c =
---     let a = c.before.before.before.before.args in
---     let f = in_range_lem a.fault-count (sym c.before.before.before.in_range_lem.ensures ∙ not-false _ c.before.before.if1.false) in
---     let p = in_range_lem a.pattern-count (sym c.before.in-range2.ensures ∙ not-false _ c.if2.false) in
---     omega (arith, mul-le-mul_right a.pattern-count f.1, p.1)
-
 pub returns : goal.returns
 unfolding sizes_ok
 returns c = simp (sym c.in_range.ensures ∙ not-false _ c.if-not-in_range.false-raw, sym c.in_range-2.ensures ∙ not-false _ c.if-not-in_range-2.false-raw)
