@@ -17,6 +17,12 @@ pub const LAST_KIND: u8 = SELECTOR;
 // The value of a line that is neither 0 nor 1.
 const X: u8 = 2;
 
+// The last of the kinds with one pin.
+const LAST_OF_ONE_PIN: u8 = 2;
+
+// The sum of two X's.
+const TWO_X: usize = 4;
+
 // How many pins a kind has.
 pub fn pins(kind: u8) -> usize
     ensures { result ≡ pins_of kind }
@@ -24,7 +30,7 @@ pub fn pins(kind: u8) -> usize
     if kind == 0 {
         return 0;
     }
-    if kind <= 2 {
+    if kind <= LAST_OF_ONE_PIN {
         return 1;
     }
     if kind != SELECTOR {
@@ -89,7 +95,7 @@ pub fn gate(kind: u8, a: u8, b: u8, c: u8) -> u8
     let first = wide(a);
     let second = wide(b);
     // two X's, which alone have this sum, give X whatever the kind is; told first for circuits whose gates read the lines just below (docs/DECISIONS.md, 60)
-    if first + second == 4 {
+    if first + second == TWO_X {
         return X;
     }
     // tested before the other kinds, so that those of at most two pins have no other test of their kind

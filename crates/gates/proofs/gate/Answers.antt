@@ -25,9 +25,9 @@ two-x k a b c small e = ⊎_elim known (λ l. sym (other k (at_pins a b c) l)) (
         let second : b ≡ X = omega (arith, sees.0, sees.1) in
         rw (first, second) (sym (gate-unknown k c))
 
-pub returns-then-first-second-eq4 : goal.returns-then-first-second-eq4
-returns-then-first-second-eq4 c small =
-    two-x _ _ _ _ small (omega (arith, c.wide-first.ensures.0, c.wide-second.ensures.0, c.if-first-second-eq4.true))
+pub returns-then-first-second-eq-TWO_X : goal.returns-then-first-second-eq-TWO_X
+returns-then-first-second-eq-TWO_X c small =
+    two-x _ _ _ _ small (omega (arith, c.wide-first.ensures.0, c.wide-second.ensures.0, c.if-first-second-eq-TWO_X.true))
 
 pub returns-then-kind-lt-SELECTOR : goal.returns-then-kind-lt-SELECTOR
 returns-then-kind-lt-SELECTOR c small =
