@@ -5,6 +5,9 @@ ghost use Rattle.std.specs.Prelude.{[], ◌∷◌, ◌+◌, ◌≤◌, ◌<◌, 
 ghost use Rattle.ground.specs.Put.{Put};
 ghost use Rattle.decimals.specs.Digits.{digits, decimal};
 
+// The least number of two digits.
+const TWO_DIGITS: usize = 10;
+
 // One byte; the next place comes back.
 pub fn put_byte(out: &mut [u8], at: usize, b: u8) -> usize
     requires { at < length out.old }
@@ -22,7 +25,7 @@ fn put_digits(out: &mut [u8], at: usize, n: usize, f: usize) -> usize
     if f == 0 {
         return at;
     }
-    if n < 10 {
+    if n < TWO_DIGITS {
         return put_byte(out, at, (n + 48) as u8);
     }
     let next = put_digits(out, at, n / 10, f - 1);
