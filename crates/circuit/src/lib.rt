@@ -15,6 +15,9 @@ use gates::{LAST_KIND, pins};
 use ground::wide;
 use little::pair_at;
 
+// The most inputs of a circuit.
+const MOST_INPUTS: usize = 64;
+
 // What the check answers.
 #[derive(Drop)]
 pub enum Checked {
@@ -126,7 +129,7 @@ fn count_lines(circuit: &[u8], n: usize) -> LineCounts
 fn check_counts(inputs: usize, outputs: usize) -> Ruling
     ensures { result ≡ refusal (count_rules inputs outputs) }
 {
-    if 64 < inputs {
+    if MOST_INPUTS < inputs {
         return Ruling::Refused(4, 0);
     }
     if outputs < 1 {
