@@ -14,6 +14,9 @@ use gates::pins;
 use ground::wide;
 use little::pair_at;
 
+// The largest stuck value.
+const LARGEST_VALUE: u8 = 1;
+
 // A single stuck-at fault: at the line itself (site 0) or at one of its pins.
 #[derive(Clone, Copy)]
 pub struct Fault {
@@ -46,7 +49,7 @@ fn fault_ok(circuit: &[u8], faults: &[u8], j: usize) -> bool
     if pins(circuit[8 * line]) < wide(faults[8 * j + 2]) {
         return false;
     }
-    if 1 < faults[8 * j + 3] {
+    if LARGEST_VALUE < faults[8 * j + 3] {
         return false;
     }
     if pair_at(faults, 8 * j + 4) != 0 {

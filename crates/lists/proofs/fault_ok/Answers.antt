@@ -15,12 +15,12 @@ returns-then-pins-wide c =
     let site_lost = lt-leb _ _ (rw (c.wide.ensures.0, c.pins.ensures, c.pair_at-line.ensures) at c.if-pins-wide.true) in
     simp (line_kept, site_lost)
 
-pub returns-then-faults-j-gt1 : goal.returns-then-faults-j-gt1
+pub returns-then-faults-j-gt-LARGEST_VALUE : goal.returns-then-faults-j-gt-LARGEST_VALUE
 unfolding fault_ok
-returns-then-faults-j-gt1 c =
+returns-then-faults-j-gt-LARGEST_VALUE c =
     let line_kept = lt-ltb _ _ (rw c.pair_at-line.ensures at c.if-n-line.false) in
     let site_kept = le-leb _ _ (rw (c.wide.ensures.0, c.pins.ensures, c.pair_at-line.ensures) at c.if-pins-wide.false) in
-    simp (line_kept, site_kept, lt-leb _ _ c.if-faults-j-gt1.true)
+    simp (line_kept, site_kept, lt-leb _ _ c.if-faults-j-gt-LARGEST_VALUE.true)
 
 pub returns-then-pair_at-ne0 : goal.returns-then-pair_at-ne0
 unfolding fault_ok
@@ -28,7 +28,7 @@ returns-then-pair_at-ne0 c =
     let line_kept = lt-ltb _ _ (rw c.pair_at-line.ensures at c.if-n-line.false) in
     let site_kept = le-leb _ _ (rw (c.wide.ensures.0, c.pins.ensures, c.pair_at-line.ensures) at c.if-pins-wide.false) in
     let low-lost = ne_eqb _ _ (rw c.pair_at.ensures at c.if-pair_at-ne0.true) in
-    simp (line_kept, site_kept, le-leb _ _ c.if-faults-j-gt1.false, low-lost)
+    simp (line_kept, site_kept, le-leb _ _ c.if-faults-j-gt-LARGEST_VALUE.false, low-lost)
 
 pub returns : goal.returns
 unfolding fault_ok
@@ -36,4 +36,4 @@ returns c =
     let line_kept = lt-ltb _ _ (rw c.pair_at-line.ensures at c.if-n-line.false) in
     let site_kept = le-leb _ _ (rw (c.wide.ensures.0, c.pins.ensures, c.pair_at-line.ensures) at c.if-pins-wide.false) in
     let low-kept = eq-eqb _ _ (rw c.pair_at.ensures at c.if-pair_at-ne0.false) in
-    simp (line_kept, site_kept, le-leb _ _ c.if-faults-j-gt1.false, low-kept) (cc)
+    simp (line_kept, site_kept, le-leb _ _ c.if-faults-j-gt-LARGEST_VALUE.false, low-kept) (cc)
