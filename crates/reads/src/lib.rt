@@ -8,11 +8,14 @@ ghost use Rattle.reads.specs.Owed.{Sourced, OneMore, ReadsCounted, CountsMore, p
 use circuit::source;
 use gates::pins;
 
+// The count of a line that no pin has read so far.
+const UNREAD: u8 = 0;
+
 // One reading more.
 fn one_more(read: u8) -> u8
     ensures { OneMore read result }
 {
-    if read == 0 {
+    if read == UNREAD {
         return 1;
     }
     2

@@ -3,8 +3,8 @@
 use Rattle.reads.proofs.Counted.{first_more, next_more}
 use Rattle.reads.proofs.one_more.Goals as goal
 
-pub returns-then-read-eq0 : goal.returns-then-read-eq0
-returns-then-read-eq0 c = first_more c.if-read-eq0.true
+pub returns-then-read-eq-UNREAD : goal.returns-then-read-eq-UNREAD
+returns-then-read-eq-UNREAD c = first_more c.if-read-eq-UNREAD.true
 
 pub returns : goal.returns
-returns c = next_more c.if-read-eq0.false
+returns c = next_more c.if-read-eq-UNREAD.false
