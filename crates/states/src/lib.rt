@@ -126,7 +126,8 @@ fn is_free(circuit: &[u8], states: &[u8], m: usize) -> usize
     if circuit[8 * m] != 0 {
         return 0;
     }
-    if state_record(states, m) < states.len() / 4 {
+    let held = state_record(states, m) < states.len() / 4;
+    if held {
         return 0;
     }
     1

@@ -9,12 +9,12 @@ pub returns-then-circuit-m-ne0 : goal.returns-then-circuit-m-ne0
 unfolding is_free
 returns-then-circuit-m-ne0 c = (simp (ne_eqb _ _ c.if-circuit-m-ne0.true), search rules)
 
-pub returns-then-state_record-states : goal.returns-then-state_record-states
+pub returns-then-held : goal.returns-then-held
 unfolding is_free is_state
-returns-then-state_record-states c =
-    (simp (eq-eqb _ _ c.if-circuit-m-ne0.false, lt-ltb _ _ (rw c.state_record.ensures at c.if-state_record-states.true)), search rules)
+returns-then-held c =
+    (simp (eq-eqb _ _ c.if-circuit-m-ne0.false, lt-ltb _ _ (rw c.state_record.ensures at c.if-held.true)), search rules)
 
 pub returns : goal.returns
 unfolding is_free is_state
 returns c =
-    (simp (eq-eqb _ _ c.if-circuit-m-ne0.false, le-ltb _ _ (rw c.state_record.ensures at c.if-state_record-states.false)), search rules)
+    (simp (eq-eqb _ _ c.if-circuit-m-ne0.false, le-ltb _ _ (rw c.state_record.ensures at c.if-held.false)), search rules)
