@@ -64,7 +64,8 @@ fn is_lost_pair(kept: &[u8], dropped: &[u8], seen: &[u8], f: usize, g: usize) ->
     if seen[f] != 1 {
         return false;
     }
-    if seen[g] != 1 {
+    let higher = seen[g];
+    if higher != 1 {
         return false;
     }
     if kept[256 * g + f] != 0 {
