@@ -137,7 +137,8 @@ fn check_report(
     if fault_count != state.faults {
         return Ruling::Refused(12, 0);
     }
-    if pattern_count != state.patterns {
+    let other_patterns = pattern_count != state.patterns;
+    if other_patterns {
         return Ruling::Refused(12, 0);
     }
     check_given(fault_count, pattern_count, table, pattern)
