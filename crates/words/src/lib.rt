@@ -8,6 +8,9 @@ ghost use Rattle.words.specs.Owed.{CutRoom, CutDone, KeywordReady, WordTable};
 
 use ground::{bit, narrow, wide};
 
+// The byte with which a comment begins, #.
+const COMMENT: u8 = 35;
+
 // A letter, a digit or _.
 pub fn is_word(b: u8) -> bool
     ensures { result ≡ word_byte b }
@@ -109,7 +112,7 @@ fn lead(m: u8, b: u8, x: bool) -> u8
     if m == 2 {
         return 2;
     }
-    if b == 35 {
+    if b == COMMENT {
         return 2;
     }
     if x {

@@ -13,18 +13,18 @@ pub returns-then-m-eq2 : goal.returns-then-m-eq2
 unfolding mode
 returns-then-m-eq2 c = simp (ne_eqb _ _ c.if-b-eq10.false, eq-eqb _ _ c.if-m-eq2.true)
 
-pub returns-then-b-eq35 : goal.returns-then-b-eq35
+pub returns-then-b-eq-COMMENT : goal.returns-then-b-eq-COMMENT
 unfolding mode
-returns-then-b-eq35 c = simp (ne_eqb _ _ c.if-b-eq10.false, ne_eqb _ _ c.if-m-eq2.false, eq-eqb _ _ c.if-b-eq35.true)
+returns-then-b-eq-COMMENT c = simp (ne_eqb _ _ c.if-b-eq10.false, ne_eqb _ _ c.if-m-eq2.false, eq-eqb _ _ c.if-b-eq-COMMENT.true)
 
 pub returns-then-x : goal.returns-then-x
 unfolding mode
 returns-then-x c =
     let in-word = sym c.requires ∙ c.if-x.true in
-    simp (ne_eqb _ _ c.if-b-eq10.false, ne_eqb _ _ c.if-m-eq2.false, ne_eqb _ _ c.if-b-eq35.false, in-word)
+    simp (ne_eqb _ _ c.if-b-eq10.false, ne_eqb _ _ c.if-m-eq2.false, ne_eqb _ _ c.if-b-eq-COMMENT.false, in-word)
 
 pub returns : goal.returns
 unfolding mode
 returns c =
     let in-word = sym c.requires ∙ c.if-x.false in
-    simp (ne_eqb _ _ c.if-b-eq10.false, ne_eqb _ _ c.if-m-eq2.false, ne_eqb _ _ c.if-b-eq35.false, in-word)
+    simp (ne_eqb _ _ c.if-b-eq10.false, ne_eqb _ _ c.if-m-eq2.false, ne_eqb _ _ c.if-b-eq-COMMENT.false, in-word)
