@@ -11,6 +11,12 @@ ghost use Rattle.syntax.specs.Syntax.{syntax_rules};
 use answers::Ruling;
 use ground::{narrow, wide, wide16};
 
+// The most bytes of a text.
+const MOST_BYTES: usize = 32768;
+
+// Where the rows begin of the states in which no text ends: in a word, or after it in the middle of a statement.
+const NO_END: usize = 92;
+
 // The symbol of each byte, as a letter from `a` on, 32 bytes to a line.
 fn symbol_table() -> [u8; 256]
     ensures { SymbolTable result }
@@ -174,7 +180,7 @@ fn walk(text: &[u8], symbols: &[u8; 256], rows: &[u16]) -> Ruling
     let mut q = 23;
     let mut i = 0;
     while i < text.len() {
-        if i == 32768 {
+        if i == MOST_BYTES {
             return Ruling::Refused(14, i);
         }
         let n = step(rows, q, symbol_of(symbols, text[i]));
@@ -184,7 +190,7 @@ fn walk(text: &[u8], symbols: &[u8; 256], rows: &[u16]) -> Ruling
         q = n;
         i += 1;
     }
-    if q < 92 {
+    if q < NO_END {
         return Ruling::Fine;
     }
     Ruling::Refused(14, i)

@@ -13,8 +13,8 @@ use Rattle.syntax.proofs.walk.Goals as goal
 pub loop-i-init : goal.loop-i-init
 loop-i-init c = (start _, first_row)
 
-pub returns-then-i-eq32768 : goal.returns-then-i-eq32768
-returns-then-i-eq32768 c = full c.loop-i.invariant.0 (omega arith) c.if-i-eq32768.true
+pub returns-then-i-eq-MOST_BYTES : goal.returns-then-i-eq-MOST_BYTES
+returns-then-i-eq-MOST_BYTES c = full c.loop-i.invariant.0 (omega arith) c.if-i-eq-MOST_BYTES.true
 
 pub symbol_of-requires : goal.symbol_of-requires
 symbol_of-requires c = c.requires.0
@@ -33,8 +33,8 @@ loop-i-preserved c =
     let next-is = c.step-n.ensures.0 ∙ ap (next _) c.symbol_of.ensures.0 in
     (more c.loop-i.invariant.0 (omega arith) next-is row.inside (omega arith) (omega (arith, c.if-n-eq0.false, row.begins)), row)
 
-pub returns-then-q-lt92 : goal.returns-then-q-lt92
-returns-then-q-lt92 c = ended c.loop-i.invariant.0 (omega arith) (omega (arith, c.if-q-lt92.true))
+pub returns-then-q-lt-NO_END : goal.returns-then-q-lt-NO_END
+returns-then-q-lt-NO_END c = ended c.loop-i.invariant.0 (omega arith) (omega (arith, c.if-q-lt-NO_END.true))
 
 pub returns : goal.returns
-returns c = early c.loop-i.invariant.0 (omega arith) (omega (arith, c.if-q-lt92.false))
+returns c = early c.loop-i.invariant.0 (omega arith) (omega (arith, c.if-q-lt-NO_END.false))
