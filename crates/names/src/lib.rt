@@ -48,7 +48,7 @@ fn find(
     ensures { result ≡ definition text.now defs.now n (word_at text.now at) }
 {
     let mut p = wide16(head[h]);
-    while 0 < p {
+    'walk: while 0 < p {
         let d = p - 1;
         if same_word(text, wide16(defs[d]), at) {
             return p;

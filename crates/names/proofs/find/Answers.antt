@@ -8,38 +8,38 @@ use Rattle.words.specs.Words.{word_at, same}
 use Rattle.names.proofs.Chain.{ChainWalk, start, ended, inside, hit, more, falls}
 use Rattle.names.proofs.find.Goals as goal
 
-pub loop-p-init : goal.loop-p-init
-loop-p-init c = start c.requires.0 c.requires.1.0 c.requires.1.1 c.wide16-p.ensures.0
+pub walk-init : goal.walk-init
+walk-init c = start c.requires.0 c.requires.1.0 c.requires.1.1 c.wide16-p.ensures.0
 
 pub offset_bounds-defs-d : goal.offset_bounds-defs-d
-offset_bounds-defs-d c = omega (arith, inside c.loop-p.invariant (omega arith))
+offset_bounds-defs-d c = omega (arith, inside c.walk.invariant (omega arith))
 
 pub bounds-defs-d : goal.bounds-defs-d
-bounds-defs-d c = omega (arith, inside c.loop-p.invariant (omega arith))
+bounds-defs-d c = omega (arith, inside c.walk.invariant (omega arith))
 
 pub returns-then-same_word : goal.returns-then-same_word
 returns-then-same_word c =
     let first = c.args in
     let text = first.text.now in
     let same_place = ap (λ (i : ℕ). same (word_at text i) (word_at text first.at)) c.wide16.ensures.0 in
-    hit c.loop-p.invariant (omega arith) (sym same_place ∙ sym c.same_word.ensures ∙ c.if-same_word.true)
+    hit c.walk.invariant (omega arith) (sym same_place ∙ sym c.same_word.ensures ∙ c.if-same_word.true)
 
 pub offset_bounds-next-d : goal.offset_bounds-next-d
-offset_bounds-next-d c = omega (arith, inside c.loop-p.invariant (omega arith))
+offset_bounds-next-d c = omega (arith, inside c.walk.invariant (omega arith))
 
 pub bounds-next-d : goal.bounds-next-d
-bounds-next-d c = omega (arith, inside c.loop-p.invariant (omega arith))
+bounds-next-d c = omega (arith, inside c.walk.invariant (omega arith))
 
-pub loop-p-smaller : goal.loop-p-smaller
-loop-p-smaller c =
-    rw c.wide16-p-in-loop-p.ensures.0 (falls c.loop-p.invariant (omega arith) c.requires.0)
+pub walk-smaller : goal.walk-smaller
+walk-smaller c =
+    rw c.wide16-p-in-walk.ensures.0 (falls c.walk.invariant (omega arith) c.requires.0)
 
-pub loop-p-preserved : goal.loop-p-preserved
-loop-p-preserved c =
+pub walk-preserved : goal.walk-preserved
+walk-preserved c =
     let text = c.args.text.now in
     let same_place = ap (λ (i : ℕ). same (word_at text i) (word_at text c.args.at)) c.wide16.ensures.0 in
     let other = sym same_place ∙ sym c.same_word.ensures ∙ c.if-same_word.false in
-    more c.loop-p.invariant (omega arith) c.requires.0 c.wide16-p-in-loop-p.result other c.wide16-p-in-loop-p.ensures.0
+    more c.walk.invariant (omega arith) c.requires.0 c.wide16-p-in-walk.result other c.wide16-p-in-walk.ensures.0
 
 pub returns : goal.returns
-returns c = ended c.loop-p.invariant (omega arith)
+returns c = ended c.walk.invariant (omega arith)

@@ -8,8 +8,8 @@ use Rattle.words.specs.Words.{word_at, same}
 use Rattle.names.proofs.Chain.{ChainWalk, start, ended, inside, hit, more, falls}
 use Rattle.names.proofs.find.Given as goal
 
-abbrev pub invariant-loop-p : goal.invariant-loop-p
-invariant-loop-p l = ChainWalk l.text l.defs (word_at l.text l.at) l.n l.h l.p
+abbrev pub invariant-walk : goal.invariant-walk
+invariant-walk l = ChainWalk l.text l.defs (word_at l.text l.at) l.n l.h l.p
 
-abbrev pub decreases-loop-p : goal.decreases-loop-p
-decreases-loop-p l = l.p
+abbrev pub decreases-walk : goal.decreases-walk
+decreases-walk l = l.p
