@@ -13,6 +13,12 @@ use names::resolve;
 use order::arrange;
 use records::put_records;
 
+// The most lines of a circuit.
+const MOST_LINES: usize = 2048;
+
+// The size of the lent buffer, which has room for the largest circuit.
+const LENT: usize = 16384;
+
 // What the reader answers, and the reader of names.
 #[derive(Drop)]
 pub enum Read {
@@ -29,7 +35,7 @@ fn lay(records: &[u8], n: usize, circuit: &mut [u8]) -> Read
     requires { LayRoom records.now n }
     ensures { ReadDone (buffer_rules (length circuit.old)) records.now circuit.old circuit.new result }
 {
-    if circuit.len() != 16384 {
+    if circuit.len() != LENT {
         return Read::Refused(10, 0);
     }
     circuit[..records.len()].copy_from_slice(records);
@@ -81,7 +87,7 @@ fn read_order(
     ensures { RecordsDone (records_of (net_of inputs kinds.now firsts.now seconds.now outs.now)) circuit.old circuit.new result }
 {
     let n = inputs + firsts.len();
-    if 2048 < n {
+    if MOST_LINES < n {
         return Read::Refused(1, 0);
     }
     let mut records = [0u8; 16384];

@@ -5,9 +5,9 @@ use Rattle.nets.proofs.Answer.{other_size, laid}
 use lib.Seq.{take-length}
 use Rattle.nets.proofs.lay.Goals as goal
 
-pub returns-then-circuit-ne16384 : goal.returns-then-circuit-ne16384
-returns-then-circuit-ne16384 c = refused_done (other_size c.if-circuit-ne16384.true)
+pub returns-then-circuit-ne-LENT : goal.returns-then-circuit-ne-LENT
+returns-then-circuit-ne-LENT c = refused_done (other_size c.if-circuit-ne-LENT.true)
 
 pub returns : goal.returns
 returns c =
-    laid c.if-circuit-ne16384.false c.requires (rw (c.copy_from_slice.ensures.after, take-length c.args.records.now))
+    laid c.if-circuit-ne-LENT.false c.requires (rw (c.copy_from_slice.ensures.after, take-length c.args.records.now))

@@ -6,8 +6,8 @@ use mathlib.Core.Path.{sym}
 use native.Mathlib.Omega.{arith}
 use Rattle.nets.proofs.read_order.Goals as goal
 
-pub returns-then-n-gt2048 : goal.returns-then-n-gt2048
-returns-then-n-gt2048 c = too_many _ c.if-n-gt2048.true
+pub returns-then-n-gt-MOST_LINES : goal.returns-then-n-gt-MOST_LINES
+returns-then-n-gt-MOST_LINES c = too_many _ c.if-n-gt-MOST_LINES.true
 
 pub slice_bounds-read_order_in-end : goal.slice_bounds-read_order_in-end
 slice_bounds-read_order_in-end c = sym (front_length 16384 0 _ (omega arith))
