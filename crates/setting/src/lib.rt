@@ -15,11 +15,14 @@ ghost use Rattle.setting.specs.Owed.{alone, both, forced_or, after_zero, selecti
 use circuit::{equal, source};
 use gates::pins;
 
+// The pin of the first source.
+const FIRST: usize = 1;
+
 // The first source alone.
 fn on_first(u: u8, s: usize) -> u8
     ensures { result ≡ alone u s }
 {
-    if s != 1 {
+    if s != FIRST {
         return 2;
     }
     u
