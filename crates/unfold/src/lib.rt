@@ -57,7 +57,8 @@ fn step_out(
     requires { StepLineReady circuit.now states.now marks.now n steps i m }
     ensures { result ≡ step_out circuit.now states.now steps i m }
 {
-    if i + 1 != steps {
+    let before_last = i + 1 != steps;
+    if before_last {
         return circuit[8 * m + 1];
     }
     if marks[m] == 1 {
