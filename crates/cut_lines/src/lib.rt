@@ -5,6 +5,9 @@ ghost use Rattle.std.specs.Prelude.{◌≡◌, length};
 ghost use Rattle.cut_lines.specs.Owed.{kind_by, out_by, CutReady};
 ghost use Rattle.cut.specs.Cut.{cut};
 
+// The mark of a free line that is no head line.
+const OTHER_FREE: u8 = 0;
+
 // The kind of a line in the cut circuit: a bound line has its own, a head line is an input, another free line has none.
 fn cut_kind(mark: u8, kind: u8) -> u8
     ensures { result ≡ kind_by mark kind }
@@ -22,7 +25,7 @@ fn cut_kind(mark: u8, kind: u8) -> u8
 fn cut_out(mark: u8, out: u8) -> u8
     ensures { result ≡ out_by mark out }
 {
-    if mark == 0 {
+    if mark == OTHER_FREE {
         return 0;
     }
     out

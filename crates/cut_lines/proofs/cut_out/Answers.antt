@@ -4,10 +4,10 @@ use borrow.Author.Tests.{eq-eqb, ne_eqb}
 use Rattle.cut_lines.specs.Owed.{out_by}
 use Rattle.cut_lines.proofs.cut_out.Goals as goal
 
-pub returns-then-mark-eq0 : goal.returns-then-mark-eq0
+pub returns-then-mark-eq-OTHER_FREE : goal.returns-then-mark-eq-OTHER_FREE
 unfolding out_by
-returns-then-mark-eq0 c = simp (eq-eqb _ _ c.if-mark-eq0.true)
+returns-then-mark-eq-OTHER_FREE c = simp (eq-eqb _ _ c.if-mark-eq-OTHER_FREE.true)
 
 pub returns : goal.returns
 unfolding out_by
-returns c = simp (ne_eqb _ _ c.if-mark-eq0.false)
+returns c = simp (ne_eqb _ _ c.if-mark-eq-OTHER_FREE.false)
