@@ -10,6 +10,9 @@ use meetings::meet_all;
 use nodes::first_x;
 use simulate::good_values;
 
+// So many faults look at a node that is passed over.
+const NOBODY: usize = 0;
+
 // How many faults look at a level.
 fn looking(reaches: &[u8], level: u8) -> usize
     ensures { result ≡ count_below (length reaches.now) (looks_at reaches.now level) }
@@ -51,7 +54,7 @@ pub fn round(
         (reaches.old, counts.old, tests.old) result (reaches.new, counts.new, tests.new) }
 {
     let some = looking(reaches, level);
-    if some == 0 {
+    if some == NOBODY {
         return node.len();
     }
     if few(some, n, reaches.len()) {

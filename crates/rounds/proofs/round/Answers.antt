@@ -14,9 +14,9 @@ use Rattle.rounds.specs.Owed.{looks_at}
 use Rattle.rounds.proofs.None.{none_looks}
 use Rattle.rounds.proofs.round.Goals as goal
 
-pub returns-then-some-eq0 : goal.returns-then-some-eq0
-returns-then-some-eq0 c =
-    let none = none_looks c.args.reaches.now c.args.level (sym c.looking-some.ensures ∙ c.if-some-eq0.true) in
+pub returns-then-some-eq-NOBODY : goal.returns-then-some-eq-NOBODY
+returns-then-some-eq-NOBODY c =
+    let none = none_looks c.args.reaches.now c.args.level (sym c.looking-some.ensures ∙ c.if-some-eq-NOBODY.true) in
     record {
       first = λ h. absurd (omega arith);
       met = λ h. absurd (omega arith);
