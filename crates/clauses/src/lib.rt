@@ -95,12 +95,15 @@ fn put_differences(circuit: &[u8], n: usize, words: &mut [i32], at: usize) -> us
     next
 }
 
+// The stuck value whose clause has the variable as it is; that of the other value has it negated.
+const PLAIN: u8 = 1;
+
 // The clause that fixes the stuck value.
 fn put_stuck(fault: Fault, n: usize, words: &mut [i32], at: usize) -> usize
     requires { (n ≤ 2048) × (at + 2 ≤ length words.old) }
     ensures { Put words.old words.new at (single (stuck_literal fault n)) result }
 {
-    if fault.value == 1 {
+    if fault.value == PLAIN {
         return put_single(words, at, plus(2 * n + 1));
     }
     put_single(words, at, minus(2 * n + 1))
