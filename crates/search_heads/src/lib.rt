@@ -14,14 +14,20 @@ use lists::{Fault, read_fault};
 use nodes::Verdict;
 use search::{Searched, check_rest, run_all_x};
 
+// The mark of a bound line.
+const BOUND: u8 = 2;
+
+// The mark of a head line.
+const HEAD: u8 = 1;
+
 // A fault at a line with this mark and at this site is searched over head lines.
 fn served_by(mark: u8, site: u8) -> bool
     ensures { result ≡ served_by mark site }
 {
-    if mark == 2 {
+    if mark == BOUND {
         return true;
     }
-    if mark == 1 {
+    if mark == HEAD {
         return site == 0;
     }
     false

@@ -4,14 +4,14 @@ use borrow.Author.Tests.{eq-eqb, ne_eqb}
 use Rattle.search_heads.specs.Owed.{served_by}
 use Rattle.search_heads.proofs.served_by.Goals as goal
 
-pub returns-then-mark-eq2 : goal.returns-then-mark-eq2
+pub returns-then-mark-eq-BOUND : goal.returns-then-mark-eq-BOUND
 unfolding served_by
-returns-then-mark-eq2 c = simp (eq-eqb _ _ c.if-mark-eq2.true)
+returns-then-mark-eq-BOUND c = simp (eq-eqb _ _ c.if-mark-eq-BOUND.true)
 
-pub returns-then-mark-eq1 : goal.returns-then-mark-eq1
+pub returns-then-mark-eq-HEAD : goal.returns-then-mark-eq-HEAD
 unfolding served_by
-returns-then-mark-eq1 c = simp (ne_eqb _ _ c.if-mark-eq2.false, eq-eqb _ _ c.if-mark-eq1.true)
+returns-then-mark-eq-HEAD c = simp (ne_eqb _ _ c.if-mark-eq-BOUND.false, eq-eqb _ _ c.if-mark-eq-HEAD.true)
 
 pub returns : goal.returns
 unfolding served_by
-returns c = simp (ne_eqb _ _ c.if-mark-eq2.false, ne_eqb _ _ c.if-mark-eq1.false)
+returns c = simp (ne_eqb _ _ c.if-mark-eq-BOUND.false, ne_eqb _ _ c.if-mark-eq-HEAD.false)
