@@ -9,12 +9,15 @@ use bench::read_text;
 use ground::wide16;
 use nets::Read;
 
+// How many places are lent.
+const PLACES: usize = 2048;
+
 // Refusal 10, or the places in the lent ones.
 fn hand_over(found: &[u16], places: &mut [u32]) -> Read
     requires { length found.now ≤ 2048 }
     ensures { HandOverDone found.now places.old places.new result }
 {
-    if places.len() != 2048 {
+    if places.len() != PLACES {
         return Read::Refused(10, 0);
     }
     let mut k = 0;

@@ -10,8 +10,8 @@ use Rattle.answers.proofs.Answer.{refused_done}
 use Rattle.bench_names.proofs.Room.{other_count, all_over}
 use Rattle.bench_names.proofs.hand_over.Goals as goal
 
-pub returns-then-places-ne2048 : goal.returns-then-places-ne2048
-returns-then-places-ne2048 c = refused_done (other_count c.if-places-ne2048.true)
+pub returns-then-places-ne-PLACES : goal.returns-then-places-ne-PLACES
+returns-then-places-ne-PLACES c = refused_done (other_count c.if-places-ne-PLACES.true)
 
 pub bounds-places-k : goal.bounds-places-k
 bounds-places-k c = omega (arith, partly_long c.loop-k.invariant, c.loop-k.invariant.at_most)
@@ -21,4 +21,4 @@ loop-k-preserved c =
     rw (zero-add c.loop-k.k) at (partly_more 0 c.loop-k.invariant c.loop-k-test.true c.wide16.ensures.0)
 
 pub returns : goal.returns
-returns c = all_over c.loop-k.invariant c.if-places-ne2048.false c.requires c.loop-k-test.false
+returns c = all_over c.loop-k.invariant c.if-places-ne-PLACES.false c.requires c.loop-k-test.false
