@@ -1,7 +1,7 @@
 -- What two pins see can be multiplied and is not rounded.
 -- Assumes nothing.
 use mathlib.Core.Bool.{Bool}
-use Prim.Native.Nat.{ℕ, ◌+◌, ◌≤◌}
+use Prim.Native.Nat.{◌+◌, ◌≤◌}
 use native.Mathlib.Omega.{arith}
 use Rattle.halves.specs.Half.{least}
 use Rattle.chances.specs.declared.Chances.{Chances}

@@ -7,10 +7,9 @@ use Prim.Native.Nat.{ℕ, ◌≤◌, ◌<◌}
 use native.Mathlib.Decide.{dec_lt, ℕ_discrete}
 use native.Mathlib.Omega.{arith}
 use Rattle.tables.specs.Entries.{Entries}
-use Rattle.needs.specs.Needs.{lost}
 use Rattle.findings.specs.declared.Finding.{Finding}
 use Rattle.findings.specs.declared.Finding.TheVariants.{Sound, BadMark, LostFault, LostPair, SparePattern}
-use Rattle.findings.specs.Findings.{pair_lost, spare, first_where, finding_of}
+use Rattle.findings.specs.Findings.{pair_lost, first_where, finding_of}
 use Rattle.findings.specs.Words.{LostPairAt, LowestAt, LowestPairAt, Finds}
 use Rattle.findings.proofs.Words.{bad_same, lost-same, pair_same, spare-same, PairedAt, paired_same, met}
 use Rattle.findings.proofs.Firstly.{one-lowest, some-lowest, firstly_case, firstly-found, firstly-next}

@@ -8,7 +8,7 @@ use native.Mathlib.Omega.{arith}
 use lib.Dec.{T, ltb, ltb→lt, lt→ltb, nltb→le, not_T}
 use lib.Pow.{pow-add, pow_pos, pow_mono, pow-lt}
 use borrow.Author.Tests.{ltb-true, ltb-false}
-use lib.Ieee.{of_bits, Float, binary64, round, mul, lt}
+use lib.Ieee.{of_bits, binary64, round, mul, lt}
 use lib.Ieee.Bits.{is_true, is_false}
 use lib.Ieee.Exact.{HasValue}
 use lib.Ieee.Positive.{positive, mul_at}

@@ -1,11 +1,9 @@
 -- `answers::first_big` meets its contract. The invariant: every byte passed is 0, 1 or 2.
 -- Assumes nothing.
 use borrow.Author.Tests.{le-leb, lt-leb}
-use Prim.Native.Nat.{◌≤◌, ◌-◌}
-use Rattle.ground.proofs.First.{Every, every_none, every_next, stopped, passed}
+use Rattle.ground.proofs.First.{every_none, every_next, stopped, passed}
 use native.Mathlib.Omega.{arith}
 use Rattle.answers.specs.Small.{small_ok}
-use lib.ListN.{length}
 use Rattle.answers.proofs.first_big.Goals as goal
 
 pub loop-i-init : goal.loop-i-init

@@ -1,9 +1,7 @@
 -- `answers::first_big` meets its contract. The invariant: every byte passed is 0, 1 or 2.
 -- Assumes nothing.
-use borrow.Author.Tests.{le-leb, lt-leb}
 use Prim.Native.Nat.{◌≤◌, ◌-◌}
-use Rattle.ground.proofs.First.{Every, every_none, every_next, stopped, passed}
-use native.Mathlib.Omega.{arith}
+use Rattle.ground.proofs.First.{Every}
 use Rattle.answers.specs.Small.{small_ok}
 use lib.ListN.{length}
 use Rattle.answers.proofs.first_big.Given as goal

@@ -1,6 +1,5 @@
 -- `answers::put_numbers` meets its contract: four numbers, one behind the other.
 -- Assumes nothing.
-use borrow.Author.Rules.{rules}
 use Rattle.answers.proofs.Area.{four_numbers}
 use Rattle.answers.proofs.put_numbers.Goals as goal
 

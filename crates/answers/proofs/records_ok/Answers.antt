@@ -3,7 +3,6 @@
 use borrow.Author.Tests.{eq-eqb, ne_eqb}
 use Rattle.answers.specs.Records.{records_ok}
 use Rattle.ground.proofs.Tests.{some}
-use borrow.Author.Rules.{rules}
 use Rattle.answers.proofs.records_ok.Goals as goal
 
 pub returns-then-bytes-width-ne0 : goal.returns-then-bytes-width-ne0

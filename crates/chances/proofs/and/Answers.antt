@@ -1,7 +1,6 @@
 -- `chances::and` meets its contract.
 -- Assumes nothing.
 use mathlib.Core.Bool.{true}
-use borrow.Author.Rules.{rules}
 use Rattle.chances.proofs.Pins.{together}
 use Rattle.chances.proofs.and.Goals as goal
 

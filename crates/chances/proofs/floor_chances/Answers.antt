@@ -1,6 +1,5 @@
 -- `chances::floor_chances` meets its contract.
 -- Assumes nothing.
-use borrow.Author.Rules.{rules}
 use Rattle.chances.proofs.floor_chances.Goals as goal
 
 pub returns : goal.returns

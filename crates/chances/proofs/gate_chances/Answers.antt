@@ -1,6 +1,5 @@
 -- `chances::gate_chances` meets its contract, kind by kind.
 -- Assumes nothing.
-use borrow.Author.Rules.{rules}
 use Rattle.chances.specs.Exponents.{gate_exponents}
 use Rattle.chances.proofs.ByKind.{of_kind, no_rule}
 use Rattle.chances.proofs.gate_chances.Goals as goal

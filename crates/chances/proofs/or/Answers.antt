@@ -1,7 +1,6 @@
 -- `chances::or` meets its contract.
 -- Assumes nothing.
 use mathlib.Core.Bool.{false}
-use borrow.Author.Rules.{rules}
 use Rattle.chances.proofs.Pins.{together}
 use Rattle.chances.proofs.or.Goals as goal
 

@@ -1,7 +1,6 @@
 -- `chances::select` meets its contract.
 -- Assumes nothing.
 use mathlib.Core.Bool.{true, false}
-use borrow.Author.Rules.{rules}
 use Rattle.chances.proofs.Pins.{together}
 use Rattle.chances.proofs.select.Goals as goal
 

@@ -1,7 +1,6 @@
 -- `chances::xor` meets its contract.
 -- Assumes nothing.
 use mathlib.Core.Bool.{true, false}
-use borrow.Author.Rules.{rules}
 use Rattle.chances.proofs.Pins.{together}
 use Rattle.chances.proofs.xor.Goals as goal
 

@@ -1,7 +1,6 @@
 -- `counts::count_cell` meets its contract: counts go round at 256.
 -- Assumes nothing.
 use native.Mathlib.Omega.{arith}
-use borrow.Author.Rules.{rules}
 use Rattle.counts.proofs.count_cell.Goals as goal
 
 pub returns-then-into : goal.returns-then-into

@@ -2,7 +2,6 @@
 -- Assumes nothing.
 use native.Mathlib.Omega.{arith}
 use Rattle.counts.proofs.Moves.{pairs_unknown, pairs_known}
-use borrow.Author.Rules.{rules}
 use Rattle.counts.proofs.count_pairs.Goals as goal
 
 pub returns-then-e-gt1 : goal.returns-then-e-gt1

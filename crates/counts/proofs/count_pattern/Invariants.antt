@@ -1,14 +1,11 @@
 -- `counts::count_pattern` meets its contract. The invariant: the first g rows of pairs are counted.
 -- Assumes nothing.
-use mathlib.Core.Path.{◌≡◌, refl, ◌∙◌}
+use mathlib.Core.Path.{◌≡◌}
 use Prim.Native.Nat.{◌-◌, ◌≤◌}
-use native.Mathlib.Omega.{arith}
-use borrow.Author.Rules.{rules}
 use lib.ListN.{length}
 use Rattle.ground.specs.Below.{any_below}
 use Rattle.counts.specs.Counted.{hit_pair}
 use Rattle.counts.specs.Owed.{CellsDone}
-use Rattle.counts.proofs.Moves.{moved_none, pairs_next, faults_next}
 use Rattle.counts.proofs.count_pattern.Given as goal
 
 abbrev pub invariant-loop-g : goal.invariant-loop-g

@@ -1,12 +1,9 @@
 -- `counts::count_row` meets its contract. The invariant: the first f cells of the row are counted.
 -- Assumes nothing.
 use mathlib.Core.Path.{◌≡◌, refl}
-use Prim.Native.Nat.{◌-◌, ◌≤◌}
 use native.Mathlib.Omega.{arith}
 use borrow.Author.Rules.{rules}
-use lib.ListN.{length, length-set}
-use Rattle.counts.specs.Counted.{hit_row}
-use Rattle.counts.specs.Owed.{CellsDone}
+use lib.ListN.{length-set}
 use Rattle.counts.proofs.Moves.{row_none, row_next}
 use Rattle.counts.proofs.count_row.Goals as goal
 

@@ -1,13 +1,10 @@
 -- `counts::count_row` meets its contract. The invariant: the first f cells of the row are counted.
 -- Assumes nothing.
-use mathlib.Core.Path.{◌≡◌, refl}
+use mathlib.Core.Path.{◌≡◌}
 use Prim.Native.Nat.{◌-◌, ◌≤◌}
-use native.Mathlib.Omega.{arith}
-use borrow.Author.Rules.{rules}
-use lib.ListN.{length, length-set}
+use lib.ListN.{length}
 use Rattle.counts.specs.Counted.{hit_row}
 use Rattle.counts.specs.Owed.{CellsDone}
-use Rattle.counts.proofs.Moves.{row_none, row_next}
 use Rattle.counts.proofs.count_row.Given as goal
 
 abbrev pub invariant-loop-f : goal.invariant-loop-f

@@ -1,9 +1,7 @@
 -- `counts::needed` meets its contract. The invariant: the first g rows of pairs have none.
 -- Assumes nothing.
-use Prim.Native.Nat.{◌-◌}
 use borrow.Author.Rules.{rules}
-use Rattle.ground.proofs.Below.{None, none_yet, found, none_more, not_found}
-use Rattle.counts.specs.Owed.{sole_at}
+use Rattle.ground.proofs.Below.{none_yet, found, none_more, not_found}
 use Rattle.counts.proofs.Only.{fewer_notes, needed_fault, needed_pair}
 use Rattle.counts.proofs.needed.Goals as goal
 

@@ -1,10 +1,8 @@
 -- `counts::needed` meets its contract. The invariant: the first g rows of pairs have none.
 -- Assumes nothing.
 use Prim.Native.Nat.{◌-◌}
-use borrow.Author.Rules.{rules}
-use Rattle.ground.proofs.Below.{None, none_yet, found, none_more, not_found}
+use Rattle.ground.proofs.Below.{None}
 use Rattle.counts.specs.Owed.{sole_at}
-use Rattle.counts.proofs.Only.{fewer_notes, needed_fault, needed_pair}
 use Rattle.counts.proofs.needed.Given as goal
 
 abbrev pub invariant-loop-g : goal.invariant-loop-g

@@ -1,10 +1,9 @@
 -- `counts::see_pattern` meets its contract. The invariant: the first f faults are seen.
 -- Assumes nothing.
-use mathlib.Core.Path.{◌≡◌, refl}
-use Prim.Native.Nat.{◌-◌, ◌≤◌}
+use mathlib.Core.Path.{refl}
 use borrow.Author.Rules.{rules}
-use lib.ListN.{length, length-set}
-use Rattle.counts.proofs.Detected.{SawTo, saw_none, saw_one, saw_all}
+use lib.ListN.{length-set}
+use Rattle.counts.proofs.Detected.{saw_none, saw_one, saw_all}
 use Rattle.counts.proofs.see_pattern.Goals as goal
 
 pub loop-f-init : goal.loop-f-init

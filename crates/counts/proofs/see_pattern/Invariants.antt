@@ -1,10 +1,9 @@
 -- `counts::see_pattern` meets its contract. The invariant: the first f faults are seen.
 -- Assumes nothing.
-use mathlib.Core.Path.{◌≡◌, refl}
+use mathlib.Core.Path.{◌≡◌}
 use Prim.Native.Nat.{◌-◌, ◌≤◌}
-use borrow.Author.Rules.{rules}
-use lib.ListN.{length, length-set}
-use Rattle.counts.proofs.Detected.{SawTo, saw_none, saw_one, saw_all}
+use lib.ListN.{length}
+use Rattle.counts.proofs.Detected.{SawTo}
 use Rattle.counts.proofs.see_pattern.Given as goal
 
 abbrev pub invariant-loop-f : goal.invariant-loop-f

@@ -1,7 +1,6 @@
 -- `counts::sole` meets its contract: two tests as numbers and a note, joined by `&`.
 -- Assumes nothing.
 use Rattle.counts.proofs.Only.{sole_and}
-use borrow.Author.Rules.{rules}
 use Rattle.counts.proofs.sole.Goals as goal
 
 pub returns : goal.returns

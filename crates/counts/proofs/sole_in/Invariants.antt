@@ -1,8 +1,7 @@
 -- `counts::sole_in` meets its contract. The invariant: r says whether it is at one of the first f places.
 -- Assumes nothing.
 use Prim.Native.Nat.{◌-◌}
-use borrow.Author.Rules.{rules}
-use Rattle.ground.proofs.Below.{Some, none_some, some_more, some-all}
+use Rattle.ground.proofs.Below.{Some}
 use Rattle.counts.specs.Owed.{sole_in}
 use Rattle.counts.proofs.sole_in.Given as goal
 

@@ -1,7 +1,6 @@
 -- `gates::digit` meets its contract: the shifts are those of the definition.
 -- Assumes nothing.
 use mathlib.Core.Path.{refl}
-use borrow.Author.Rules.{rules}
 use Rattle.gates.specs.Owed.{digit_of}
 use Rattle.gates.proofs.digit.Goals as goal
 

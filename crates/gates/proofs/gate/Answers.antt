@@ -4,7 +4,6 @@ use mathlib.Core.Path.{◌≡◌, sym}
 use mathlib.Core.Logic.{⊎_elim}
 use Prim.Native.Nat.{ℕ, suc, ◌+◌, ◌<◌}
 use native.Mathlib.Omega.{arith}
-use borrow.Author.Rules.{rules}
 use Rattle.ground.proofs.Tests.{either}
 use Rattle.gates.specs.Gate.{X, last_kind, gate_of, at_pins}
 use Rattle.gates.specs.Owed.{SourcesSmall}

@@ -1,6 +1,5 @@
 -- `halves::larger_product` meets its contract.
 -- Assumes nothing.
-use borrow.Author.Rules.{rules}
 use Rattle.halves.proofs.larger_product.Goals as goal
 
 pub returns : goal.returns

@@ -1,6 +1,5 @@
 -- `lanes::core` meets its contract: kinds 7 and 8 are XOR, the others AND.
 -- Assumes nothing.
-use borrow.Author.Rules.{rules}
 use borrow.Author.Tests.{le-leb, lt-leb}
 use Rattle.lanes.specs.Owed.{core_of}
 use Rattle.lanes.proofs.core.Goals as goal

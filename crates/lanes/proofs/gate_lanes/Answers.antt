@@ -1,7 +1,6 @@
 -- `lanes::gate_lanes` meets its contract: each step is done in every lane, and the whole is what the table says.
 -- Assumes nothing.
 use native.Mathlib.Omega.{arith}
-use borrow.Author.Rules.{rules}
 use Rattle.lanes.proofs.Shape.{all_steps, one_step}
 use Rattle.lanes.proofs.gate_lanes.Goals as goal
 

@@ -2,7 +2,6 @@
 -- Assumes nothing.
 use native.Mathlib.Omega.{arith}
 use Rattle.little.specs.Little.{pair_at}
-use borrow.Author.Rules.{rules}
 use Rattle.little.proofs.pair_at.Goals as goal
 
 pub returns : goal.returns

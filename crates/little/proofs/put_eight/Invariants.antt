@@ -1,13 +1,10 @@
 -- `little::put_eight` meets its contract. The invariant: what is left to lay, laid on the slice as it is, gives the whole word laid on the slice as it was.
 -- Assumes nothing.
 use Prim.Native.Nat.{◌≤◌, ◌-◌, ◌+◌}
-use mathlib.Core.Path.{◌≡◌, refl, sym, ◌∙◌}
-use borrow.Author.Rules.{rules}
-use native.Mathlib.Nat.{add-zero}
+use mathlib.Core.Path.{◌≡◌}
 use lib.ListN.{length}
 use lib.Seq.{sets}
 use Rattle.little.specs.Little.{le}
-use Rattle.little.proofs.Little.{next_byte, all_laid}
 use Rattle.little.proofs.put_eight.Given as goal
 
 abbrev pub invariant-loop-i : goal.invariant-loop-i

@@ -1,6 +1,5 @@
 -- `little::put_two` meets its contract: the lower byte, then the upper.
 -- Assumes nothing.
-use borrow.Author.Rules.{rules}
 use Rattle.ground.proofs.Put.{put_as}
 use Rattle.little.proofs.Little.{two_bytes}
 use Rattle.little.proofs.put_two.Goals as goal

@@ -1,6 +1,5 @@
 -- `names::add` meets its contract: definition n stands before those of its hash.
 -- Assumes nothing.
-use borrow.Author.Rules.{rules}
 use Rattle.names.proofs.Entry.{entered}
 use Rattle.names.proofs.add.Goals as goal
 

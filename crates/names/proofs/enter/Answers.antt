@@ -1,13 +1,11 @@
 -- `names::enter` meets its contract: each definition is looked for, and then joins the table.
 -- Assumes nothing.
-use mathlib.Core.Path.{sym, ap, ◌∙◌}
-use Prim.Native.Nat.{ℕ, ◌-◌}
+use mathlib.Core.Path.{ap, ◌∙◌}
+use Prim.Native.Nat.{ℕ}
 use native.Mathlib.Omega.{arith}
-use lib.ListN.{length, length-replicate}
-use borrow.Author.Rules.{rules}
 use Rattle.words.specs.Words.{word_at}
 use Rattle.names.specs.Owed.{hash_from}
-use Rattle.names.proofs.Loops.{Entering, enter_none, enter_more, enter_all}
+use Rattle.names.proofs.Loops.{enter_none, enter_more, enter_all}
 use Rattle.names.proofs.enter.Goals as goal
 
 pub loop-n-init : goal.loop-n-init

@@ -3,9 +3,8 @@
 use mathlib.Core.Path.{sym, ap, ◌∙◌}
 use Prim.Native.Nat.{ℕ}
 use native.Mathlib.Omega.{arith}
-use borrow.Author.Rules.{rules}
 use Rattle.words.specs.Words.{word_at, same}
-use Rattle.names.proofs.Chain.{ChainWalk, start, ended, inside, hit, more, falls}
+use Rattle.names.proofs.Chain.{start, ended, inside, hit, more, falls}
 use Rattle.names.proofs.find.Goals as goal
 
 pub walk-init : goal.walk-init

@@ -1,11 +1,7 @@
 -- `names::find` meets its contract: the definitions with the same hash are followed, the last first.
 -- Assumes nothing.
-use mathlib.Core.Path.{sym, ap, ◌∙◌}
-use Prim.Native.Nat.{ℕ}
-use native.Mathlib.Omega.{arith}
-use borrow.Author.Rules.{rules}
-use Rattle.words.specs.Words.{word_at, same}
-use Rattle.names.proofs.Chain.{ChainWalk, start, ended, inside, hit, more, falls}
+use Rattle.words.specs.Words.{word_at}
+use Rattle.names.proofs.Chain.{ChainWalk}
 use Rattle.names.proofs.find.Given as goal
 
 abbrev pub invariant-walk : goal.invariant-walk

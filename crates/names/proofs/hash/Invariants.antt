@@ -1,14 +1,10 @@
 -- `names::hash` meets its contract: what is left of the word is still to be mixed in.
 -- Assumes nothing.
-use mathlib.Core.Path.{◌≡◌, refl, sym, ap, ◌∙◌}
-use Prim.Native.Nat.{ℕ, ◌+◌, ◌*◌, ◌-◌, ◌<◌, ◌%◌}
-use native.Mathlib.Omega.{arith}
+use mathlib.Core.Path.{◌≡◌}
+use Prim.Native.Nat.{◌-◌, ◌<◌}
 use lib.ListN.{length}
-use borrow.Author.Rules.{rules}
-use Rattle.words.specs.Words.{word_byte, word_at}
-use Rattle.words.proofs.Same.{inside}
+use Rattle.words.specs.Words.{word_at}
 use Rattle.names.specs.Owed.{hash_from}
-use Rattle.names.proofs.Mixed.{hash_more, hash_end}
 use Rattle.names.proofs.hash.Given as goal
 
 abbrev pub invariant-loop-h : goal.invariant-loop-h

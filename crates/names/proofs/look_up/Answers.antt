@@ -1,11 +1,7 @@
 -- `names::look_up` meets its contract: each name is looked for, and its number written.
 -- Assumes nothing.
-use mathlib.Core.Path.{sym, ◌∙◌}
-use Prim.Native.Nat.{◌-◌}
 use native.Mathlib.Omega.{arith}
-use lib.ListN.{length}
-use borrow.Author.Rules.{rules}
-use Rattle.names.proofs.Loops.{Looking, look_none, look-more, look-all}
+use Rattle.names.proofs.Loops.{look_none, look-more, look-all}
 use Rattle.names.proofs.look_up.Goals as goal
 
 pub loop-u-init : goal.loop-u-init

@@ -1,11 +1,8 @@
 -- `names::look_up` meets its contract: each name is looked for, and its number written.
 -- Assumes nothing.
-use mathlib.Core.Path.{sym, ◌∙◌}
 use Prim.Native.Nat.{◌-◌}
-use native.Mathlib.Omega.{arith}
 use lib.ListN.{length}
-use borrow.Author.Rules.{rules}
-use Rattle.names.proofs.Loops.{Looking, look_none, look-more, look-all}
+use Rattle.names.proofs.Loops.{Looking}
 use Rattle.names.proofs.look_up.Given as goal
 
 abbrev pub invariant-loop-u : goal.invariant-loop-u

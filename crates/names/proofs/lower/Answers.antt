@@ -1,6 +1,5 @@
 -- `names::lower` meets its contract: one answer for each branch.
 -- Assumes nothing.
-use borrow.Author.Rules.{rules}
 use Rattle.names.proofs.lower.Goals as goal
 
 pub returns-then-wrong : goal.returns-then-wrong

@@ -3,7 +3,6 @@
 use mathlib.Core.Path.{refl, sym}
 use native.Mathlib.Omega.{arith}
 use lib.ListN.{length}
-use borrow.Author.Rules.{rules}
 use Rattle.ground.proofs.Filled.{front_length}
 use Rattle.names.proofs.resolve.Goals as goal
 

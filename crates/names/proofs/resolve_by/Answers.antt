@@ -2,7 +2,6 @@
 -- Assumes nothing.
 use mathlib.Core.Path.{◌∙◌}
 use native.Mathlib.Omega.{arith}
-use borrow.Author.Rules.{rules}
 use Rattle.names.proofs.Loops.{entered_most, looked_most}
 use Rattle.names.proofs.Ruled.{ruled}
 use Rattle.names.proofs.resolve_by.Goals as goal

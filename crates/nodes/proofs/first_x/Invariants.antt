@@ -1,11 +1,9 @@
 -- `nodes::first_x` meets its contract. The invariant: no input passed is X.
 -- Assumes nothing.
 use Prim.Native.Nat.{◌≤◌, ◌-◌}
-use native.Mathlib.Omega.{arith}
 use lib.ListN.{length}
-use borrow.Author.Tests.{eq-eqb, ne_eqb}
-use Rattle.ground.proofs.First.{Every, every_none, every_next, stopped, passed}
-use Rattle.nodes.specs.Node.{is_set, first_x}
+use Rattle.ground.proofs.First.{Every}
+use Rattle.nodes.specs.Node.{is_set}
 use Rattle.nodes.proofs.first_x.Given as goal
 
 abbrev pub invariant-loop-i : goal.invariant-loop-i

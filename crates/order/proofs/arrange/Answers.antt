@@ -3,7 +3,6 @@
 use mathlib.Core.Path.{sym}
 use native.Mathlib.Omega.{arith}
 use lib.ListN.{length}
-use borrow.Author.Rules.{rules}
 use Rattle.ground.proofs.Filled.{take-replicate, front_length}
 use Rattle.order.proofs.arrange.Goals as goal
 

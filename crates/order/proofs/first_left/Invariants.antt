@@ -1,11 +1,9 @@
 -- `order::first_left` meets its contract. The invariant: every gate passed is marked.
 -- Assumes nothing.
 use Prim.Native.Nat.{◌≤◌, ◌-◌}
-use native.Mathlib.Omega.{arith}
 use lib.Dec.{eqb}
 use lib.ListN.{length, get_or}
-use borrow.Author.Tests.{eq-eqb, ne_eqb}
-use Rattle.ground.proofs.First.{Every, every_none, every_next, stopped, passed}
+use Rattle.ground.proofs.First.{Every}
 use Rattle.order.proofs.first_left.Given as goal
 
 abbrev pub invariant-loop-g : goal.invariant-loop-g

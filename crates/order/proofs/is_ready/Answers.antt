@@ -1,7 +1,6 @@
 -- `order::is_ready` meets its contract: one test after the other, as in its definition.
 -- Assumes nothing.
 use mathlib.Core.Path.{sym, ap, ◌∙◌}
-use borrow.Author.Rules.{rules}
 use borrow.Author.Tests.{eq-eqb, ne_eqb}
 use Rattle.order.specs.Owed.{there_by, ready_by}
 use Rattle.order.proofs.is_ready.Goals as goal

@@ -1,6 +1,5 @@
 -- `order::is_there` meets its contract.
 -- Assumes nothing.
-use borrow.Author.Rules.{rules}
 use borrow.Author.Tests.{le-leb, lt-leb}
 use Rattle.order.specs.Owed.{there_by}
 use Rattle.order.proofs.is_there.Goals as goal

@@ -3,7 +3,6 @@
 use mathlib.Core.Path.{sym}
 use native.Mathlib.Omega.{arith}
 use lib.Seq.{set_out}
-use borrow.Author.Rules.{rules}
 use Rattle.order.proofs.note.Goals as goal
 
 pub returns-then-s-reader : goal.returns-then-s-reader

@@ -1,9 +1,8 @@
 -- `order::place` meets its contract. The invariant: what is placed is placed in order, and no gate below the cursor is ready.
 -- Assumes nothing.
-use mathlib.Core.Path.{sym, ap, ◌∙◌}
+use mathlib.Core.Path.{sym, ◌∙◌}
 use native.Mathlib.Omega.{arith}
-use lib.ListN.{length, length-replicate}
-use Rattle.order.proofs.Placing.{SoFar, left, start, skipped, n_small, more, falls, finished}
+use Rattle.order.proofs.Placing.{start, skipped, n_small, more, falls, finished}
 use Rattle.order.proofs.place.Goals as goal
 
 pub loop-c-init : goal.loop-c-init

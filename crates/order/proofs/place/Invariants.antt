@@ -1,9 +1,7 @@
 -- `order::place` meets its contract. The invariant: what is placed is placed in order, and no gate below the cursor is ready.
 -- Assumes nothing.
-use mathlib.Core.Path.{sym, ap, ◌∙◌}
-use native.Mathlib.Omega.{arith}
-use lib.ListN.{length, length-replicate}
-use Rattle.order.proofs.Placing.{SoFar, left, start, skipped, n_small, more, falls, finished}
+use lib.ListN.{length}
+use Rattle.order.proofs.Placing.{SoFar, left}
 use Rattle.order.proofs.place.Given as goal
 
 abbrev pub invariant-loop-c : goal.invariant-loop-c

@@ -1,10 +1,7 @@
 -- `order::readers` meets its contract. The invariant: what is written is right for the gates from h on.
 -- Assumes nothing.
-use Prim.Native.Nat.{◌≤◌}
 use native.Mathlib.Omega.{arith}
-use lib.ListN.{length}
-use borrow.Author.Rules.{rules}
-use Rattle.order.proofs.FirstReaders.{ReadersFrom, start, more, finished}
+use Rattle.order.proofs.FirstReaders.{start, more, finished}
 use Rattle.order.proofs.readers.Goals as goal
 
 pub loop-h-init : goal.loop-h-init

@@ -1,6 +1,5 @@
 -- `order::rule_placed` meets its contract.
 -- Assumes nothing.
-use borrow.Author.Rules.{rules}
 use borrow.Author.Tests.{lt-ltb, le-ltb}
 use Rattle.answers.specs.Rules.{said}
 use Rattle.order.proofs.rule_placed.Goals as goal

@@ -1,9 +1,7 @@
 -- `reports::count_marks` meets its contract. The invariant: the marks passed are counted.
 -- Assumes nothing.
 use Prim.Native.Nat.{◌-◌}
-use native.Mathlib.Omega.{arith}
-use borrow.Author.Rules.{rules}
-use Rattle.ground.proofs.Counting.{Sum, no_sum, sum_small, sum_more, sum_all}
+use Rattle.ground.proofs.Counting.{Sum}
 use Rattle.reports.specs.Marks.{marked}
 use Rattle.reports.proofs.count_marks.Given as goal
 

@@ -1,10 +1,8 @@
 -- `reports::mark_all` meets its contract. The invariant: the first f marks stand.
 -- Assumes nothing.
 use mathlib.Core.Path.{refl}
-use Prim.Native.Nat.{◌-◌}
 use native.Mathlib.Omega.{arith}
-use borrow.Author.Rules.{rules}
-use Rattle.ground.proofs.Laid.{Laying, laying_none, laying_more, laying_all}
+use Rattle.ground.proofs.Laid.{laying_none, laying_more, laying_all}
 use Rattle.reports.proofs.mark_all.Goals as goal
 
 pub loop-f-init : goal.loop-f-init

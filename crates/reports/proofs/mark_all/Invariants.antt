@@ -1,10 +1,7 @@
 -- `reports::mark_all` meets its contract. The invariant: the first f marks stand.
 -- Assumes nothing.
-use mathlib.Core.Path.{refl}
 use Prim.Native.Nat.{◌-◌}
-use native.Mathlib.Omega.{arith}
-use borrow.Author.Rules.{rules}
-use Rattle.ground.proofs.Laid.{Laying, laying_none, laying_more, laying_all}
+use Rattle.ground.proofs.Laid.{Laying}
 use Rattle.reports.proofs.mark_all.Given as goal
 
 abbrev pub invariant-loop-f : goal.invariant-loop-f

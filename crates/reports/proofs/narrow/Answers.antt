@@ -1,12 +1,7 @@
 -- `reports::narrow` meets its contract. The invariant: the first f marks stand.
 -- Assumes nothing.
-use Prim.Native.Nat.{◌-◌}
 use native.Mathlib.Omega.{arith}
-use lib.Dec.{eqb}
-use lib.ListN.{length, get_or}
-use borrow.Author.Rules.{rules}
-use Rattle.ground.specs.Choose.{choose}
-use Rattle.ground.proofs.Laid.{Laying, laying_none, laying_more, laying_all}
+use Rattle.ground.proofs.Laid.{laying_none, laying_more, laying_all}
 use Rattle.reports.proofs.narrow.Goals as goal
 
 pub loop-f-init : goal.loop-f-init

@@ -1,10 +1,8 @@
 -- `reports::some_no_mark` meets its contract: the first byte that is no mark decides.
 -- Assumes nothing.
 use Prim.Native.Nat.{◌-◌}
-use native.Mathlib.Omega.{arith}
 use lib.ListN.{length}
-use borrow.Author.Rules.{rules}
-use Rattle.ground.proofs.Below.{None, none_yet, none_more, found, not_found}
+use Rattle.ground.proofs.Below.{None}
 use Rattle.reports.specs.Marks.{no_mark}
 use Rattle.reports.proofs.some_no_mark.Given as goal
 

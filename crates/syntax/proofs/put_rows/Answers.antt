@@ -1,9 +1,7 @@
 -- `syntax::put_rows` meets its contract: each character is put as the beginning of its row.
 -- Assumes nothing.
-use Rattle.syntax.proofs.Rows.{RowsFilling, start, more, all}
-use Prim.Native.Nat.{◌-◌}
+use Rattle.syntax.proofs.Rows.{start, more, all}
 use native.Mathlib.Omega.{arith}
-use borrow.Author.Rules.{rules}
 use Rattle.syntax.proofs.put_rows.Goals as goal
 
 pub loop-k-init : goal.loop-k-init

@@ -1,9 +1,7 @@
 -- `syntax::put_rows` meets its contract: each character is put as the beginning of its row.
 -- Assumes nothing.
-use Rattle.syntax.proofs.Rows.{RowsFilling, start, more, all}
+use Rattle.syntax.proofs.Rows.{RowsFilling}
 use Prim.Native.Nat.{◌-◌}
-use native.Mathlib.Omega.{arith}
-use borrow.Author.Rules.{rules}
 use Rattle.syntax.proofs.put_rows.Given as goal
 
 abbrev pub invariant-loop-k : goal.invariant-loop-k

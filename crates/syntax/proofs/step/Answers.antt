@@ -2,7 +2,6 @@
 -- Assumes nothing.
 use Rattle.syntax.proofs.Rows.{step_from}
 use native.Mathlib.Omega.{arith}
-use borrow.Author.Rules.{rules}
 use Rattle.syntax.proofs.step.Goals as goal
 
 pub overflow_add-q : goal.overflow_add-q

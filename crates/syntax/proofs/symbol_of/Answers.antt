@@ -1,7 +1,6 @@
 -- `syntax::symbol_of` meets its contract: it reads the table at the byte.
 -- Assumes nothing.
 use mathlib.Core.Path.{◌≡◌, ap, ◌∙◌}
-use borrow.Author.Rules.{rules}
 use native.Mathlib.Omega.{arith}
 use Rattle.syntax.specs.Grammar.{symbol}
 use Rattle.syntax.proofs.Table.{symbol_at, symbol_small}

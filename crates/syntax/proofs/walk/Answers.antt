@@ -1,11 +1,8 @@
 -- `syntax::walk` meets its contract: the rows are walked, byte by byte.
 -- Assumes nothing.
 use Rattle.syntax.proofs.Rows.{first_row}
-use Rattle.syntax.proofs.Reader.{SoFar, start, full, stops, more, ended, early}
-use Rattle.syntax.specs.Owed.{Row}
+use Rattle.syntax.proofs.Reader.{start, full, stops, more, ended, early}
 use Rattle.syntax.specs.Derivative.{next}
-use lib.ListN.{length}
-use Prim.Native.Nat.{◌-◌, ◌/◌}
 use mathlib.Core.Path.{◌∙◌, ap}
 use native.Mathlib.Omega.{arith}
 use Rattle.syntax.proofs.walk.Goals as goal

@@ -1,13 +1,9 @@
 -- `syntax::walk` meets its contract: the rows are walked, byte by byte.
 -- Assumes nothing.
-use Rattle.syntax.proofs.Rows.{first_row}
-use Rattle.syntax.proofs.Reader.{SoFar, start, full, stops, more, ended, early}
+use Rattle.syntax.proofs.Reader.{SoFar}
 use Rattle.syntax.specs.Owed.{Row}
-use Rattle.syntax.specs.Derivative.{next}
 use lib.ListN.{length}
 use Prim.Native.Nat.{◌-◌, ◌/◌}
-use mathlib.Core.Path.{◌∙◌, ap}
-use native.Mathlib.Omega.{arith}
 use Rattle.syntax.proofs.walk.Given as goal
 
 abbrev pub invariant-loop-i : goal.invariant-loop-i

@@ -1,7 +1,6 @@
 -- `tables::check_marks` meets its contract: the table's rules first, then the marks' size.
 -- Assumes nothing.
 use mathlib.Core.Path.{sym, ◌∙◌}
-use borrow.Author.Rules.{rules}
 use Rattle.answers.proofs.Rules.{after_refused, after_fine}
 use Rattle.tables.specs.Table.{table_rules}
 use Rattle.tables.specs.Marks.{marks_rules}

@@ -1,7 +1,6 @@
 -- `tables::check_table` meets its contract: by its tests, in the order of the rules.
 -- Assumes nothing.
 use mathlib.Core.Path.{refl, sym, ◌∙◌}
-use borrow.Author.Rules.{rules}
 use borrow.Author.Tests.{not-true, not-false}
 use Rattle.answers.proofs.Places.{whole_broken, place_broken, none_broken}
 use Rattle.tables.specs.Table.{table_rules}

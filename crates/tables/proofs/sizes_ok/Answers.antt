@@ -1,11 +1,7 @@
 -- `tables::sizes_ok` meets its contract: by its tests; a product of two counts in range fits.
 -- Assumes nothing.
 use mathlib.Core.Path.{sym, ◌∙◌}
-use native.Mathlib.Nat.{mul-le-mul_right}
-use native.Mathlib.Omega.{arith}
 use Rattle.tables.specs.Table.{sizes_ok}
-use Rattle.tables.proofs.Says.{in_range_lem}
-use borrow.Author.Rules.{rules}
 use borrow.Author.Tests.{not-true, not-false}
 use Rattle.tables.proofs.sizes_ok.Goals as goal
 
