@@ -3,7 +3,6 @@
 use Rattle.ground.proofs.Filled.{filled-length}
 use Rattle.bench.proofs.Answer.{reads}
 use mathlib.Core.Path.{sym}
-use borrow.Author.Rules.{rules}
 use Rattle.bench.proofs.bench.Goals as goal
 
 pub slice_bounds-read_text-end : goal.slice_bounds-read_text-end

@@ -3,7 +3,6 @@
 use Rattle.ground.proofs.Filled.{filled-length, front_length}
 use Rattle.texts.proofs.Steps.{gates_few}
 use mathlib.Core.Path.{sym}
-use borrow.Author.Rules.{rules}
 use Rattle.bench.proofs.read_defs.Goals as goal
 
 pub slice_bounds-read_defs_in-end : goal.slice_bounds-read_defs_in-end

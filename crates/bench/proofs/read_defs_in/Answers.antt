@@ -4,7 +4,6 @@ use Rattle.texts.proofs.Steps.{defs_room, defined}
 use lib.Seq.{length-take-le}
 use mathlib.Core.Path.{sym}
 use native.Mathlib.Omega.{arith}
-use borrow.Author.Rules.{rules}
 use Rattle.bench.proofs.read_defs_in.Goals as goal
 
 pub put_defs-d-requires : goal.put_defs-d-requires

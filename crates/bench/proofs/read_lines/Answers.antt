@@ -2,7 +2,6 @@
 -- Assumes nothing.
 use Rattle.ground.proofs.Filled.{front_length}
 use mathlib.Core.Path.{sym}
-use borrow.Author.Rules.{rules}
 use Rattle.bench.proofs.read_lines.Goals as goal
 
 pub slice_bounds-read_lines_in-end : goal.slice_bounds-read_lines_in-end

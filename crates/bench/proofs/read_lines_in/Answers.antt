@@ -1,7 +1,6 @@
 -- `bench::read_lines_in` meets its contract: the forms of the lines, and how many gates there are.
 -- Assumes nothing.
 use Rattle.texts.proofs.Steps.{told}
-use borrow.Author.Rules.{rules}
 use Rattle.bench.proofs.read_lines_in.Goals as goal
 
 pub read_defs-requires : goal.read_defs-requires

@@ -1,7 +1,6 @@
 -- `bench::read_placed` meets its contract: where nothing is refused, the places of the names are written.
 -- Assumes nothing.
 use Rattle.bench.proofs.Places.{places_ready, placed, unplaced}
-use borrow.Author.Rules.{rules}
 use Rattle.bench.proofs.read_placed.Goals as goal
 
 pub put_places-requires : goal.put_places-requires

@@ -3,7 +3,6 @@
 use Rattle.answers.proofs.Answer.{first_refused, first_fine}
 use Rattle.syntax.proofs.Says.{right_text}
 use mathlib.Core.Path.{sym, ◌∙◌}
-use borrow.Author.Rules.{rules}
 use Rattle.bench.proofs.read_text.Goals as goal
 
 pub read_words-requires : goal.read_words-requires

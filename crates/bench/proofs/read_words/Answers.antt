@@ -2,7 +2,6 @@
 -- Assumes nothing.
 use Rattle.ground.proofs.Filled.{filled-length}
 use mathlib.Core.Path.{sym}
-use borrow.Author.Rules.{rules}
 use Rattle.bench.proofs.read_words.Goals as goal
 
 pub slice_bounds-read_words_in-end : goal.slice_bounds-read_words_in-end

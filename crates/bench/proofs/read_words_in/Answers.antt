@@ -4,7 +4,6 @@ use Rattle.texts.proofs.Steps.{lined, few_ends}
 use lib.Seq.{length-take-le}
 use mathlib.Core.Path.{sym}
 use native.Mathlib.Omega.{arith}
-use borrow.Author.Rules.{rules}
 use Rattle.bench.proofs.read_words_in.Goals as goal
 
 pub slice_bounds-read_lines-end-2 : goal.slice_bounds-read_lines-end-2

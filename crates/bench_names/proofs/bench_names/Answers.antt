@@ -1,7 +1,6 @@
 -- `bench_names::bench_names` meets its contract: room for the places and for the records is lent.
 -- Assumes nothing.
 use mathlib.Core.Path.{sym}
-use borrow.Author.Rules.{rules}
 use Rattle.ground.proofs.Filled.{filled-length}
 use Rattle.bench_names.proofs.bench_names.Goals as goal
 

@@ -3,7 +3,6 @@
 use mathlib.Core.Path.{sym}
 use lib.Seq.{length-take-le}
 use native.Mathlib.Omega.{arith}
-use borrow.Author.Rules.{rules}
 use Rattle.bench_names.proofs.Answer.{names_refused, few, found_few, names_found}
 use Rattle.bench_names.proofs.bench_names_in.Goals as goal
 

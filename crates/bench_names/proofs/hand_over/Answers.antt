@@ -1,11 +1,8 @@
 -- `bench_names::hand_over` meets its contract. The invariant: the places of the lines below k are written.
 -- Assumes nothing.
-use Prim.Native.Nat.{◌-◌}
 use native.Mathlib.Nat.{zero-add}
 use native.Mathlib.Omega.{arith}
-use lib.ListN.{length}
-use borrow.Author.Rules.{rules}
-use Rattle.ground.proofs.Put.{Partly, partly_long, partly_none, partly_more}
+use Rattle.ground.proofs.Put.{partly_long, partly_more}
 use Rattle.answers.proofs.Answer.{refused_done}
 use Rattle.bench_names.proofs.Room.{other_count, all_over}
 use Rattle.bench_names.proofs.hand_over.Goals as goal

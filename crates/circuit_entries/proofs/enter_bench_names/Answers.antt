@@ -1,7 +1,6 @@
 -- `circuit_entries::enter_bench_names` meets its contract: an area of another size first, else the answer and the places of the part.
 -- Assumes nothing.
 use borrow.Author.Tests.{eq-eqb, ne_eqb}
-use borrow.Author.Rules.{rules}
 use Rattle.replies.proofs.Lent.{nothing_lent, lent_reported}
 use Rattle.circuit_entries.proofs.enter_bench_names.Goals as goal
 

@@ -1,6 +1,5 @@
 -- `circuit_entries::enter_check` meets its contract: the answer of the part, reported.
 -- Assumes nothing.
-use borrow.Author.Rules.{rules}
 use Rattle.replies.proofs.Entered.{reported}
 use Rattle.circuit_entries.proofs.enter_check.Goals as goal
 

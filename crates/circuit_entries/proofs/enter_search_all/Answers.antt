@@ -1,7 +1,6 @@
 -- `circuit_entries::enter_search_all` meets its contract: an area of another size first, else the answer and the memory of the part.
 -- Assumes nothing.
 use borrow.Author.Tests.{eq-eqb, ne_eqb}
-use borrow.Author.Rules.{rules}
 use Rattle.replies.proofs.Entered.{other_size, stays, reported, becomes}
 use Rattle.circuit_entries.proofs.enter_search_all.Goals as goal
 

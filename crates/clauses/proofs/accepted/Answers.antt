@@ -1,7 +1,6 @@
 -- `clauses::accepted` meets its contract: a refusal of the fault is handed on, else the room decides.
 -- Assumes nothing.
 use mathlib.Core.Path.{sym, ◌∙◌}
-use borrow.Author.Rules.{rules}
 use Rattle.answers.proofs.Answer.{first_refused, first_fine}
 use Rattle.clauses.proofs.Answer.{counted, one_fault}
 use Rattle.clauses.proofs.accepted.Goals as goal

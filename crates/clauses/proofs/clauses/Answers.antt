@@ -1,6 +1,5 @@
 -- `clauses::clauses` meets its contract: a refusal of the circuit is handed on, else the fault and the room decide.
 -- Assumes nothing.
-use borrow.Author.Rules.{rules}
 use Rattle.answers.proofs.Answer.{first_refused, first_fine}
 use Rattle.clauses.proofs.Answer.{any_inputs, writes}
 use Rattle.circuit.proofs.Accepted.{accepts, refuses}

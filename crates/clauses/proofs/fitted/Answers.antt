@@ -1,7 +1,5 @@
 -- `clauses::fitted` meets its contract: refusal 11, or the list.
 -- Assumes nothing.
-use native.Mathlib.Omega.{arith}
-use borrow.Author.Rules.{rules}
 use Rattle.clauses.proofs.Answer.{short, whole_room, fits}
 use Rattle.clauses.proofs.fitted.Goals as goal
 

@@ -1,6 +1,5 @@
 -- `clauses::put_all` meets its contract: the five parts, one after the other.
 -- Assumes nothing.
-use borrow.Author.Rules.{rules}
 use Rattle.clauses.proofs.Whole.{room_good, room_stuck, room_faulty, room_difference, room_last, all_laid}
 use Rattle.clauses.proofs.put_all.Goals as goal
 

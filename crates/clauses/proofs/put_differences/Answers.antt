@@ -1,12 +1,8 @@
 -- `clauses::put_differences` meets its contract. The invariant: the lines below k have been written, and j of them are outputs.
 -- Assumes nothing.
 use native.Mathlib.Omega.{arith}
-use Prim.Native.Nat.{◌-◌}
-use Rattle.clauses.proofs.Loops.{SoFar, so_far_none, line_room, difference_room, so_far_more, so_far_all}
-use Rattle.line_clauses.specs.Clauses.{difference_clauses}
-use Rattle.ground.proofs.Put.{put_long}
-use Rattle.circuit.specs.Record.{is_output}
-use Rattle.ground.proofs.Counting.{Sum, no_sum, sum_small, sum_more}
+use Rattle.clauses.proofs.Loops.{so_far_none, line_room, difference_room, so_far_more, so_far_all}
+use Rattle.ground.proofs.Counting.{no_sum, sum_small, sum_more}
 use Rattle.clauses.proofs.put_differences.Goals as goal
 
 pub loop-k-init : goal.loop-k-init

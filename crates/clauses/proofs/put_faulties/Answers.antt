@@ -1,10 +1,6 @@
 -- `clauses::put_faulties` meets its contract. The invariant: the lines below k have been written.
 -- Assumes nothing.
-use native.Mathlib.Omega.{arith}
-use Prim.Native.Nat.{◌-◌}
-use Rattle.clauses.proofs.Loops.{SoFar, so_far_none, line_room, so_far_more, so_far_all}
-use Rattle.line_clauses.specs.Clauses.{faulty_clauses}
-use Rattle.ground.proofs.Put.{put_long}
+use Rattle.clauses.proofs.Loops.{so_far_none, line_room, so_far_more, so_far_all}
 use Rattle.clauses.proofs.put_faulties.Goals as goal
 
 pub loop-k-init : goal.loop-k-init

@@ -1,9 +1,7 @@
 -- `clauses::put_last` meets its contract. The invariant: j literals have been written.
 -- Assumes nothing.
-use borrow.Author.Rules.{rules}
 use native.Mathlib.Omega.{arith}
-use Prim.Native.Nat.{◌-◌}
-use Rattle.clauses.proofs.Loops.{LastSoFar, last_none, last_more, last_all}
+use Rattle.clauses.proofs.Loops.{last_none, last_more, last_all}
 use Rattle.line_clauses.proofs.Lines.{variable}
 use Rattle.cnf.proofs.Signed.{plus_is}
 use Rattle.ground.proofs.Put.{put_long}

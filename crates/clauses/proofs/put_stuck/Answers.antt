@@ -3,7 +3,6 @@
 use borrow.Author.Tests.{eq-eqb, ne_eqb}
 use native.Mathlib.Omega.{arith}
 use Prim.Native.Nat.{◌+◌, ◌*◌}
-use borrow.Author.Rules.{rules}
 use Rattle.line_clauses.proofs.Lines.{variable}
 use Rattle.cnf.proofs.Signed.{plus_back, minus_back}
 use Rattle.clauses.proofs.put_stuck.Goals as goal

@@ -1,8 +1,6 @@
 -- `clauses::whole_size` meets its contract. The invariant: what the lines below k take, good and faulty.
 -- Assumes nothing.
-use native.Mathlib.Omega.{arith}
-use Prim.Native.Nat.{◌-◌}
-use Rattle.clauses.proofs.Sizes.{SizeSoFar, size_none, size_more, whole_takes}
+use Rattle.clauses.proofs.Sizes.{size_none, size_more, whole_takes}
 use Rattle.clauses.proofs.whole_size.Goals as goal
 
 pub loop-k-init : goal.loop-k-init

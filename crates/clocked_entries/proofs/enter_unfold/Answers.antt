@@ -1,7 +1,6 @@
 -- `clocked_entries::enter_unfold` meets its contract: an area of another size first, else the answer and the buffer of the part.
 -- Assumes nothing.
 use borrow.Author.Tests.{eq-eqb, ne_eqb}
-use borrow.Author.Rules.{rules}
 use Rattle.replies.proofs.Lent.{nothing_lent, lent_reported}
 use Rattle.clocked_entries.proofs.enter_unfold.Goals as goal
 

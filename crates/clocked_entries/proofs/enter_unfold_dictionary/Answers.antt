@@ -1,7 +1,6 @@
 -- `clocked_entries::enter_unfold_dictionary` meets its contract: an area of another size first, else the answer and the memory of the part.
 -- Assumes nothing.
 use borrow.Author.Tests.{eq-eqb, ne_eqb}
-use borrow.Author.Rules.{rules}
 use Rattle.replies.proofs.Made.{nothing_made, made_reported}
 use Rattle.clocked_entries.proofs.enter_unfold_dictionary.Goals as goal
 

@@ -1,8 +1,7 @@
 -- `columns::put_column` meets its contract. The invariant: the rows passed have their entries, and the bits of the others are left.
 -- Assumes nothing.
-use native.Mathlib.Omega.{arith}
 use Prim.Native.Nat.{◌-◌}
-use Rattle.columns.proofs.Loop.{SoFar, start, inside, fits, more, finished}
+use Rattle.columns.proofs.Loop.{SoFar}
 use Rattle.columns.proofs.put_column.Given as goal
 
 abbrev pub invariant-loop-i : goal.invariant-loop-i

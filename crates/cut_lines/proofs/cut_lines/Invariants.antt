@@ -1,10 +1,8 @@
 -- `cut_lines::cut_lines` meets its contract: two bytes of each line, one line after the other.
 -- Assumes nothing.
-use native.Mathlib.Omega.{arith}
 use Prim.Native.Nat.{◌-◌}
-use borrow.Author.Rules.{rules}
-use lib.ListN.{length, length-set}
-use Rattle.cut_lines.proofs.Lines.{SoFar, start, more, finished}
+use lib.ListN.{length}
+use Rattle.cut_lines.proofs.Lines.{SoFar}
 use Rattle.cut_lines.proofs.cut_lines.Given as goal
 
 abbrev pub invariant-loop-k : goal.invariant-loop-k

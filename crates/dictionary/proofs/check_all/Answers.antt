@@ -3,7 +3,6 @@
 use mathlib.Core.Path.{sym, ◌∙◌}
 use native.Mathlib.Nat.{mul-le-mul}
 use native.Mathlib.Omega.{arith}
-use borrow.Author.Rules.{rules}
 use Rattle.circuit.proofs.Accepted.{accepts, refuses}
 use Rattle.dictionary.proofs.Checked.{circuit_refused, rest_refused, all_fine}
 use Rattle.dictionary.proofs.check_all.Goals as goal

@@ -3,7 +3,6 @@
 use mathlib.Core.Path.{sym, ◌∙◌}
 use native.Mathlib.Nat.{mul-le-mul}
 use native.Mathlib.Omega.{arith}
-use borrow.Author.Rules.{rules}
 use Rattle.lists.specs.Both.{list_rules}
 use Rattle.lists.proofs.Both.{lists_few}
 use Rattle.answers.proofs.Rules.{after_refused, after_fine}

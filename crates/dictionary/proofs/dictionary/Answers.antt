@@ -1,6 +1,5 @@
 -- `dictionary::dictionary` meets its contract: a refusal is handed on, else the table is filled.
 -- Assumes nothing.
-use borrow.Author.Rules.{rules}
 use Rattle.dictionary.proofs.Checked.{all_accepts}
 use Rattle.dictionary.proofs.Answer.{ready, refused_answer, made_answer}
 use Rattle.dictionary.proofs.dictionary.Goals as goal

@@ -1,10 +1,8 @@
 -- `entry::entry_by` meets its contract. The invariant: no line passed differs, and r is pass if all passed.
 -- Assumes nothing.
-use borrow.Author.Rules.{rules}
-use native.Mathlib.Omega.{arith}
 use lib.ListN.{take, drop}
 use Prim.Native.Nat.{◌-◌}
-use Rattle.entry.proofs.Loop.{SoFar, start, more, failed, finished, in_halves}
+use Rattle.entry.proofs.Loop.{SoFar}
 use Rattle.entry.specs.Owed.{output_test}
 use Rattle.entry.proofs.entry_by.Given as goal
 

@@ -1,6 +1,5 @@
 -- `entry::fault_entry` meets its contract: the faulty values, then the entry.
 -- Assumes nothing.
-use borrow.Author.Rules.{rules}
 use Rattle.simulate.specs.Simulate.{stuck_at}
 use Rattle.entry.proofs.Halves.{entry_made}
 use Rattle.entry.proofs.fault_entry.Goals as goal

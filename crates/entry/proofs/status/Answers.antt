@@ -1,7 +1,5 @@
 -- `entry::status` meets its contract: one answer for each branch.
 -- Assumes nothing.
-use borrow.Author.Rules.{rules}
-use native.Mathlib.Omega.{arith}
 use borrow.Author.Tests.{ne_eqb}
 use Rattle.entry.specs.Owed.{status_by}
 use Rattle.entry.proofs.status.Goals as goal

@@ -1,6 +1,5 @@
 -- `inspect::find` meets its contract: what is found is what is defined, since nothing before it was.
 -- Assumes nothing.
-use borrow.Author.Rules.{rules}
 use Rattle.inspect.proofs.InOrder.{found-lost, found-pair, spare-ready, found-spare, found_sound}
 use Rattle.inspect.proofs.find.Goals as goal
 

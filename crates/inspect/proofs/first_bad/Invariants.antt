@@ -1,13 +1,9 @@
 -- `inspect::first_bad` meets its contract. The invariant: no mark passed is bad.
 -- Assumes nothing.
-use mathlib.Core.Path.{refl, sym}
 use Prim.Native.Nat.{◌-◌}
 use lib.ListN.{length}
-use borrow.Author.Rules.{rules}
-use borrow.Author.Tests.{lt-ltb, le-ltb}
-use Rattle.ground.proofs.Below.{None, none_yet, none_more}
+use Rattle.ground.proofs.Below.{None}
 use Rattle.findings.specs.Findings.{bad_mark}
-use Rattle.findings.proofs.Lowest.{stops_here, stops_nowhere}
 use Rattle.inspect.proofs.first_bad.Given as goal
 
 abbrev pub invariant-loop-k : goal.invariant-loop-k

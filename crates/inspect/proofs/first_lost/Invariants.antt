@@ -1,10 +1,8 @@
 -- `inspect::first_lost` meets its contract. The invariant: no fault passed is lost.
 -- Assumes nothing.
 use Prim.Native.Nat.{◌-◌}
-use borrow.Author.Rules.{rules}
-use Rattle.ground.proofs.Below.{None, none_yet, none_more}
+use Rattle.ground.proofs.Below.{None}
 use Rattle.inspect.specs.Owed.{lost_in}
-use Rattle.findings.proofs.Lowest.{stops_here, stops_nowhere}
 use Rattle.inspect.proofs.first_lost.Given as goal
 
 abbrev pub invariant-loop-f : goal.invariant-loop-f

@@ -1,12 +1,9 @@
 -- `inspect::first_paired` meets its contract. The invariant: no fault passed is the lower one of a lost pair.
 -- Assumes nothing.
-use mathlib.Core.Path.{refl, sym}
 use Prim.Native.Nat.{◌-◌}
-use borrow.Author.Rules.{rules}
 use Rattle.ground.specs.Below.{any_below}
-use Rattle.ground.proofs.Below.{None, none_yet, none_more}
+use Rattle.ground.proofs.Below.{None}
 use Rattle.inspect.specs.Owed.{pair_in}
-use Rattle.findings.proofs.Lowest.{stops_here, stops_nowhere, here, nowhere}
 use Rattle.inspect.proofs.first_paired.Given as goal
 
 abbrev pub invariant-loop-f : goal.invariant-loop-f

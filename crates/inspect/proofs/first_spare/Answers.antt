@@ -1,10 +1,7 @@
 -- `inspect::first_spare` meets its contract. The invariant: no pattern passed can be spared.
 -- Assumes nothing.
-use Prim.Native.Nat.{◌-◌}
 use borrow.Author.Rules.{rules}
-use Rattle.ground.proofs.Below.{None, none_yet, none_more}
-use Rattle.tables.specs.Entries.{entries_of}
-use Rattle.findings.specs.Findings.{spare}
+use Rattle.ground.proofs.Below.{none_yet, none_more}
 use Rattle.findings.proofs.Lowest.{stops_here, stops_nowhere}
 use Rattle.inspect.proofs.first_spare.Goals as goal
 

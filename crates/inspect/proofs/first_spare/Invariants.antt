@@ -1,11 +1,9 @@
 -- `inspect::first_spare` meets its contract. The invariant: no pattern passed can be spared.
 -- Assumes nothing.
 use Prim.Native.Nat.{◌-◌}
-use borrow.Author.Rules.{rules}
-use Rattle.ground.proofs.Below.{None, none_yet, none_more}
+use Rattle.ground.proofs.Below.{None}
 use Rattle.tables.specs.Entries.{entries_of}
 use Rattle.findings.specs.Findings.{spare}
-use Rattle.findings.proofs.Lowest.{stops_here, stops_nowhere}
 use Rattle.inspect.proofs.first_spare.Given as goal
 
 abbrev pub invariant-loop-p : goal.invariant-loop-p

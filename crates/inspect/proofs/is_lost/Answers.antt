@@ -1,6 +1,5 @@
 -- `inspect::is_lost` meets its contract: by its tests.
 -- Assumes nothing.
-use borrow.Author.Rules.{rules}
 use borrow.Author.Tests.{eq-eqb, ne_eqb}
 use Rattle.inspect.specs.Owed.{lost_in}
 use Rattle.inspect.proofs.is_lost.Goals as goal

@@ -1,6 +1,5 @@
 -- `inspect::is_lost_pair` meets its contract: by its tests, in order.
 -- Assumes nothing.
-use borrow.Author.Rules.{rules}
 use Rattle.inspect.proofs.Pairs.{first_undetected, second_undetected, still_told, no-more-told}
 use Rattle.inspect.proofs.is_lost_pair.Goals as goal
 

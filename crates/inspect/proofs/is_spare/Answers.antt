@@ -1,7 +1,6 @@
 -- `inspect::is_spare` meets its contract: a kept pattern by the counts.
 -- Assumes nothing.
 use native.Mathlib.Omega.{arith}
-use borrow.Author.Rules.{rules}
 use Rattle.tables.proofs.Rows.{row_inside}
 use Rattle.tallies.proofs.Tallies.{row_cells, row_notes}
 use Rattle.inspect.proofs.Spare.{dropped-spare, kept-spare}

@@ -1,9 +1,7 @@
 -- `inspect::lost_with` meets its contract. The invariant: f makes no lost pair with a fault passed, nor with itself or one below it.
 -- Assumes nothing.
-use Prim.Native.Nat.{◌-◌, ◌<◌}
 use borrow.Author.Rules.{rules}
-use Rattle.ground.proofs.Below.{None, none_more}
-use Rattle.inspect.specs.Owed.{pair_in}
+use Rattle.ground.proofs.Below.{none_more}
 use Rattle.findings.proofs.Lowest.{stops_here, stops_nowhere}
 use Rattle.inspect.proofs.Pairs.{none_up_to, room_below}
 use Rattle.inspect.proofs.lost_with.Goals as goal

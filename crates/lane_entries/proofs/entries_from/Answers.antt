@@ -1,9 +1,7 @@
 -- `lane_entries::entries_from` meets its contract. The invariant: what the outputs below the line say.
 -- Assumes nothing.
-use borrow.Author.Rules.{rules}
 use native.Mathlib.Omega.{arith}
-use Prim.Native.Nat.{◌-◌}
-use Rattle.lane_entries.proofs.Loop.{SoFar, start, more, finished}
+use Rattle.lane_entries.proofs.Loop.{start, more, finished}
 use Rattle.lane_entries.proofs.entries_from.Goals as goal
 
 pub loop-k-init : goal.loop-k-init

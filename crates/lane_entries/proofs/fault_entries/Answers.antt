@@ -1,6 +1,5 @@
 -- `lane_entries::fault_entries` meets its contract: the faulty lines, then the entries.
 -- Assumes nothing.
-use borrow.Author.Rules.{rules}
 use Rattle.lane_entries.proofs.Fault.{entries_made}
 use Rattle.lane_entries.proofs.fault_entries.Goals as goal
 

@@ -1,6 +1,5 @@
 -- `lane_entries::next_line` meets its contract: one answer for each branch.
 -- Assumes nothing.
-use borrow.Author.Rules.{rules}
 use native.Mathlib.Omega.{arith}
 use Rattle.lane_entries.proofs.Loop.{no_output, output}
 use Rattle.lane_entries.proofs.next_line.Goals as goal

@@ -1,10 +1,8 @@
 -- `lane_inputs::input_lanes` meets its contract. The invariant: the patterns passed are laid into their lanes.
 -- Assumes nothing.
 use native.Mathlib.Omega.{arith}
-use Prim.Native.Nat.{◌-◌}
-use mathlib.Core.Path.{◌≡◌, refl}
-use Rattle.lists.specs.Patterns.{pattern_count}
-use Rattle.lane_inputs.proofs.Packed.{SoFar, start, lane_below, place_inside, ones_fit, zeros_fit, more, finished}
+use mathlib.Core.Path.{refl}
+use Rattle.lane_inputs.proofs.Packed.{start, lane_below, place_inside, ones_fit, zeros_fit, more, finished}
 use Rattle.lane_inputs.proofs.input_lanes.Goals as goal
 
 pub loop-i-init : goal.loop-i-init

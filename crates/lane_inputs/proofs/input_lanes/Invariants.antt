@@ -1,10 +1,9 @@
 -- `lane_inputs::input_lanes` meets its contract. The invariant: the patterns passed are laid into their lanes.
 -- Assumes nothing.
-use native.Mathlib.Omega.{arith}
 use Prim.Native.Nat.{◌-◌}
-use mathlib.Core.Path.{◌≡◌, refl}
+use mathlib.Core.Path.{◌≡◌}
 use Rattle.lists.specs.Patterns.{pattern_count}
-use Rattle.lane_inputs.proofs.Packed.{SoFar, start, lane_below, place_inside, ones_fit, zeros_fit, more, finished}
+use Rattle.lane_inputs.proofs.Packed.{SoFar}
 use Rattle.lane_inputs.proofs.input_lanes.Given as goal
 
 abbrev pub invariant-loop-i : goal.invariant-loop-i

@@ -3,7 +3,7 @@
 use native.Mathlib.Omega.{arith}
 use Rattle.simulate.proofs.Steps.{after_line}
 use Rattle.lane_lines.proofs.Steps as steps
-use Rattle.lane_lines.proofs.Steps.{SoFar, more, finished}
+use Rattle.lane_lines.proofs.Steps.{more, finished}
 use Rattle.lane_lines.proofs.step_lines.Goals as goal
 
 pub loop-line-init : goal.loop-line-init

@@ -1,9 +1,7 @@
 -- `list_search::after_last` meets its contract. The invariant: every budget passed is 0.
 -- Assumes nothing.
-use Prim.Native.Nat.{◌≤◌}
 use native.Mathlib.Omega.{arith}
-use lib.ListN.{length}
-use Rattle.list_search.proofs.Budgets.{NoneFrom, none_outside, none_before}
+use Rattle.list_search.proofs.Budgets.{none_outside, none_before}
 use Rattle.list_search.proofs.after_last.Goals as goal
 
 pub loop-i-init : goal.loop-i-init

@@ -1,9 +1,8 @@
 -- `list_search::after_last` meets its contract. The invariant: every budget passed is 0.
 -- Assumes nothing.
 use Prim.Native.Nat.{◌≤◌}
-use native.Mathlib.Omega.{arith}
 use lib.ListN.{length}
-use Rattle.list_search.proofs.Budgets.{NoneFrom, none_outside, none_before}
+use Rattle.list_search.proofs.Budgets.{NoneFrom}
 use Rattle.list_search.proofs.after_last.Given as goal
 
 abbrev pub invariant-loop-i : goal.invariant-loop-i

@@ -2,7 +2,6 @@
 -- Assumes nothing.
 use mathlib.Core.Path.{refl}
 use native.Mathlib.Omega.{arith}
-use borrow.Author.Rules.{rules}
 use Rattle.list_search.proofs.Parts.{record_inside, part_inside, one-ready, one-done}
 use Rattle.list_search.proofs.search_one.Goals as goal
 

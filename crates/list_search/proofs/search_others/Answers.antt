@@ -2,7 +2,6 @@
 -- Assumes nothing.
 use mathlib.Core.Path.{sym}
 use native.Mathlib.Omega.{arith}
-use borrow.Author.Rules.{rules}
 use Rattle.list_search.proofs.Parts.{part_inside, first_outcomes, first_counts, first_tests, others-ready, others-done}
 use Rattle.list_search.proofs.search_others.Goals as goal
 

@@ -1,7 +1,6 @@
 -- `replies::of_audited` meets its contract: the numbers of each case.
 -- Assumes nothing.
 use mathlib.Core.Path.{◌∙◌}
-use borrow.Author.Rules.{rules}
 use Rattle.audit.specs.Promise.{audited_numbers}
 use Rattle.replies.proofs.of_audited.Goals as goal
 

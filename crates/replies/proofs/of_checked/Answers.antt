@@ -1,7 +1,6 @@
 -- `replies::of_checked` meets its contract: the numbers of each case.
 -- Assumes nothing.
 use mathlib.Core.Path.{◌∙◌}
-use borrow.Author.Rules.{rules}
 use Rattle.circuit.specs.Promise.{checked_numbers}
 use Rattle.replies.proofs.of_checked.Goals as goal
 

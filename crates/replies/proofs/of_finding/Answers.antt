@@ -1,7 +1,6 @@
 -- `replies::of_finding` meets its contract: the numbers of each case.
 -- Assumes nothing.
 use mathlib.Core.Path.{◌∙◌}
-use borrow.Author.Rules.{rules}
 use Rattle.replies.proofs.of_finding.Goals as goal
 
 pub returns-in-Sound : goal.returns-in-Sound

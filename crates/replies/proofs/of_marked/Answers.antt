@@ -1,7 +1,6 @@
 -- `replies::of_marked` meets its contract: the numbers of each case.
 -- Assumes nothing.
 use mathlib.Core.Path.{◌∙◌}
-use borrow.Author.Rules.{rules}
 use Rattle.suspect_areas.specs.Promise.{marked_numbers}
 use Rattle.replies.proofs.of_marked.Goals as goal
 

@@ -1,7 +1,6 @@
 -- `replies::of_narrowed` meets its contract: the numbers of each case.
 -- Assumes nothing.
 use mathlib.Core.Path.{◌∙◌}
-use borrow.Author.Rules.{rules}
 use Rattle.suspects.specs.Promise.{narrowed_numbers}
 use Rattle.replies.proofs.of_narrowed.Goals as goal
 

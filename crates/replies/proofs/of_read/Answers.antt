@@ -1,7 +1,6 @@
 -- `replies::of_read` meets its contract: the numbers of each case.
 -- Assumes nothing.
 use mathlib.Core.Path.{◌∙◌}
-use borrow.Author.Rules.{rules}
 use Rattle.bench.specs.Promise.{read_numbers}
 use Rattle.replies.proofs.of_read.Goals as goal
 

@@ -1,7 +1,6 @@
 -- `replies::of_ruling` meets its contract: the numbers of each case.
 -- Assumes nothing.
 use mathlib.Core.Path.{◌∙◌}
-use borrow.Author.Rules.{rules}
 use Rattle.replies.proofs.of_ruling.Goals as goal
 
 pub returns-in-Fine : goal.returns-in-Fine

@@ -1,7 +1,6 @@
 -- `replies::of_searched` meets its contract: the numbers of each case.
 -- Assumes nothing.
 use mathlib.Core.Path.{◌∙◌}
-use borrow.Author.Rules.{rules}
 use Rattle.search.specs.Promise.{searched_numbers}
 use Rattle.replies.proofs.of_searched.Goals as goal
 

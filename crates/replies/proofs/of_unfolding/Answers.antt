@@ -1,7 +1,6 @@
 -- `replies::of_unfolding` meets its contract: the numbers of each case.
 -- Assumes nothing.
 use mathlib.Core.Path.{◌∙◌}
-use borrow.Author.Rules.{rules}
 use Rattle.unfold.specs.Promise.{unfolding_numbers}
 use Rattle.replies.proofs.of_unfolding.Goals as goal
 

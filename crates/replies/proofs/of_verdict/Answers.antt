@@ -1,7 +1,6 @@
 -- `replies::of_verdict` meets its contract: the numbers of each case.
 -- Assumes nothing.
 use mathlib.Core.Path.{◌∙◌}
-use borrow.Author.Rules.{rules}
 use Rattle.replies.proofs.of_verdict.Goals as goal
 
 pub returns-in-Test : goal.returns-in-Test

@@ -1,7 +1,6 @@
 -- `replies::of_written` meets its contract: the numbers of each case.
 -- Assumes nothing.
 use mathlib.Core.Path.{◌∙◌}
-use borrow.Author.Rules.{rules}
 use Rattle.clauses.specs.Promise.{written_numbers}
 use Rattle.replies.proofs.of_written.Goals as goal
 

@@ -1,7 +1,6 @@
 -- `replies::report` meets its contract: an area of another size first, else the numbers.
 -- Assumes nothing.
 use borrow.Author.Tests.{eq-eqb, ne_eqb}
-use borrow.Author.Rules.{rules}
 use Rattle.replies.proofs.Entered.{other_size, right_size}
 use Rattle.replies.specs.Replies.{numbers_in}
 use Rattle.replies.proofs.report.Goals as goal

@@ -1,11 +1,8 @@
 -- `rows::fill_row` meets its contract. The invariant: the entries passed are in the row, and the good values stand.
 -- Assumes nothing.
 use native.Mathlib.Omega.{arith}
-use lib.ListN.{length}
-use mathlib.Core.Path.{sym, ◌∙◌}
-use Prim.Native.Nat.{◌-◌}
 use Rattle.simulate.specs.Simulate.{stuck_at}
-use Rattle.rows.proofs.Rows.{SoFar, start, more, finished}
+use Rattle.rows.proofs.Rows.{start, more, finished}
 use Rattle.simulate.proofs.Settled.{ordered, shaped}
 use Rattle.rows.proofs.fill_row.Goals as goal
 

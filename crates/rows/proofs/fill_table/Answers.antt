@@ -1,11 +1,8 @@
 -- `rows::fill_table` meets its contract. The invariant: the rows passed are in the table.
 -- Assumes nothing.
 use native.Mathlib.Omega.{arith}
-use mathlib.Core.Path.{◌≡◌, refl, sym, ◌∙◌}
-use Prim.Native.Nat.{◌-◌}
-use Rattle.simulate.specs.Simulate.{stuck_at}
-use Rattle.rows.proofs.Tables.{SoFar, start, still, more, finished}
-use Rattle.lists.specs.Patterns.{pattern_count}
+use mathlib.Core.Path.{refl}
+use Rattle.rows.proofs.Tables.{start, still, more, finished}
 use Rattle.rows.proofs.fill_table.Goals as goal
 
 pub loop-i-init : goal.loop-i-init

@@ -1,10 +1,9 @@
 -- `rows::fill_table` meets its contract. The invariant: the rows passed are in the table.
 -- Assumes nothing.
-use native.Mathlib.Omega.{arith}
-use mathlib.Core.Path.{◌≡◌, refl, sym, ◌∙◌}
+use mathlib.Core.Path.{◌≡◌}
 use Prim.Native.Nat.{◌-◌}
 use Rattle.simulate.specs.Simulate.{stuck_at}
-use Rattle.rows.proofs.Tables.{SoFar, start, still, more, finished}
+use Rattle.rows.proofs.Tables.{SoFar}
 use Rattle.lists.specs.Patterns.{pattern_count}
 use Rattle.rows.proofs.fill_table.Given as goal
 

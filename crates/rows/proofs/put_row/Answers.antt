@@ -1,7 +1,6 @@
 -- `rows::put_row` meets its contract: the pattern and the row are parts of their lists.
 -- Assumes nothing.
 use native.Mathlib.Omega.{arith}
-use borrow.Author.Rules.{rules}
 use Rattle.lists.proofs.Patterns.{pattern_fits}
 use Rattle.simulate.specs.Simulate.{stuck_at}
 use Rattle.rows.proofs.Part.{row_fits, row-ready, put}

@@ -1,7 +1,6 @@
 -- `search_all::check_rest` meets its contract: a refusal of the faults is handed on, else the sizes decide.
 -- Assumes nothing.
 use mathlib.Core.Path.{◌≡◌, sym, ◌∙◌}
-use borrow.Author.Rules.{rules}
 use Rattle.answers.specs.declared.Ruling.TheVariants.{Fine}
 use Rattle.answers.specs.Rules.{refusal}
 use Rattle.answers.proofs.Rules.{after_refused, after_fine}

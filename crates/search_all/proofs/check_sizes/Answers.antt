@@ -2,7 +2,6 @@
 -- Assumes nothing.
 use native.Mathlib.Nat.{mul-le-mul}
 use native.Mathlib.Omega.{arith}
-use borrow.Author.Rules.{rules}
 use Rattle.answers.specs.Rules.{refusal}
 use Rattle.search_all.specs.Promise.{list_lent_rules}
 use Rattle.search_all.proofs.check_sizes.Goals as goal

@@ -1,6 +1,5 @@
 -- `search_all::search_all` meets its contract: a refusal of the circuit is handed on, else the rest decides.
 -- Assumes nothing.
-use borrow.Author.Rules.{rules}
 use Rattle.answers.proofs.Answer.{first_refused, first_fine}
 use Rattle.circuit.proofs.Accepted.{accepts, refuses, known}
 use Rattle.search_all.proofs.Answer.{searches_all}

@@ -1,9 +1,7 @@
 -- `simulate::copy_half` meets its contract. The invariant: the first half stays, and the bytes passed are copied.
 -- Assumes nothing.
-use native.Mathlib.Omega.{arith}
-use mathlib.Core.Path.{sym, ◌∙◌}
 use Prim.Native.Nat.{◌-◌}
-use Rattle.simulate.proofs.Halves.{SoFar, start, more, finished}
+use Rattle.simulate.proofs.Halves.{SoFar}
 use Rattle.simulate.proofs.copy_half.Given as goal
 
 abbrev pub invariant-loop-k : goal.invariant-loop-k

@@ -2,7 +2,6 @@
 -- Assumes nothing.
 use mathlib.Core.Path.{◌∙◌}
 use native.Mathlib.Omega.{arith}
-use borrow.Author.Rules.{rules}
 use Rattle.simulate.specs.Simulate.{stuck_at, stuck_in_steps}
 use Rattle.simulate.proofs.Halves.{lent_long, adds_forced}
 use Rattle.simulate.proofs.Keeps.{stuck_keeps}

@@ -2,7 +2,6 @@
 -- Assumes nothing.
 use mathlib.Core.Path.{◌∙◌}
 use native.Mathlib.Omega.{arith}
-use borrow.Author.Rules.{rules}
 use Rattle.simulate.specs.Simulate.{stuck_at}
 use Rattle.simulate.proofs.Halves.{lent_long, copied_long, adds_forced}
 use Rattle.simulate.proofs.Keeps.{stuck_keeps}

@@ -1,7 +1,6 @@
 -- `simulate::input_or` meets its contract: an input reads the pattern.
 -- Assumes nothing.
 use borrow.Author.Tests.{eq-eqb, ne_eqb}
-use borrow.Author.Rules.{rules}
 use Rattle.simulate.specs.Owed.{input_or}
 use Rattle.simulate.proofs.input_or.Goals as goal
 

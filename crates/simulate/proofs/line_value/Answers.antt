@@ -2,7 +2,6 @@
 -- Assumes nothing.
 use native.Mathlib.Omega.{arith}
 use mathlib.Core.Path.{refl}
-use borrow.Author.Rules.{rules}
 use Rattle.simulate.proofs.Line.{input_in, small_gate_in, source_inside}
 use Rattle.simulate.specs.Simulate.{unforced}
 use Rattle.simulate.proofs.line_value.Goals as goal

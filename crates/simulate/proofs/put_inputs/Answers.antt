@@ -1,10 +1,7 @@
 -- `simulate::put_inputs` meets its contract. The invariant: the inputs' lines passed hold their values.
 -- Assumes nothing.
-use borrow.Author.Rules.{rules}
 use native.Mathlib.Omega.{arith}
-use lib.ListN.{length}
-use Prim.Native.Nat.{◌-◌}
-use Rattle.simulate.proofs.Inputs.{SoFar, start, input_below, used_small, more, finished}
+use Rattle.simulate.proofs.Inputs.{start, input_below, used_small, more, finished}
 use Rattle.simulate.proofs.put_inputs.Goals as goal
 
 pub loop-k-init : goal.loop-k-init

@@ -2,7 +2,6 @@
 -- Assumes nothing.
 use mathlib.Core.Path.{ap, ◌∙◌}
 use native.Mathlib.Omega.{arith}
-use borrow.Author.Rules.{rules}
 use Rattle.simulate.specs.Work.{good_of}
 use Rattle.simulate.proofs.Keeps.{unforced_keeps}
 use Rattle.simulate.proofs.Settled.{all-good}

@@ -1,10 +1,8 @@
 -- `simulate::simulate_fault` meets its contract: the fault's line is set, and the lines after it are simulated as any.
 -- Assumes nothing.
-use mathlib.Core.Path.{◌∙◌}
 use Prim.Native.Nat.{◌<◌}
 use lib.ListN.{length, length-set}
 use native.Mathlib.Omega.{arith}
-use borrow.Author.Rules.{rules}
 use Rattle.simulate.specs.Simulate.{stuck_at}
 use Rattle.simulate.proofs.Small.{agreed_small}
 use Rattle.simulate.proofs.Below.{fault_simulated}

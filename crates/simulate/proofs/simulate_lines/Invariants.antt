@@ -1,12 +1,9 @@
 -- `simulate::simulate_lines` meets its contract. The invariant: under every pattern and forcing of 0, 1 and X that leaves these lines alone, the lines passed are settled.
 -- Assumes nothing.
-use native.Mathlib.Omega.{arith}
 use Prim.Native.Nat.{◌-◌}
 use Rattle.simulate.specs.Owed.{ThreeValued}
-use Rattle.simulate.specs.Simulate.{unforced}
-use Rattle.simulate.proofs.Small.{agreed_small}
 use Rattle.simulate.proofs.Settled as settled
-use Rattle.simulate.proofs.Settled.{SoFar, more, finished}
+use Rattle.simulate.proofs.Settled.{SoFar}
 use Rattle.simulate.proofs.simulate_lines.Given as goal
 
 abbrev pub invariant-loop-k : goal.invariant-loop-k

@@ -1,11 +1,9 @@
 -- `simulate::simulate_steps` meets its contract. The invariant: the lines below the fault's line of this step are settled.
 -- Assumes nothing.
-use Prim.Native.Nat.{◌-◌}
 use native.Mathlib.Omega.{arith}
-use lib.ListN.{length}
 use Rattle.simulate.specs.Owed.{ThreeValued}
 use Rattle.simulate.proofs.Steps as steps
-use Rattle.simulate.proofs.Steps.{SoFar, after_line, more, finished}
+use Rattle.simulate.proofs.Steps.{after_line, more, finished}
 use Rattle.simulate.proofs.simulate_steps.Goals as goal
 
 pub loop-line-init : goal.loop-line-init

@@ -1,11 +1,10 @@
 -- `simulate::simulate_steps` meets its contract. The invariant: the lines below the fault's line of this step are settled.
 -- Assumes nothing.
 use Prim.Native.Nat.{◌-◌}
-use native.Mathlib.Omega.{arith}
 use lib.ListN.{length}
 use Rattle.simulate.specs.Owed.{ThreeValued}
 use Rattle.simulate.proofs.Steps as steps
-use Rattle.simulate.proofs.Steps.{SoFar, after_line, more, finished}
+use Rattle.simulate.proofs.Steps.{SoFar}
 use Rattle.simulate.proofs.simulate_steps.Given as goal
 
 abbrev pub invariant-loop-line : goal.invariant-loop-line

@@ -2,7 +2,6 @@
 -- Assumes nothing.
 use native.Mathlib.Omega.{arith}
 use mathlib.Core.Path.{◌∙◌}
-use borrow.Author.Rules.{rules}
 use Rattle.simulate.proofs.Line.{input_in, small_gate_in, source_inside}
 use Rattle.simulate.specs.Simulate.{stuck_at}
 use Rattle.simulate.proofs.stuck_value.Goals as goal

@@ -1,13 +1,10 @@
 -- `statements::put_defs` meets its contract: the lines are taken one after the other, and what defines a name stays.
 -- Assumes nothing.
-use Rattle.statements.proofs.Defining.{Defining, start, next, finished}
+use Rattle.statements.proofs.Defining.{start, next, finished}
 use Rattle.forms.specs.Lines.{word_in}
 use Rattle.ground.specs.Choose.{one}
-use Prim.Native.Nat.{◌-◌}
-use lib.ListN.{length}
 use mathlib.Core.Path.{ap, ◌∙◌}
 use native.Mathlib.Omega.{arith}
-use borrow.Author.Rules.{rules}
 use Rattle.statements.proofs.put_defs.Goals as goal
 
 pub loop-k-init : goal.loop-k-init

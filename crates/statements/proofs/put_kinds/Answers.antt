@@ -1,18 +1,12 @@
 -- `statements::put_kinds` meets its contract: the lines are taken one after the other, and a gate's kind stays.
 -- Assumes nothing.
-use Rattle.statements.proofs.Filling.{Filling, begun, more, so_many_are}
+use Rattle.statements.proofs.Filling.{begun, more, so_many_are}
 use Rattle.statements.specs.Tables.{kinds_of}
-use Rattle.forms.specs.Forms.{says_gate}
-use Rattle.forms.specs.Lines.{word_in}
-use Rattle.syntax.specs.Kinds.{kind_of}
-use Rattle.words.specs.Words.{word_at}
 use Rattle.ground.specs.Choose.{choose}
-use Prim.Native.Nat.{ℕ, ◌-◌}
-use lib.ListN.{length}
+use Prim.Native.Nat.{ℕ}
 use mathlib.Core.Bool.{Bool, true}
 use mathlib.Core.Path.{◌≡◌, ap, ◌∙◌}
 use native.Mathlib.Omega.{arith}
-use borrow.Author.Rules.{rules}
 use Rattle.statements.proofs.put_kinds.Goals as goal
 
 chosen : (b : Bool) {r : ℕ} (x : ℕ) → r ≡ choose b x 0 → b ≡ true → r ≡ x

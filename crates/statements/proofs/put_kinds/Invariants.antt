@@ -1,18 +1,12 @@
 -- `statements::put_kinds` meets its contract: the lines are taken one after the other, and a gate's kind stays.
 -- Assumes nothing.
-use Rattle.statements.proofs.Filling.{Filling, begun, more, so_many_are}
-use Rattle.statements.specs.Tables.{kinds_of}
+use Rattle.statements.proofs.Filling.{Filling}
 use Rattle.forms.specs.Forms.{says_gate}
 use Rattle.forms.specs.Lines.{word_in}
 use Rattle.syntax.specs.Kinds.{kind_of}
 use Rattle.words.specs.Words.{word_at}
-use Rattle.ground.specs.Choose.{choose}
-use Prim.Native.Nat.{ℕ, ◌-◌}
+use Prim.Native.Nat.{◌-◌}
 use lib.ListN.{length}
-use mathlib.Core.Bool.{Bool, true}
-use mathlib.Core.Path.{◌≡◌, ap, ◌∙◌}
-use native.Mathlib.Omega.{arith}
-use borrow.Author.Rules.{rules}
 use Rattle.statements.proofs.put_kinds.Given as goal
 
 abbrev pub invariant-loop-k : goal.invariant-loop-k

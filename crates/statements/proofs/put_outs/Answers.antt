@@ -1,14 +1,10 @@
 -- `statements::put_outs` meets its contract: the lines are taken one after the other, and an output's name stays.
 -- Assumes nothing.
-use Rattle.statements.proofs.Filling.{Filling, begun, more, all_are}
+use Rattle.statements.proofs.Filling.{begun, more, all_are}
 use Rattle.statements.specs.Tables.{outs_of}
-use Rattle.forms.specs.Forms.{says_output}
 use Rattle.forms.specs.Lines.{word_in}
-use Prim.Native.Nat.{◌-◌}
-use lib.ListN.{length}
 use mathlib.Core.Path.{◌∙◌}
 use native.Mathlib.Omega.{arith}
-use borrow.Author.Rules.{rules}
 use Rattle.statements.proofs.put_outs.Goals as goal
 
 pub loop-k-init : goal.loop-k-init

@@ -1,14 +1,10 @@
 -- `statements::put_sources` meets its contract: the lines are taken one after the other, and a gate's sources stay.
 -- Assumes nothing.
-use Rattle.statements.proofs.Filling.{Filling, begun, more, so_many_are}
+use Rattle.statements.proofs.Filling.{begun, more, so_many_are}
 use Rattle.statements.specs.Tables.{firsts_of, seconds_of}
-use Rattle.forms.specs.Forms.{says_gate}
 use Rattle.forms.specs.Lines.{word_in}
-use Prim.Native.Nat.{◌-◌}
-use lib.ListN.{length, get_or}
 use mathlib.Core.Path.{ap, ◌∙◌}
 use native.Mathlib.Omega.{arith}
-use borrow.Author.Rules.{rules}
 use Rattle.statements.proofs.put_sources.Goals as goal
 
 pub loop-k-init : goal.loop-k-init

@@ -1,6 +1,5 @@
 -- `table_entries::enter_audit` meets its contract: the answer of the part, reported.
 -- Assumes nothing.
-use borrow.Author.Rules.{rules}
 use Rattle.replies.proofs.Entered.{reported}
 use Rattle.table_entries.proofs.enter_audit.Goals as goal
 

@@ -1,7 +1,6 @@
 -- `table_entries::enter_dictionary` meets its contract: an area of another size first, else the answer and the memory of the part.
 -- Assumes nothing.
 use borrow.Author.Tests.{eq-eqb, ne_eqb}
-use borrow.Author.Rules.{rules}
 use Rattle.replies.proofs.Made.{nothing_made, made_reported}
 use Rattle.table_entries.proofs.enter_dictionary.Goals as goal
 

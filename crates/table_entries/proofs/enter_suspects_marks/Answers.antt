@@ -1,7 +1,6 @@
 -- `table_entries::enter_suspects_marks` meets its contract: an area of another size first, else the answer and the marks of the part.
 -- Assumes nothing.
 use borrow.Author.Tests.{eq-eqb, ne_eqb}
-use borrow.Author.Rules.{rules}
 use Rattle.replies.proofs.Lent.{nothing_lent, lent_reported}
 use Rattle.table_entries.proofs.enter_suspects_marks.Goals as goal
 

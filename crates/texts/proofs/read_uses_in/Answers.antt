@@ -4,7 +4,6 @@ use Rattle.texts.proofs.Steps.{kinds_room, outs_room, gates_room, gates_few, som
 use lib.Seq.{length-take-le}
 use mathlib.Core.Path.{sym, ◌∙◌}
 use native.Mathlib.Omega.{arith}
-use borrow.Author.Rules.{rules}
 use Rattle.texts.proofs.read_uses_in.Goals as goal
 
 pub put_kinds-requires : goal.put_kinds-requires

@@ -2,7 +2,6 @@
 -- Assumes nothing.
 use mathlib.Core.Path.{sym, ◌∙◌}
 use native.Mathlib.Omega.{arith}
-use borrow.Author.Rules.{rules}
 use Rattle.states.proofs.Steps.{clocked_refuses, clocked_accepts}
 use Rattle.unfold_dictionary.proofs.Checked.{clocked_refused, few_lines, rest_refused, rest_fine}
 use Rattle.unfold_dictionary.proofs.check_all_steps.Goals as goal

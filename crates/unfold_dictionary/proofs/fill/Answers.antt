@@ -3,7 +3,6 @@
 use mathlib.Core.Path.{sym, ◌∙◌}
 use Prim.Native.Nat.{◌*◌}
 use native.Mathlib.Omega.{arith}
-use borrow.Author.Rules.{rules}
 use Rattle.ground.proofs.Filled.{front_length}
 use Rattle.unfold_dictionary.proofs.Filled.{few_lines}
 use Rattle.unfold_dictionary.proofs.fill.Goals as goal

@@ -1,7 +1,6 @@
 -- `unfold_dictionary::fill_in` meets its contract: the circuit is unfolded, its table filled, and the last values left.
 -- Assumes nothing.
 use native.Mathlib.Omega.{arith}
-use borrow.Author.Rules.{rules}
 use Rattle.unfold_dictionary.proofs.Filled.{few_lines, unfold_ready, groups_ready, leave_ready, filled}
 use Rattle.unfold_dictionary.proofs.fill_in.Goals as goal
 

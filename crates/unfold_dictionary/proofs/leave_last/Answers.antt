@@ -1,6 +1,5 @@
 -- `unfold_dictionary::leave_last` meets its contract: the good values of the last pattern, then the faulty ones of the last fault.
 -- Assumes nothing.
-use borrow.Author.Rules.{rules}
 use Rattle.unfold_dictionary.proofs.Last.{pattern_room, last_inside, good-ready, faulty-ready, left_last}
 use Rattle.unfold_dictionary.proofs.leave_last.Goals as goal
 

@@ -1,6 +1,5 @@
 -- `unfold_dictionary::unfold_dictionary` meets its contract: a refusal is handed on, else the table is filled.
 -- Assumes nothing.
-use borrow.Author.Rules.{rules}
 use Rattle.unfold_dictionary.proofs.Checked.{steps_accept}
 use Rattle.unfold_dictionary.proofs.Filled.{refused_answer, made_answer}
 use Rattle.unfold_dictionary.proofs.unfold_dictionary.Goals as goal
