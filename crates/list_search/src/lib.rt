@@ -30,7 +30,8 @@ fn after_last(budgets: &[u64]) -> usize
 {
     let mut i = budgets.len();
     while 0 < i {
-        if budgets[i - 1] != 0 {
+        let searched = budgets[i - 1] != 0;
+        if searched {
             return i;
         }
         i -= 1;

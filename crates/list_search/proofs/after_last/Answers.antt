@@ -7,13 +7,13 @@ use Rattle.list_search.proofs.after_last.Goals as goal
 pub loop-i-init : goal.loop-i-init
 loop-i-init c = (omega arith, none_outside c.args.budgets.now)
 
-pub returns-then-budgets-i-ne0 : goal.returns-then-budgets-i-ne0
-returns-then-budgets-i-ne0 c =
+pub returns-then-searched : goal.returns-then-searched
+returns-then-searched c =
     let so = c.loop-i.invariant in
-    record { inside = so.0; none = so.1; last = λ _. omega (arith, c.if-budgets-i-ne0.true) }
+    record { inside = so.0; none = so.1; last = λ _. omega (arith, c.if-searched.true) }
 
 pub loop-i-preserved : goal.loop-i-preserved
-loop-i-preserved c = (omega arith, none_before c.args.budgets.now _ (omega arith) c.loop-i.invariant.1 c.if-budgets-i-ne0.false)
+loop-i-preserved c = (omega arith, none_before c.args.budgets.now _ (omega arith) c.loop-i.invariant.1 c.if-searched.false)
 
 pub returns : goal.returns
 returns c =
