@@ -11,7 +11,7 @@ use std::sync::{Mutex, MutexGuard, PoisonError};
 use std::time::{Duration, SystemTime};
 
 /// A file of each sort that something is made of.
-const LIBRARY: [&str; 3] = ["crates/entries/src/lib.rt", "crates.txt", ".ci/native"];
+const LIBRARY: [&str; 4] = ["crates/entries/src/lib.rt", "crates.txt", ".ci/native", ".ci/compile"];
 const PROGRAM: [&str; 7] = [
     "rust/src/lib.rs",
     "rust/build.rs",
