@@ -22,7 +22,7 @@ use Rattle.rows.specs.Table.{table_of}
 use Rattle.rows.proofs.Entries.{made}
 use Rattle.dictionary.specs.Promise.{dictionary_rest_rules, dictionary_rules, Answered}
 use Rattle.tables.specs.Entries.{entries_of}
-use Rattle.needs.specs.Needs as goal
+use Rattle.needs.specs.Needs as needs
 use Rattle.tables.specs.Table.{table_rules, Sized}
 use Rattle.tables.specs.Marks.{marks_rules, kept_rules}
 use Rattle.tables.proofs.Says.{kept_say}
@@ -96,7 +96,7 @@ module _ {c fs ps t t' : List ℕ} {r : Ruling} (Made-so : MakeDone c fs ps t r 
       (record { sized = sized; small = λ i l. table_small c (lines_of c) (inputs_of c) fs ps i; lines = omega (arith, sized.few_patterns) })
 
 -- the compactor makes the marks of a full table
-pub marks_are : {t m m' : List ℕ} {out f p : ℕ} {r : Ruling} → PutTableReady t out f p → length m ≡ p → Compacts f p t m r m' → m' ≡ goal.compacted (entries_of f t) f p
+pub marks_are : {t m m' : List ℕ} {out f p : ℕ} {r : Ruling} → PutTableReady t out f p → length m ≡ p → Compacts f p t m r m' → m' ≡ needs.compacted (entries_of f t) f p
 unfolding table_rules marks_rules AllHold
 marks_are {t} {m} {m'} {out} {f} {p} k size so =
     so.marks ∙ rw (fine (kept_rules f p t m) (kept_say f p t m) (k.sized, (k.small, (size, tt))))

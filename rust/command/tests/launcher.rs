@@ -11,7 +11,7 @@ use std::sync::{Mutex, MutexGuard, PoisonError};
 use std::time::{Duration, SystemTime};
 
 /// A file of each sort that something is made of.
-const LIBRARY: [&str; 4] = ["crates/entries/src/lib.rt", "crates.txt", ".ci/native", ".ci/compile"];
+const LIBRARY: [&str; 5] = ["crates/entries/src/lib.rt", "crates/dictionary/src/lib.rt", "crates.txt", ".ci/native", ".ci/compile"];
 const PROGRAM: [&str; 7] = [
     "rust/src/lib.rs",
     "rust/build.rs",
@@ -23,7 +23,7 @@ const PROGRAM: [&str; 7] = [
 ];
 
 const NATIVE: &str = "echo native >>\"$NOTES\"\necho compiler >build/native/compiler\necho library >build/native/libentries.a\n";
-const RT: &str = "#!/bin/sh\necho \"rt $*\" >>\"$NOTES\"\nexit \"${RT_ENDS:-0}\"\n";
+const RT: &str = "#!/bin/sh\necho \"rt $*\" >>\"$NOTES\"\nmkdir -p out\necho $$ >out/libentries.a\nexit \"${RT_ENDS:-0}\"\n";
 const CARGO: &str = "#!/bin/sh\necho \"cargo $1 $ULLIMAQSU_ARCHIVE\" >>\"$NOTES\"\nmkdir -p rust/target/native/release
 printf '#!/bin/sh\\necho \"program $*\"\\n' >rust/target/native/release/ullimaqsu\nchmod +x rust/target/native/release/ullimaqsu\n";
 
@@ -138,7 +138,7 @@ fn what_is_newer() {
         assert_eq!(repository.called(), (ran(""), vec![]), "{file}");
     }
     // a file that is new, and one that is gone
-    let new = repository.0.write("crates/entries/src/more.rt", "more");
+    let new = repository.0.write("crates/dictionary/src/more.rt", "more");
     assert_eq!(repository.called().1, ALL);
     fs::remove_file(new).expect("a file");
     assert_eq!(repository.called().1, ALL);
