@@ -11,7 +11,8 @@ use std::sync::{Mutex, MutexGuard, PoisonError};
 use std::time::{Duration, SystemTime};
 
 /// A file of each sort that something is made of.
-const LIBRARY: [&str; 5] = ["crates/entries/src/lib.rt", "crates/dictionary/src/lib.rt", "crates.txt", ".ci/native", ".ci/compile"];
+const LIBRARY: [&str; 6] =
+    ["crates/entries/src/lib.rt", "crates/dictionary/src/lib.rt", "crates.txt", ".ci/archive", ".ci/compile", ".ci/native"];
 const PROGRAM: [&str; 7] = [
     "rust/src/lib.rs",
     "rust/build.rs",
@@ -22,6 +23,7 @@ const PROGRAM: [&str; 7] = [
     "include/ullimaqsu.h",
 ];
 
+const ARCHIVE: &str = "cd crates/entries && rt lib\n";
 const NATIVE: &str = "echo native >>\"$NOTES\"\necho compiler >build/native/compiler\necho library >build/native/libentries.a\n";
 const RT: &str = "#!/bin/sh\necho \"rt $*\" >>\"$NOTES\"\nmkdir -p out\necho $$ >out/libentries.a\nexit \"${RT_ENDS:-0}\"\n";
 const CARGO: &str = "#!/bin/sh\necho \"cargo $1 $ULLIMAQSU_ARCHIVE\" >>\"$NOTES\"\nmkdir -p rust/target/native/release
@@ -44,6 +46,7 @@ impl Repository {
             fs::create_dir_all(directory.path(file).parent().expect("a directory")).expect("a directory");
             directory.write(file, "old");
         }
+        directory.write(".ci/archive", ARCHIVE);
         directory.write(".ci/native", NATIVE);
         fs::copy(root().join("ullimaqsu"), directory.path("ullimaqsu")).expect("the script");
         fs::create_dir(directory.path("bin")).expect("a directory");
