@@ -15,7 +15,7 @@ TOKEN = re.compile(r"[^\s(){}\[\],;.:⌜⌝\"`@]+")
 DECLARED = re.compile(r"^\s*(?:(abbrev|unfoldable) )?(?:pub )?([^\s:(){};.,\"]+) :(?: |$)")
 # Fields and lemmas that would fall together with a definition.
 INSTEAD = {f"{name}-in": f"{name}_inside" for name in ("defs", "firsts", "seconds", "outs", "outputs")}
-INSTEAD |= {"is_free": "is_free_line", "row-test": "row_test_holds", "size-test": "size_test_holds", "some-output": "some_output_lem", "numbersBelow": "numbers_all_below"}
+INSTEAD |= {"is_free": "is_free_line", "row-test": "row_test_holds", "size-test": "size_test_holds", "some-output": "has_output", "numbersBelow": "numbers_all_below"}
 
 
 def snake(part):
@@ -25,8 +25,9 @@ def snake(part):
 
 
 def declared():
-    """Names declared in specs/ and in the lemma files of proofs/; which of them are definitions or fields of these; and which are words, also of the library."""
-    names, definitions, words = {}, set(), set()
+    """Names declared in specs/ and in the lemma files of proofs/; which of them are definitions or fields of these; which are words, also of the library; and which
+    are fields of records of specs/, in which no dash stays."""
+    names, definitions, words, fields = {}, set(), set(), set()
     for path in sorted(glob.glob("crates/*/specs/*.antt") + glob.glob("crates/*/proofs/*.antt")):
         text = open(path, encoding="utf-8").read()
         local = None
@@ -43,6 +44,8 @@ def declared():
                 names.setdefault(m.group(2), set()).add(path)
                 if m.group(1):
                     words.add(m.group(2))
+                elif "/specs/" in path:
+                    fields.add(m.group(2))
                 if m.group(1) or "/specs/" in path:
                     definitions.add(m.group(2))
             m = re.match(r"^\s*(?:pub )?(?:record|data) (?:pub )?(\S+)", line)
@@ -50,7 +53,7 @@ def declared():
                 words.add(m.group(1))
         for items in re.findall(r"^use (?:Rattle\.std|lib|mathlib|Prim|native|borrow)\S*\.\{([^}]*)\}", text, re.M):
             words |= {w.split(" as ")[0].strip() for w in items.split(",")}
-    return names, definitions | words, words
+    return names, definitions | words, words, fields
 
 
 def respelt(name, words):
@@ -70,12 +73,12 @@ def is_function(path, text, name):
 
 
 def main(look):
-    names, definitions, words = declared()
+    names, definitions, words, fields = declared()
     new = {}
     for name in names:
         dashed = "-" in name and not re.search(r"[^\w'₀-₉-]", name)
         camel = name[0].islower() and re.search(r"[a-z0-9][A-Z]", name)
-        new[name] = INSTEAD.get(name) or (respelt(name, words) if dashed or camel else name)
+        new[name] = INSTEAD.get(name) or (respelt(name, set() if name in fields else words) if dashed or camel else name)
     made, clashes = {}, []
     for name in new:
         made.setdefault(new[name], []).append(name)

@@ -34,7 +34,7 @@ good c e =
     record {
       some_lines = a.0.some;
       most_lines = a.0.few;
-      some-inputs = some-input c (both_fine (layout_rules c) (count_rules (inputs_of c) (outputs_of c)) e).0;
+      some_inputs = some-input c (both_fine (layout_rules c) (count_rules (inputs_of c) (outputs_of c)) e).0;
       most_inputs = a.1.1.0;
       some_outputs = a.1.1.1.0;
       well = record {

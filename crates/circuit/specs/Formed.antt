@@ -22,7 +22,7 @@ pub record WellFormed (c : List ℕ) (inputs lines : ℕ) : Type 0 where
 pub record Good (c : List ℕ) : Type 0 where
   pub some_lines : 1 ≤ lines_of c
   pub most_lines : lines_of c ≤ 2048
-  pub some-inputs : 1 ≤ inputs_of c
+  pub some_inputs : 1 ≤ inputs_of c
   pub most_inputs : inputs_of c ≤ 64
   pub some_outputs : 1 ≤ outputs_of c
   pub well : WellFormed c (inputs_of c) (lines_of c)

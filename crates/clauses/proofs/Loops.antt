@@ -38,7 +38,7 @@ module _ {piece : ℕ → Clauses} {n : ℕ} {w₀ : List ℤ} {at : ℕ} {w : L
   pub line_room : {c : List ℕ} → CircuitReady c n → at + length (words_of (gather piece n)) ≤ length w₀ → k < n → LineClausesReady c n k (piece k) w next
   line_room p r l = record {
     line = record { circuit = p; inside = l };
-    room = omega (arith, piece_inside piece n k l, put_long so.put, so.put.next-is);
+    room = omega (arith, piece_inside piece n k l, put_long so.put, so.put.next_is);
   }
 
   pub so_far_more : {w' : List ℤ} {next' : ℕ} → k < n → Put w w' next (words_of (piece k)) next' → SoFar piece n w₀ at w' next' (k + 1)
@@ -63,7 +63,7 @@ pub record LastSoFar (n outputs : ℕ) (w₀ : List ℤ) (at : ℕ) (w : List �
   pub put : Put w₀ w at (differences n j) (at + j)
 
 pub last_none : (n outputs : ℕ) (w : List ℤ) (at : ℕ) → LastSoFar n outputs w at w 0
-last_none n outputs w at = record { at_most = omega arith; put = record { written = refl; next-is = refl } }
+last_none n outputs w at = record { at_most = omega arith; put = record { written = refl; next_is = refl } }
 
 module _ {n outputs : ℕ} {w₀ : List ℤ} {at : ℕ} {w : List ℤ} {j : ℕ} (so : LastSoFar n outputs w₀ at w j) where
   pub last_more : {z : ℤ} → j < outputs → z ≡ pos (difference_var n j) → LastSoFar n outputs w₀ at (set w (at + j) z) (j + 1)

@@ -50,16 +50,16 @@ module _ {c st : List ℕ} {k : ℕ} (fine : refusal (circuit_rules c) ≡ Fine)
     differ-there : ThereHolds Differ (fault_at fs j) c st p i m → EqualThere c st (fault_at fs j) x i m → ⊥
     differ-there d q =
         d.differ
-        (sym (good-filled accepted steps p three long x fills i m w.step w.line d.good-known)
+        (sym (good-filled accepted steps p three long x fills i m w.step w.line d.good_known)
         ∙ ap one q
-        ∙ faulty-filled accepted steps p three long x fills i m w.step w.line fs j keeps d.faulty-known)
+        ∙ faulty-filled accepted steps p three long x fills i m w.step w.line fs j keeps d.faulty_known)
 
     agree-there : ThereHolds Agree (fault_at fs j) c st p i m → EqualThere c st (fault_at fs j) x i m
     agree-there h =
         one_same _ _
-        (good-filled accepted steps p three long x fills i m w.step w.line h.good-known
+        (good-filled accepted steps p three long x fills i m w.step w.line h.good_known
         ∙ h.equal
-        ∙ sym (faulty-filled accepted steps p three long x fills i m w.step w.line fs j keeps h.faulty-known))
+        ∙ sym (faulty-filled accepted steps p three long x fills i m w.step w.line fs j keeps h.faulty_known))
 
   abbrev entry : ℕ
   entry = entry_under (in_every_step c (fault_at fs j)) (unfolded c st k) p (lines_after c k)
@@ -70,7 +70,7 @@ module _ {c st : List ℕ} {k : ℕ} (fine : refusal (circuit_rules c) ≡ Fine)
       record {
         step = w.0;
         line = w.1;
-        compared = record { looked = w.2; known = w.3.good-known };
+        compared = record { looked = w.2; known = w.3.good_known };
         differ = λ x fills. differ-there x fills w.0 w.1 w.2 w.3;
       }
 
@@ -86,23 +86,23 @@ module _ {c st : List ℕ} {k : ℕ} (fine : refusal (circuit_rules c) ≡ Fine)
   formed : WellFormed (unfolded c st k) (length p) (lines_after c k)
   formed = rw long (unfolded-formed fine steps)
 
-  good-known : NoX p → (q : ℕ) → get_or (good_of (unfolded c st k) p (lines_after c k)) q 0 < 2
-  good-known = values_known unforced (unforced_keeps 2) (unfolded c st k) p (lines_after c k) formed
+  good_known : NoX p → (q : ℕ) → get_or (good_of (unfolded c st k) p (lines_after c k)) q 0 < 2
+  good_known = values_known unforced (unforced_keeps 2) (unfolded c st k) p (lines_after c k) formed
 
-  faulty-known : NoX p → (q : ℕ) → get_or (values_to (in_every_step c (fault_at fs j)) (unfolded c st k) p (lines_after c k)) q 0 < 2
-  faulty-known =
+  faulty_known : NoX p → (q : ℕ) → get_or (values_to (in_every_step c (fault_at fs j)) (unfolded c st k) p (lines_after c k)) q 0 < 2
+  faulty_known =
       let kept = stuck_keeps 2 (fault_at fs j) (omega (arith, keeps.value)) in
       values_known (in_every_step c (fault_at fs j)) (steps_keep 2 (lines_of c) (stuck_at (fault_at fs j)) kept) (unfolded c st k) p (lines_after c k) formed
 
   decided_is : NoX p → entry ≡ unknown → ⊥
   unfolding entry_under
-  decided_is full = known_decided expected_passes (unfolded c st k) _ _ (lines_after c k) (λ q _ _. (good-known full q, faulty-known full q))
+  decided_is full = known_decided expected_passes (unfolded c st k) _ _ (lines_after c k) (λ q _ _. (good_known full q, faulty_known full q))
 
   -- so every line that is looked at is compared
   none : NoX p → entry ≡ pass → (x : Vector) → Fills p x → DetectsInSteps c st (fault_at fs j) k x → ⊥
   none full e x fills d =
       let there = good-there accepted steps p three d.step d.line d.looked.step d.looked.line in
-      let known : get_or (values_in unforced c st p d.step) d.line 0 < 2 = rw there at (good-known full (d.step * lines_of c + d.line)) in
+      let known : get_or (values_in unforced c st p d.step) d.line 0 < 2 = rw there at (good_known full (d.step * lines_of c + d.line)) in
       d.differ (clears_is e x fills d.step d.line (record { looked = d.looked; known = known }))
 
   -- of an accepted clocked circuit, a fault in its layout, and any pattern of the inputs after unfolding

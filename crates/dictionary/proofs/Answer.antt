@@ -20,7 +20,7 @@ pub ready : {places : ℕ} {c fs ps : List ℕ} {table work : ℕ} → Taken pla
 ready {ps = ps} k = record {
   well = k.good.well;
   most_lines = k.good.most_lines;
-  some-inputs = k.good.some-inputs;
+  some_inputs = k.good.some_inputs;
   most_inputs = k.good.most_inputs;
   faults = k.faults.records;
   fault_lines = λ j l. (k.faults.faults j l).line;

@@ -11,7 +11,7 @@ use Rattle.dictionary_lanes.proofs.Words.{left_words, words_left}
 
 module _ {c fs ps t w : List ℕ} {r : Ruling} {t' w' : List ℕ} where
   pub lanes_in_words : DictionaryLanes c fs ps t w r t' w' → LanesInWords c fs ps t w r t' w'
-  lanes_in_words = engine_in_words (λ k. left_words c (lines_of c) fs ps k.good.some-inputs k.patterns.records)
+  lanes_in_words = engine_in_words (λ k. left_words c (lines_of c) fs ps k.good.some_inputs k.patterns.records)
 
   pub lanes_by_words : LanesInWords c fs ps t w r t' w' → DictionaryLanes c fs ps t w r t' w'
-  lanes_by_words = engine_by_words (λ k. words_left c (lines_of c) fs ps k.good.some-inputs k.patterns.records)
+  lanes_by_words = engine_by_words (λ k. words_left c (lines_of c) fs ps k.good.some_inputs k.patterns.records)

@@ -23,18 +23,18 @@ module _ {t : Test} {P : ℕ → ℕ → Type 0} (passes : Passes t P) where
   -- known values at every output differ at one, or agree at all
   pub known_decided : (c g f : List ℕ) (n : ℕ) → ((k : ℕ) → k < n → out_at c k ≡ 1 → (get_or g k 0 < 2) × (get_or f k 0 < 2)) → entry_by t c g f n ≡ unknown → ⊥
   known_decided c g f n known e =
-      omega (arith, words.is-pass (λ k l out. passes.covers _ _ (go k l out (ℕ_discrete (get_or g k 0) (get_or f k 0)))))
+      omega (arith, words.is_pass (λ k l out. passes.covers _ _ (go k l out (ℕ_discrete (get_or g k 0) (get_or f k 0)))))
     where
       words : EntryBy P c g f n (entry_by t c g f n)
       words = entry_words passes c g f n
 
       go : (k : ℕ) → k < n → out_at c k ≡ 1 → Dec (get_or g k 0 ≡ get_or f k 0) → Agree (get_or g k 0) (get_or f k 0)
-      go k l out (yes q) = let both = known k l out in record { good-known = both.0; faulty-known = both.1; equal = q }
+      go k l out (yes q) = let both = known k l out in record { good_known = both.0; faulty_known = both.1; equal = q }
       go k l out (no d) =
           let both = known k l out in
           let there : SomeOutput Differ c g f n =
-          (k, record { inside = l; output = out; holds = record { good-known = both.0; faulty-known = both.1; differ = d } }) in
-          absurd (omega (arith, words.is-fail there))
+          (k, record { inside = l; output = out; holds = record { good_known = both.0; faulty_known = both.1; differ = d } }) in
+          absurd (omega (arith, words.is_fail there))
 
   pub decided : (fault : Fault) (c p : List ℕ) (n : ℕ)
       → fault.value ≤ 1

@@ -17,9 +17,9 @@ use Rattle.entry.specs.Words.{Differ, Agree}
 module _ (fault : Fault) (small : fault.value ≤ 1) (c p : List ℕ) (n : ℕ) (inputs : inputs_before c n ≡ length p) (x : Vector) (fills : Fills p x) (k : ℕ) where
   pub differ_truths : Differ (get_or (good_of c p n) k 0) (get_or (faulty_of fault c p n) k 0) → truth_at good c x n k ≡ truth_at (faulty fault) c x n k → ⊥
   differ_truths d q =
-      d.differ (sym (good-truth c p n inputs x fills k d.good-known) ∙ ap one q ∙ faulty-truth c p n inputs x fills k fault small d.faulty-known)
+      d.differ (sym (good-truth c p n inputs x fills k d.good_known) ∙ ap one q ∙ faulty-truth c p n inputs x fills k fault small d.faulty_known)
 
   pub agree_truths : Agree (get_or (good_of c p n) k 0) (get_or (faulty_of fault c p n) k 0) → truth_at good c x n k ≡ truth_at (faulty fault) c x n k
   agree_truths h =
       one_same _ _
-      (good-truth c p n inputs x fills k h.good-known ∙ h.equal ∙ sym (faulty-truth c p n inputs x fills k fault small h.faulty-known))
+      (good-truth c p n inputs x fills k h.good_known ∙ h.equal ∙ sym (faulty-truth c p n inputs x fills k fault small h.faulty_known))

@@ -25,4 +25,4 @@ pub entry_made : (f : Forcing) (c : List ℕ) (n : ℕ) (w w' : List ℕ) {r : �
     → FaultEntryDone f c n w w' r
 unfolding entry_under
 entry_made f c n w w' adds e p small good =
-    let all = adds p small good in record { entry-is = of_halves as_expected f c p n all e; work_is = all }
+    let all = adds p small good in record { entry_is = of_halves as_expected f c p n all e; work_is = all }

@@ -54,10 +54,10 @@ module _ (c g f : List ℕ) (n : ℕ) where
 
   -- with nothing to compare the entry is pass
   pub all_masked : EveryOutput (λ a b. 2 ≤ a) c g f n → entry_of c g f n ≡ pass
-  all_masked h = (entry_says c g f n).is-pass (λ k l out known. absurd (omega (arith, h k l out)))
+  all_masked h = (entry_says c g f n).is_pass (λ k l out known. absurd (omega (arith, h k l out)))
 
   -- where a value is expected, a faulty X is no pass
   pub faulty_x : SomeOutput (λ a b. (a < 2) × (2 ≤ b)) c g f n → entry_of c g f n ≡ pass → ⊥
   faulty_x w e =
       let h = pass_every expected_passes c g f n e w.0 w.1.inside w.1.output w.1.holds.0 in
-      omega (arith, h.faulty-known, w.1.holds.1)
+      omega (arith, h.faulty_known, w.1.holds.1)

@@ -26,8 +26,8 @@ use Rattle.entry.specs.Words.{Differ, Agree, AsExpected, SomeOutput, EveryOutput
 pub differ_says : (a b : ℕ) → Same (differ a b) (Differ a b)
 unfolding differ
 differ_says a b = record {
-  holds = λ e. let h = said.holds e in record { good-known = h.0; faulty-known = h.1.0; differ = h.1.1 };
-  tests = λ d. said.tests (d.good-known, (d.faulty-known, d.differ));
+  holds = λ e. let h = said.holds e in record { good_known = h.0; faulty_known = h.1.0; differ = h.1.1 };
+  tests = λ d. said.tests (d.good_known, (d.faulty_known, d.differ));
 }
   where
     said : Same (differ a b) ((a < 2) × ((b < 2) × (a ≡ b → ⊥)))
@@ -36,8 +36,8 @@ differ_says a b = record {
 pub agree_says : (a b : ℕ) → Same (agree a b) (Agree a b)
 unfolding agree
 agree_says a b = record {
-  holds = λ e. let h = said.holds e in record { good-known = h.0; faulty-known = h.1.0; equal = h.1.1 };
-  tests = λ d. said.tests (d.good-known, (d.faulty-known, d.equal));
+  holds = λ e. let h = said.holds e in record { good_known = h.0; faulty_known = h.1.0; equal = h.1.1 };
+  tests = λ d. said.tests (d.good_known, (d.faulty_known, d.equal));
 }
   where
     said : Same (agree a b) ((a < 2) × ((b < 2) × (a ≡ b)))
@@ -79,25 +79,25 @@ module _ (t : Test) (P : ℕ → ℕ → Type 0) (says : (a b : ℕ) → Same (t
 -- a choice by two tests of which not both hold
 chosen : (d p : Bool) {F P : Type 0} → Same d F → Same p P → (F → P → ⊥) → Chosen F P (choose d fail (choose p pass unknown))
 chosen true p s u apart = record {
-  is-fail = λ _. refl;
-  is-pass = λ h. absurd (apart (s.holds refl) h);
-  is-unknown = λ no _. absurd (no (s.holds refl));
+  is_fail = λ _. refl;
+  is_pass = λ h. absurd (apart (s.holds refl) h);
+  is_unknown = λ no _. absurd (no (s.holds refl));
 }
 chosen false true s u apart = record {
-  is-fail = λ h. absurd (false≢true (s.tests h));
-  is-pass = λ _. refl;
-  is-unknown = λ _ no. absurd (no (u.holds refl));
+  is_fail = λ h. absurd (false≢true (s.tests h));
+  is_pass = λ _. refl;
+  is_unknown = λ _ no. absurd (no (u.holds refl));
 }
 chosen false false s u apart = record {
-  is-fail = λ h. absurd (false≢true (s.tests h));
-  is-pass = λ h. absurd (false≢true (u.tests h));
-  is-unknown = λ _ _. refl;
+  is_fail = λ h. absurd (false≢true (s.tests h));
+  is_pass = λ h. absurd (false≢true (u.tests h));
+  is_unknown = λ _ _. refl;
 }
 
 one_choice : (d p : Bool) {F P : Type 0} {e : ℕ} → Same d F → Same p P → Chosen F P e → e ≡ choose d fail (choose p pass unknown)
-one_choice true p s u h = h.is-fail (s.holds refl)
-one_choice false true s u h = h.is-pass (u.holds refl)
-one_choice false false s u h = h.is-unknown (λ a. false≢true (s.tests a)) (λ a. false≢true (u.tests a))
+one_choice true p s u h = h.is_fail (s.holds refl)
+one_choice false true s u h = h.is_pass (u.holds refl)
+one_choice false false s u h = h.is_unknown (λ a. false≢true (s.tests a)) (λ a. false≢true (u.tests a))
 
 -- and read backwards
 pub chose_fail : (d p : Bool) → choose d fail (choose p pass unknown) ≡ fail → d ≡ true
@@ -120,7 +120,7 @@ pub agree-passes : Passes agree Agree
 agree-passes = record { says = agree_says; apart = λ a b d h. d.differ h.equal; covers = λ a b h. h }
 
 pub expected_passes : Passes as_expected AsExpected
-expected_passes = record { says = expected_says; apart = λ a b d h. d.differ (h d.good-known).equal; covers = λ a b h _. h }
+expected_passes = record { says = expected_says; apart = λ a b d h. d.differ (h d.good_known).equal; covers = λ a b h _. h }
 
 pub entry_three : (t : Test) (c g f : List ℕ) (n : ℕ) → entry_by t c g f n ≤ 2
 unfolding entry_by

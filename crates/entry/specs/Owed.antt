@@ -27,7 +27,7 @@ pub record EntryRoom (c : List ℕ) (n work : ℕ) : Type 0 where
 
 -- the entry of the pattern p under a forcing, and the work memory that it was read from
 pub record EntryRead (f : Forcing) (c p : List ℕ) (n : ℕ) (work : List ℕ) (r : ℕ) : Type 0 where
-  pub entry-is : r ≡ entry_under f c p n
+  pub entry_is : r ≡ entry_under f c p n
   pub work_is : work ≡ both_under f c p n
 
 -- where the first half of w has the good values, under whatever pattern of 0, 1 and X

@@ -6,14 +6,14 @@ use Rattle.tables.specs.Entries.{pass, fail, unknown}
 
 -- both circuits have known values, and these differ
 pub record Differ (a b : ℕ) : Type 0 where
-  pub good-known : a < 2
-  pub faulty-known : b < 2
+  pub good_known : a < 2
+  pub faulty_known : b < 2
   pub differ : a ≡ b → ⊥
 
 -- both are known and equal
 pub record Agree (a b : ℕ) : Type 0 where
-  pub good-known : a < 2
-  pub faulty-known : b < 2
+  pub good_known : a < 2
+  pub faulty_known : b < 2
   pub equal : a ≡ b
 
 -- where the good value is known, the faulty value is known and equal
@@ -34,9 +34,9 @@ EveryOutput P c g f n = (k : ℕ) → k < n → out_at c k ≡ 1 → P (get_or g
 
 -- e is fail if F, pass if P, otherwise unknown
 pub record Chosen (F P : Type 0) (e : ℕ) : Type 0 where
-  pub is-fail : F → e ≡ fail
-  pub is-pass : P → e ≡ pass
-  pub is-unknown : (F → ⊥) → (P → ⊥) → e ≡ unknown
+  pub is_fail : F → e ≡ fail
+  pub is_pass : P → e ≡ pass
+  pub is_unknown : (F → ⊥) → (P → ⊥) → e ≡ unknown
 
 -- fail if at some output both circuits have known values and these differ; pass if at every output P holds; otherwise unknown
 abbrev pub EntryBy : (ℕ → ℕ → Type 0) → List ℕ → List ℕ → List ℕ → ℕ → ℕ → Type 0

@@ -56,7 +56,7 @@ pub accepted : (t : List ℕ) → Acceptable t → refusal (bench_rules t buffer
 accepted t a =
     let none = right_names t a.names in
     let cycles = no_cycle_fine t none a.no_cycle in
-    let r = right_net t none a.syntax.is-formed cycles in
+    let r = right_net t none a.syntax.is_formed cycles in
     let o = a.has_output.1 in
     let d = (a.names.outputs a.has_output.0 o).1 in
     all_parts t buffer_bytes

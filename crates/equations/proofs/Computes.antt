@@ -49,7 +49,7 @@ module _ (t : List ℕ) (none : refusal (name_rules t (defs_in t) (uses_in t)) �
   }
 
 pub parts_right : {t : List ℕ} {room : ℕ} → Parts t room → Right (net_in t)
-parts_right {t} p = right_net t p.names (right_text t p.syntax).is-formed p.cycles
+parts_right {t} p = right_net t p.names (right_text t p.syntax).is_formed p.cycles
 
 module _ (t : List ℕ) (room : ℕ) (p : Parts t room) where
   r : Right (net_in t)
@@ -79,7 +79,7 @@ module _ (t : List ℕ) (room : ℕ) (p : Parts t room) where
     check = accepted;
     lines = own_lines t p.names r;
     records = own_records t p.names r few;
-    gates = in_order t (right_text t p.syntax).is-formed p.names r;
+    gates = in_order t (right_text t p.syntax).is_formed p.names r;
     outputs = outputs_exactly t p.names r;
     values = λ q.
         subst (λ (n : ℕ). OneSolution gate_of t (λ j. get_or q j 0) (λ w. get_or (good_of (records_in t) q n) (line_for t w) 0)) (size_is t) (values q);

@@ -118,7 +118,7 @@ module _ (t : List ℕ) where
   order_gates (next q j o r i) k e = go (ℕ_discrete j k) (rw i at e) (order_gates o k)
     where
       go : Dec (j ≡ k) → elem (q ++ (j ∷ [])) k ≡ true → (elem q k ≡ true → Line says_gate t k) → Line says_gate t k
-      go (yes y) f ih = rw (← y) r.is-ready.gate
+      go (yes y) f ih = rw (← y) r.is_ready.gate
       go (no n) f ih = ih (sym (elem_other q j k n) ∙ f)
 
   module _ (f : Formed t) (none : refusal (name_rules t (defs_in t) (uses_in t)) ≡ Fine) where
@@ -179,20 +179,20 @@ module _ (t : List ℕ) where
 
       earliest_to : {k : ℕ} → EarliestGate t p k → order.Earliest (net_in t).firsts (net_in t).seconds (numbers p) (number k)
       earliest_to {k} e = record {
-        inside = number_inside e.is-ready.gate;
-        is-ready = ready_to e.is-ready;
+        inside = number_inside e.is_ready.gate;
+        is_ready = ready_to e.is_ready;
         none_before = λ h l. go h l (NetReady (numbers p) h) refl;
       }
         where
           go : (h : ℕ) → h < number k → (b : Bool) → NetReady (numbers p) h ≡ b → b ≡ false
           go h l true q =
-              let n = gate-line t {g = h} (omega (arith, number_inside e.is-ready.gate)) in
-              absurd (e.none_before n.place (later-line e.is-ready.gate (rw n.before l)) (ready_from n.line (rw n.before q)))
+              let n = gate-line t {g = h} (omega (arith, number_inside e.is_ready.gate)) in
+              absurd (e.none_before n.place (later-line e.is_ready.gate (rw n.before l)) (ready_from n.line (rw n.before q)))
           go h l false q = refl
 
       earliest_from : {k : ℕ} → Line says_gate t k → order.Earliest (net_in t).firsts (net_in t).seconds (numbers p) (number k) → EarliestGate t p k
       earliest_from {k} l e = record {
-        is-ready = ready_from l e.is-ready;
+        is_ready = ready_from l e.is_ready;
         none_before = λ h y r. false≢true (sym (e.none_before (number h) (later r.gate y)) ∙ ready_to r);
       }
 

@@ -34,7 +34,7 @@ module _ (t : List ℕ) where
   seconds_long = length-map (seconds_in t) (number_in t) ∙ seconds_length (words_in t) (ends_in t) (forms_in t) ∙ sym (gates_are t)
 
   kind_in_lem : Formed t → (g : ℕ) → g < gates_of (net_in t) → (1 ≤ get_or (net_in t).kinds g 0) × (get_or (net_in t).kinds g 0 < selector)
-  kind_in_lem f g l = let n = gate-line t l in let w = (gate_sources t f n.place n.line.passes).0 in rw (← n.before, kind_get n.line) (w.some_kind, w.no-selector)
+  kind_in_lem f g l = let n = gate-line t l in let w = (gate_sources t f n.place n.line.passes).0 in rw (← n.before, kind_get n.line) (w.some_kind, w.no_selector)
 
   module _ (none : refusal (name_rules t (defs_in t) (uses_in t)) ≡ Fine) where
     -- the number of a name that is defined is a gate's or an input's
@@ -57,7 +57,7 @@ module _ (t : List ℕ) where
       kinds_long = kinds_long;
       seconds_long = seconds_long;
       some_kind = λ g l. (kind_in_lem f g l).0;
-      no-selector = λ g l. (kind_in_lem f g l).1;
+      no_selector = λ g l. (kind_in_lem f g l).1;
       firsts_inside = λ g l. pin_below g 1 l;
       seconds_inside = λ g l. pin_below g 2 l;
       outputs_inside = output_below;

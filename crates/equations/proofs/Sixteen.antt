@@ -108,7 +108,7 @@ module _ (t : List ℕ) (room : ℕ) where
   sixteen_place =
       right
       (λ syntax names g.
-      let f = (right_text t syntax).is-formed in (
+      let f = (right_text t syntax).is_formed in (
         λ e. placing.text_left t f names g (refused_left (net_in t).firsts (net_in t).seconds (net_sixteen syntax names e)),
         λ w. sixteen_net syntax names (left_refused (net_in t).firsts (net_in t).seconds (placing.net_left t f names g w)),
       ))

@@ -24,7 +24,7 @@ pub record Placeable (t p : List ℕ) (k : ℕ) : Type 0 where
   pub sources : (s : ℕ) → 1 ≤ s → s ≤ pins_of (kind_on t k) → There t p (source_on t k s)
 
 pub record EarliestGate (t p : List ℕ) (k : ℕ) : Type 0 where
-  pub is-ready : Placeable t p k
+  pub is_ready : Placeable t p k
   pub none_before : (h : ℕ) → h < k → Placeable t p h → ⊥
 
 -- p is placed, in this order

@@ -20,18 +20,18 @@ module _ {A : Type 0} where
   copied s d e = rw (take-length s, drop_of_length-le d {i = length s} (omega arith)) (append-nil s)
 
   pub put_none : (w : List A) (at : ℕ) → Put w w at [] at
-  put_none w at = record { written = refl; next-is = sym (add-zero at) }
+  put_none w at = record { written = refl; next_is = sym (add-zero at) }
 
   pub put_one : (w : List A) (at : ℕ) (z : A) → Put w (set w at z) at (z ∷ []) (at + 1)
-  put_one w at z = record { written = refl; next-is = refl }
+  put_one w at z = record { written = refl; next_is = refl }
 
   pub put_long : {w w' a : List A} {at n : ℕ} → Put w w' at a n → length w' ≡ length w
   put_long {w} {w'} {a} {at} p = ap length p.written ∙ length-sets w at a
 
   pub put_then : {w₀ w w' a b : List A} {at n n' : ℕ} → Put w₀ w at a n → Put w w' n b n' → Put w₀ w' at (a ++ b) n'
   put_then {w₀} {w} {w'} {a} {b} {at} p q = record {
-    written = q.written ∙ rw (p.written, p.next-is) (sym (sets_append w₀ at a b));
-    next-is = q.next-is ∙ rw length-append (omega arith);
+    written = q.written ∙ rw (p.written, p.next_is) (sym (sets_append w₀ at a b));
+    next_is = q.next_is ∙ rw length-append (omega arith);
   }
 
   pub put_as : {w w' u v : List A} {at n : ℕ} → u ≡ v → Put w w' at u n → Put w w' at v n
@@ -41,7 +41,7 @@ module _ {A : Type 0} where
   pub put_room : {w₀ w a : List A} {at next : ℕ} (whole b rest : List A) → Put w₀ w at a next → whole ≡ a ++ (b ++ rest) → at + length whole ≤ length w₀ → next + length b ≤ length w
   put_room {w₀} {w} {a} whole b rest p e l =
       let q : length whole ≡ length a + (length b + length rest) = ap length e ∙ simp length-append in
-      omega (arith, put_long p, p.next-is)
+      omega (arith, put_long p, p.next_is)
 
   -- from the start on: what is written, and then what stood there
   pub put_whole : {w w' a : List A} {n : ℕ} → Put w w' 0 a n → length a ≤ length w → w' ≡ a ++ drop (length a) w
@@ -70,5 +70,5 @@ module _ {A : Type 0} where
   pub partly_all : {v w₀ w : List A} {at i : ℕ} → Partly v w₀ at w i → length v ≤ i → Put w₀ w at v (at + i)
   partly_all {v} {w₀} {w} {at} {i} s l = record {
     written = s.first ∙ ap (λ (u : List A). sets w₀ at u) (take_all i v l);
-    next-is = let e : i ≡ length v = omega (arith, s.at_most) in rw e;
+    next_is = let e : i ≡ length v = omega (arith, s.at_most) in rw e;
   }

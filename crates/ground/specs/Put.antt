@@ -6,7 +6,7 @@ use Rattle.std.proofs.lemmas.List.Edits.{sets}
 -- v stands from `at` on, nothing else has changed, and `next` is the place after it
 pub record Put {A : Type 0} (w w' : List A) (at : ℕ) (v : List A) (next : ℕ) : Type 0 where
   pub written : w' ≡ sets w at v
-  pub next-is : next ≡ at + length v
+  pub next_is : next ≡ at + length v
 
 -- v at the front, and then what stood there
 abbrev pub laid_on : {A : Type 0} → List A → List A → List A

@@ -27,7 +27,7 @@ use Rattle.groups.proofs.Parts.{from_count, from_at, entries_fit}
 
 module _ (forces : Forces) {c : List ℕ} {n m : ℕ} {fs ps : List ℕ} {table work from rows : ℕ} (r : TableReady 256 4 c n m fs ps table work) (next : Next from rows (pattern_count m ps)) where
   count_is : pattern_count m (patterns_from m ps from rows) ≡ rows
-  count_is = from_count ps r.patterns next r.some-inputs
+  count_is = from_count ps r.patterns next r.some_inputs
 
   part_long : length (table_under forces c n m fs (patterns_from m ps from rows)) ≡ rows * fault_count fs
   part_long = (made forces c n m fs (patterns_from m ps from rows)).size ∙ ap (λ (x : ℕ). fault_count fs * x) count_is ∙ mul_comm (fault_count fs) rows

@@ -78,14 +78,14 @@ module _ (c : List ℕ) (n m : ℕ) (fs ps t : List ℕ) (from rows : ℕ) where
       (record {
         well = r.well;
         most_lines = r.most_lines;
-        some-inputs = r.some-inputs;
+        some_inputs = r.some_inputs;
         most_inputs = r.most_inputs;
         faults = r.faults;
         fault_lines = r.fault_lines;
         fault_values = r.fault_values;
-        patterns = from_records ps r.patterns next r.some-inputs;
+        patterns = from_records ps r.patterns next r.some_inputs;
         pattern_values = part_small ps (rows * m) (from * m) r.pattern_values;
-        entries = mul_comm rows (fault_count fs) ∙ ap (λ (x : ℕ). fault_count fs * x) (sym (from_count ps r.patterns next r.some-inputs));
+        entries = mul_comm rows (fault_count fs) ∙ ap (λ (x : ℕ). fault_count fs * x) (sym (from_count ps r.patterns next r.some_inputs));
         room = r.room;
       })
 

@@ -64,10 +64,10 @@ module _ (fault : Fault) {c : List ℕ} {m n : ℕ} (well : WellFormed c m n) wh
     head-look_says =
         let says = look_says fault d n s in
         record {
-          is-fail = λ w. says.is-fail (w.0, record { inside = w.1.inside; output = kept_out well w.0 w.1.inside w.1.kept ∙ w.1.output; holds = as_cut Differ w.0 w.2 });
-          is-pass = λ all. says.is-pass (λ k l out. as_cut Settled k (all k (looked_at k l out)));
-          is-unknown = λ no-fail no-pass.
-              says.is-unknown
+          is_fail = λ w. says.is_fail (w.0, record { inside = w.1.inside; output = kept_out well w.0 w.1.inside w.1.kept ∙ w.1.output; holds = as_cut Differ w.0 w.2 });
+          is_pass = λ all. says.is_pass (λ k l out. as_cut Settled k (all k (looked_at k l out)));
+          is_unknown = λ no-fail no-pass.
+              says.is_unknown
               (λ w. no-fail (w.0, looked_at w.0 w.1.inside w.1.output, as_given Differ w.0 w.1.holds))
               (λ all. no-pass (λ k w. as_given Settled k (all k w.inside (kept_out well k w.inside w.kept ∙ w.output))));
         }

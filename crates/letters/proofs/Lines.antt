@@ -38,7 +38,7 @@ module _ {table marks w₀ : List ℕ} {faults patterns : ℕ} {w : List ℕ} {p
   row_fits r s l = omega (arith, inside p patterns faults l, s.row, r.entries)
 
   pub line-fits : PutLinesRoom table marks w₀ faults patterns → SoFar table marks w₀ faults patterns w p at from → p < patterns → at + 280 ≤ length w
-  line-fits r s l = omega (arith, put_long s.put, s.put.next-is, lines_short faults table marks p r.few_faults, r.lines)
+  line-fits r s l = omega (arith, put_long s.put, s.put.next_is, lines_short faults table marks p r.few_faults, r.lines)
 
   pub more : {w' : List ℕ} {next : ℕ}
       → SoFar table marks w₀ faults patterns w p at from

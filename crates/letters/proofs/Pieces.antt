@@ -18,7 +18,7 @@ pub three_put : (w : List ℕ) (at a b c : ℕ) → Put w (set (set (set w at a)
 three_put w at a b c =
     let e : at + 1 ≡ suc at = omega arith in
     let f : at + 2 ≡ suc (suc at) = omega arith in
-    record { written = rw (e, f); next-is = refl }
+    record { written = rw (e, f); next_is = refl }
 
 pub line_put : (p mark : ℕ) (row : List ℕ) {w₀ w₁ w₂ w₃ w₄ : List ℕ} {at n₁ n₂ n₃ n₄ x : ℕ}
     → x ≡ mark_of mark

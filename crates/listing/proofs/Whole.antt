@@ -34,7 +34,7 @@ module _ {c fs ps t w w' : List ℕ} {r : ℕ} (room : 71680 ≤ length w) where
   unfolding output_of
   refused_lists {x} {y} so p = record {
     written = rw (← so.answer) p;
-    fits = omega (arith, p.next-is, refused_short x y, put_long p);
+    fits = omega (arith, p.next_is, refused_short x y, put_long p);
     table = so.table;
   }
 
@@ -44,7 +44,7 @@ module _ {c fs ps t w w' : List ℕ} {r : ℕ} (room : 71680 ≤ length w) where
       let sized = (full so refl {out = 71680} k (omega arith)).sized in
       record {
         written = rw (← so.answer, ← k.faults, ← k.patterns, ← table_is so refl) put;
-        fits = omega (arith, put_long put, put.next-is, lines_short f t' (goal.compacted (entries_of f t') f p) p sized.few_faults, sized.few_patterns);
+        fits = omega (arith, put_long put, put.next_is, lines_short f t' (goal.compacted (entries_of f t') f p) p sized.few_faults, sized.few_patterns);
         table = so.table;
       }
 
@@ -54,7 +54,7 @@ module _ {c fs ps t w w' : List ℕ} {r : ℕ} (room : 71680 ≤ length w) where
   unfolding output_of
   circuit_listed {x} {y} e p =
       let q = after_refused (circuit_rules c) (list_rules c (inputs_of c) fs ps) e in
-      record { written = rw q p; fits = omega (arith, p.next-is, refused_short x y, put_long p); table = rw q }
+      record { written = rw q p; fits = omega (arith, p.next_is, refused_short x y, put_long p); table = rw q }
 
 -- so much of the table was lent as it has entries
 pub listed : {c fs ps : List ℕ} (t : List ℕ) {t' w w' : List ℕ} {n m r size : ℕ}
@@ -76,7 +76,7 @@ listed {c} {fs} {ps} t {t'} {size = size} k s l = record { written = l.written; 
 
 -- two results that the promise allows are equal
 pub one_result : {c fs ps t t' t'' w w' w'' : List ℕ} {r s : ℕ} → Listed c fs ps t w r t' w' → Listed c fs ps t w s t'' w'' → (r ≡ s) × (t' ≡ t'') × (w' ≡ w'')
-one_result p q = (p.written.next-is ∙ sym q.written.next-is, p.table ∙ sym q.table, p.written.written ∙ sym q.written.written)
+one_result p q = (p.written.next_is ∙ sym q.written.next_is, p.table ∙ sym q.table, p.written.written ∙ sym q.written.written)
 
 -- ---- the sizes
 

@@ -45,7 +45,7 @@ module _ (fault : Fault) (small : fault.value ≤ 1) (c p : List ℕ) (n : ℕ) 
       let w = fail-some expected_passes c (good_of c p n) (faulty_of fault c p n) n e in
       record {
         line = w.0;
-        compared = record { inside = w.1.inside; output = eq-eqb _ _ w.1.output; known = w.1.holds.good-known };
+        compared = record { inside = w.1.inside; output = eq-eqb _ _ w.1.output; known = w.1.holds.good_known };
         differ = λ x fills. differ_truths fault small c p n well.inputs_are x fills w.0 w.1.holds;
       }
 

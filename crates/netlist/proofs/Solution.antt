@@ -33,7 +33,7 @@ module _ {A : Type 0} {gate : ℕ → (ℕ → A) → A} (own : Own gate) {net :
       let kind : kind_at (records_of net) k ≡ get_or net.kinds g 0 = net_kind_lem net k (omega arith) ∙ kind_gate net i in
       follows.at_gate k (omega arith) (gate-line net r i l)
       ∙ rw kind
-      (own (get_or net.kinds g 0) _ _ (r.some_kind g inside) (omega (arith, r.no-selector g inside))
+      (own (get_or net.kinds g 0) _ _ (r.some_kind g inside) (omega (arith, r.no_selector g inside))
       (λ s a b. ap value
       (net_pin net k (omega arith) r few s a (omega (arith, few_pins (get_or net.kinds g 0)))
       ∙ source_has net k s (rw (kind_gate net i) b)
@@ -56,7 +56,7 @@ module _ {A : Type 0} {gate : ℕ → (ℕ → A) → A} (own : Own gate) {net :
         let inside = order-gate net r i l in
         rw (number-gate net i)
         (solved.equation g inside
-        ∙ own (get_or net.kinds g 0) _ _ (r.some_kind g inside) (omega (arith, r.no-selector g inside))
+        ∙ own (get_or net.kinds g 0) _ _ (r.some_kind g inside) (omega (arith, r.no_selector g inside))
         (λ s a b. sym (ap v (number-line net r (pin_of net g s) (pin_inside net r g s inside))) ∙ below (net_line net (pin_of net g s)) (pin_before net r i s l))
         ∙ sym (on-gate i l)))
 

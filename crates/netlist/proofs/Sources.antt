@@ -73,7 +73,7 @@ module _ (net : Net) where
     kind_below =
         line_cases net (λ k. net_kind net k < selector)
         (λ k l. rw (input_kind net k l) (omega arith))
-        (λ i l. rw (kind_gate i) (r.no-selector (get_or (placed_of net) i 0) (order-gate net r i l)))
+        (λ i l. rw (kind_gate i) (r.no_selector (get_or (placed_of net) i 0) (order-gate net r i l)))
 
     pub source_lower : (k s : ℕ) → k < net_size net → 1 ≤ s → s ≤ pins_of (net_kind net k) → net_source net k s < k
     unfolding pins_of

@@ -17,7 +17,7 @@ pub record Right (net : Net) : Type 0 where
   pub kinds_long : length net.kinds ≡ gates_of net
   pub seconds_long : length net.seconds ≡ gates_of net
   pub some_kind : (g : ℕ) → g < gates_of net → 1 ≤ get_or net.kinds g 0
-  pub no-selector : (g : ℕ) → g < gates_of net → get_or net.kinds g 0 < selector
+  pub no_selector : (g : ℕ) → g < gates_of net → get_or net.kinds g 0 < selector
   pub firsts_inside : (g : ℕ) → g < gates_of net → get_or net.firsts g 0 < net_size net
   pub seconds_inside : (g : ℕ) → g < gates_of net → get_or net.seconds g 0 < net_size net
   pub outputs_inside : (i : ℕ) → i < length net.outputs → get_or net.outputs i 0 < net_size net

@@ -33,7 +33,7 @@ order_count : {a b p : List ℕ} → Order a b p → count_below (length a) (ele
 unfolding elem
 order_count {a} nothing = count_none (length a) (elem []) (λ k l. refl)
 order_count {a} {b} {p} (next q g o e j) =
-    rw j (count_snoc (length a) q g e.inside (ready_new a b q g e.is-ready))
+    rw j (count_snoc (length a) q g e.inside (ready_new a b q g e.is_ready))
     ∙ ap (λ (n : ℕ). n + 1) (order_count o)
     ∙ sym (longer q g j)
 
@@ -67,7 +67,7 @@ module _ {a b p : List ℕ} (o : Order a b p) (i : ℕ) (l : i < length p) where
   gate_inside = (moment o i l).inside
 
   pub sources_placed : (s : ℕ) → Source a b (get_or p i 0) s → elem (take i p) s ≡ true
-  sources_placed s r = ready_sources a b (take i p) (get_or p i 0) s (moment o i l).is-ready r
+  sources_placed s r = ready_sources a b (take i p) (get_or p i 0) s (moment o i l).is_ready r
 
   pub gate_index : index_in p (get_or p i 0) ≡ i
-  gate_index = index_at p i l (ready_new a b (take i p) (get_or p i 0) (moment o i l).is-ready)
+  gate_index = index_at p i l (ready_new a b (take i p) (get_or p i 0) (moment o i l).is_ready)

@@ -63,14 +63,14 @@ module _ {a b placed order : List ℕ} {n c : ℕ} (s : SoFar a b placed order n
 
   -- it is
   module _ (e : ready_by a b placed c ≡ true) where
-    is-ready : ready a b (take n order) c ≡ true
-    is-ready = sym (ready-same a b placed (take n order) c s.long s.marks l) ∙ e
+    is_ready : ready a b (take n order) c ≡ true
+    is_ready = sym (ready-same a b placed (take n order) c s.long s.marks l) ∙ e
 
     pub n_small : n < length a
     n_small =
         omega (
           arith,
-          order_room s.steps c l (ready_new a b (take n order) c is-ready),
+          order_room s.steps c l (ready_new a b (take n order) c is_ready),
           length-take-le n order (omega (arith, s.count, s.room)),
         )
 
@@ -89,7 +89,7 @@ module _ {a b placed order : List ℕ} {n c : ℕ} (s : SoFar a b placed order n
       long = length-set placed c 1 ∙ s.long;
       room = length-set order n c ∙ s.room;
       count = omega (arith, n_small);
-      steps = next (take n order) c s.steps (record { inside = l; is-ready = is-ready; none_before = s.below }) longer;
+      steps = next (take n order) c s.steps (record { inside = l; is_ready = is_ready; none_before = s.below }) longer;
       marks = λ g j. marked g j (ℕ_discrete c g);
       below = λ x j. rw longer (nothing-before x j (ℕ_discrete c x));
     }

@@ -29,7 +29,7 @@ module _ (a b p : List ℕ) where
       ⊎_elim
       (λ l. inl (record {
         inside = l.inside;
-        is-ready = not-false _ l.bad;
+        is_ready = not-false _ l.bad;
         none_before = λ h k. not-true _ (l.below h (omega arith) k);
       }))
       (λ k. inr (λ g l. not-true _ (k.1 g (omega arith) l)))
@@ -39,7 +39,7 @@ module _ (a b p : List ℕ) where
   unfolding earliest
   earliest-is g e =
       first_is (length a) (λ h. not (ready a b p h))
-      (record { above = omega arith; inside = e.inside; bad = rw e.is-ready; below = λ h k l. rw (e.none_before h l) })
+      (record { above = omega arith; inside = e.inside; bad = rw e.is_ready; below = λ h k l. rw (e.none_before h l) })
 
   none_earliest : Ended a b p → earliest a b p ≡ length a
   unfolding earliest
@@ -63,7 +63,7 @@ module _ (a b : List ℕ) where
   unfolding order_from
   from_placed zero p o l =
       ⊎_elim
-      (λ e. absurd (omega (arith, order_room o (earliest a b p) e.inside (ready_new a b p (earliest a b p) e.is-ready))))
+      (λ e. absurd (omega (arith, order_room o (earliest a b p) e.inside (ready_new a b p (earliest a b p) e.is_ready))))
       (λ d. record { steps = o; ended = d })
       (cases a b p)
   from_placed (suc n) p o l = go (cases a b p) (from_placed n)

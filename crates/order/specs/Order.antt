@@ -34,7 +34,7 @@ order_of a b = order_from a b [] (length a)
 
 pub record Earliest (a b p : List ℕ) (g : ℕ) : Type 0 where
   pub inside : g < length a
-  pub is-ready : ready a b p g ≡ true
+  pub is_ready : ready a b p g ≡ true
   pub none_before : (h : ℕ) → h < g → ready a b p h ≡ false
 
 -- p is placed, in this order

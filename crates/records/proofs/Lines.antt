@@ -24,7 +24,7 @@ module _ {l : Lined} {w₀ w : List ℕ} {at k : ℕ} (so : SoFar l w₀ w at k)
   line_room h r m = record {
     has = h;
     inside = m;
-    room = omega (arith, put_long so.put, so.put.next-is, records_by_length l k);
+    room = omega (arith, put_long so.put, so.put.next_is, records_by_length l k);
   }
 
   pub so_far_more : {w' : List ℕ} {at' : ℕ} → k < line_count l → Put w w' at (record_by l k) at' → SoFar l w₀ w' at' (k + 1)

@@ -53,7 +53,7 @@ module _ {forces : Forces} {c : List ℕ} {n : ℕ} {p fs : List ℕ} {width : �
       record {
         at_most = omega arith;
         long = length-set row j e ∙ so.long;
-        done = rw (add-one, take-suc-set row j e (omega (arith, so.long)), so.done, k.entry-is);
+        done = rw (add-one, take-suc-set row j e (omega (arith, so.long)), so.done, k.entry_is);
         room = ap length k.work_is ∙ both-length c p n (forces (fault_at fs j));
         good = rw k.work_is (good_front c p n (values_to (forces (fault_at fs j)) c p n));
         last = λ _. k.work_is ∙ ap (λ (x : ℕ). both_under (forces (fault_at fs x)) c p n) (sym back);

@@ -30,7 +30,7 @@ pub record RowDone (forces : Forces) (c : List ℕ) (n : ℕ) (p fs row work : L
 pub record TableReady (most places : ℕ) (c : List ℕ) (n m : ℕ) (fs ps : List ℕ) (table work : ℕ) : Type 0 where
   pub well : WellFormed c m n
   pub most_lines : n ≤ 2048
-  pub some-inputs : 1 ≤ m
+  pub some_inputs : 1 ≤ m
   pub most_inputs : m ≤ 64
   pub faults : Records 8 256 (length fs)
   pub fault_lines : (j : ℕ) → j < fault_count fs → fault_line fs j < n

@@ -15,7 +15,7 @@ use Rattle.gates.proofs.Laws.{two_pins, gate-pin}
 use Rattle.words.specs.Words.{same, words_in, ends_in}
 use Rattle.words.proofs.Same.{same_refl}
 use Rattle.syntax.specs.Kinds.{input_word, output_word, port_words, kind_of, Among}
-use Rattle.syntax.proofs.KindTable.{no-selector, Named, kind_named}
+use Rattle.syntax.proofs.KindTable.{no_selector, Named, kind_named}
 use Rattle.syntax.specs.Syntax.{Formed}
 use Rattle.forms.specs.Lines.{size_at, form_of, forms_of}
 use Rattle.forms.specs.Forms.{says_gate}
@@ -57,7 +57,7 @@ module _ (t : List ℕ) (f : Formed t) (k : ℕ) (h : k < length (ends_in t)) wh
       ⊎_elim
       (λ p. let one : n ≡ 1 = sym m.pins ∙ p in rw (e, one) (gate 1 (e ∙ ap (λ (i : ℕ). 2 + i) one) (rw one at m)))
       (λ p. let two : n ≡ 2 = sym m.pins ∙ p in rw (e, two) (gate 2 (e ∙ ap (λ (i : ℕ). 2 + i) two) (rw two at m)))
-      (one_or_two (kind_of (word_on t k 1)) m.some (no-selector (word_on t k 1)))
+      (one_or_two (kind_of (word_on t k 1)) m.some (no_selector (word_on t k 1)))
 
   pub line_says : LineSays t k (form_of t (words_in t) (ends_in t) k)
   unfolding form_of
@@ -87,7 +87,7 @@ gate_from (nothing e) l = absurd (omega arith)
 gate_from (input e w) l = absurd (omega arith)
 gate_from (output e w) l = absurd (omega arith)
 gate_from (gate n e m) l = (
-  record { some_kind = m.some; no-selector = no-selector _; words = e ∙ ap (λ (i : ℕ). 2 + i) (sym m.pins) },
+  record { some_kind = m.some; no_selector = no_selector _; words = e ∙ ap (λ (i : ℕ). 2 + i) (sym m.pins) },
   sym e,
 )
 

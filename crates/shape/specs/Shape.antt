@@ -25,5 +25,5 @@ word_on t k j = word_at t (word_in (words_in t) (ends_in t) k j)
 -- line k has a name, a kind of gates that is no selector, and as many sources as the gates' rule has pins for it
 pub record GateLine (t : List ℕ) (k : ℕ) : Type 0 where
   pub some_kind : 1 ≤ kind_of (word_on t k 1)
-  pub no-selector : kind_of (word_on t k 1) < selector
+  pub no_selector : kind_of (word_on t k 1) < selector
   pub words : size_at (ends_in t) k ≡ 2 + pins_of (kind_of (word_on t k 1))

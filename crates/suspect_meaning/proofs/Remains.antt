@@ -21,11 +21,11 @@ use Rattle.suspect_meaning.specs.Tester.{TrueOf}
 -- of the table that an engine of the dictionary maker leaves
 module _ {places : ℕ} {left c fs ps t₀ w₀ t w : List ℕ} (made : Answered places left c fs ps t₀ w₀ Fine t w) (j : ℕ) (inside : j < fault_count fs) where
   -- the entry that is lent is the dictionary's
-  entry-is : {q : Report} → TrueOf c fs ps t j q → entry_in q j ≡ get_or t (q.pattern * fault_count fs + j) 0
-  entry-is {q} so = rw (so.lent, so.faults)
+  entry_is : {q : Report} → TrueOf c fs ps t j q → entry_in q j ≡ get_or t (q.pattern * fault_count fs + j) 0
+  entry_is {q} so = rw (so.lent, so.faults)
 
   means : {q : Report} → TrueOf c fs ps t j q → Means (entry_in q j) c (fault_at fs j) (lines_of c) (pattern_at (inputs_of c) ps q.pattern)
-  means {q} so = rw (entry-is so) (dictionary_means made q.pattern j so.pattern inside)
+  means {q} so = rw (entry_is so) (dictionary_means made q.pattern j so.pattern inside)
 
   -- after reports that are all true of a part with fault j, fault j remains
   pub true-remains : (rs : List Report) → ((q : Report) → Among q rs → TrueOf c fs ps t j q) → Remains rs j

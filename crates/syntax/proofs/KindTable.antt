@@ -29,13 +29,13 @@ below_selector (k ∷ ks) t w = let u = both (ltb k.number selector) (numbers_al
     go false x y = y
 
 -- so no word names it
-pub no-selector : (w : List ℕ) → kind_of w < selector
+pub no_selector : (w : List ℕ) → kind_of w < selector
 unfolding kinds kind_of
-no-selector w = below_selector kinds refl w
+no_selector w = below_selector kinds refl w
 
 pub each_kind : EachKind
 unfolding kinds kind_of same grow pins_of
-each_kind = record { numbers = refl; sources = refl; words = refl; unnamed = λ w e. omega (arith, no-selector w) }
+each_kind = record { numbers = refl; sources = refl; words = refl; unnamed = λ w e. omega (arith, no_selector w) }
 
 -- ---- a word of a kind with n sources
 

@@ -53,12 +53,12 @@ right-on : (t : List ℕ) → RightText t → (k : ℕ) → k < length t → Goe
 right-on t r k h = record {
   room = omega (arith, r.room);
   rest = drop (suc k) t;
-  right = subst Formed (sym (take-append-drop (suc k) t)) r.is-formed;
+  right = subst Formed (sym (take-append-drop (suc k) t)) r.is_formed;
 }
 
 pub right_text : (t : List ℕ) → refusal (syntax_rules t) ≡ Fine → RightText t
 unfolding AllHold syntax_rules
-right_text t e = let a = all_hold (syntax_rules t) (syntax_says t) e in record { is-formed = a.1.0; room = short a.0 (either most_bytes (length t)) }
+right_text t e = let a = all_hold (syntax_rules t) (syntax_says t) e in record { is_formed = a.1.0; room = short a.0 (either most_bytes (length t)) }
   where
     short : ((k : ℕ) → k < length t → GoesOn t k) → (most_bytes < length t) ⊎ (length t ≤ most_bytes) → length t ≤ most_bytes
     short on (inl h) = let g = (on most_bytes h).room in omega arith
@@ -66,7 +66,7 @@ right_text t e = let a = all_hold (syntax_rules t) (syntax_says t) e in record {
 
 pub text_fine : (t : List ℕ) → RightText t → refusal (syntax_rules t) ≡ Fine
 unfolding AllHold syntax_rules
-text_fine t r = fine (syntax_rules t) (syntax_says t) (right-on t r, (r.is-formed, tt))
+text_fine t r = fine (syntax_rules t) (syntax_says t) (right-on t r, (r.is_formed, tt))
 
 -- ---- the first bad byte
 

@@ -36,5 +36,5 @@ pub record FirstBad (t : List ℕ) (i : ℕ) : Type 0 where
 
 -- and no refusal 14
 pub record RightText (t : List ℕ) : Type 0 where
-  pub is-formed : Formed t
+  pub is_formed : Formed t
   pub room : length t ≤ most_bytes

@@ -35,7 +35,7 @@ step_none c st k i n w from = record { at_most = omega arith; put = put_none w f
 
 module _ {c st : List ℕ} {k i n : ℕ} {w₀ w : List ℕ} {from at m : ℕ} (so : StepSoFar c st k i n w₀ w from at m) where
   pub line_room : m < n → from + 8 * n ≤ length w₀ → at + 8 ≤ length w
-  line_room l room = omega (arith, put_long so.put, so.put.next-is, step_length c st k i m)
+  line_room l room = omega (arith, put_long so.put, so.put.next_is, step_length c st k i m)
 
   pub step_more : {w' : List ℕ} {at' : ℕ} → m < n → Put w w' at (step_record c st k i m) at' → StepSoFar c st k i n w₀ w' from at' (m + 1)
   step_more l p = record { at_most = omega arith; put = rw add-one (put_then so.put p) }
@@ -70,7 +70,7 @@ steps_none c st k w = record { at_most = omega arith; put = rw zero-mul (put_non
 module _ {c st : List ℕ} {k : ℕ} {w₀ w : List ℕ} {at i : ℕ} (so : StepsSoFar c st k w₀ w at i) (room : length w₀ ≡ 8 * lines_after c k) where
   pub step_room : i < k → at + 8 * lines_of c ≤ length w
   step_room l =
-      omega (arith, room, put_long so.put, so.put.next-is, front_long c st k (i * lines_of c), step_fits i k (lines_of c) l)
+      omega (arith, room, put_long so.put, so.put.next_is, front_long c st k (i * lines_of c), step_fits i k (lines_of c) l)
 
   pub steps_more : {w' : List ℕ} {at' : ℕ} → i < k → Put w w' at (step_to c st k i (lines_of c)) at' → StepsSoFar c st k w₀ w' at' (i + 1)
   steps_more l p = record { at_most = omega arith; put = rw add-one (put_as (next_step c st k i) (put_then so.put p)) }

@@ -52,7 +52,7 @@ module _ {c st : List ℕ} {k : ℕ} {fs ps : List ℕ} {table work : ℕ} (t : 
   steps_ready places fits = record {
     well = unfolded-formed t.clocked.circuit_fine t.clocked.steps;
     most_lines = t.clocked.steps.most_lines;
-    some-inputs = omega (arith, t.clocked.good.some-inputs);
+    some_inputs = omega (arith, t.clocked.good.some_inputs);
     most_inputs = t.clocked.steps.most_inputs;
     faults = t.rest.faults.records;
     fault_lines = λ j l. omega (arith, (t.rest.faults.faults j l).line, faults_in_steps.inside);

@@ -28,9 +28,9 @@ use Rattle.unfold_dictionary.proofs.Looked.{output_looked, looked_output}
 -- a choice by other words that say the same
 chosen_by : {F P F' P' : Type 0} {e : ℕ} → (F' → F) → (F → F') → (P' → P) → (P → P') → Chosen F P e → Chosen F' P' e
 chosen_by fails failed passes passed w = record {
-  is-fail = λ f. w.is-fail (fails f);
-  is-pass = λ p. w.is-pass (passes p);
-  is-unknown = λ no never. w.is-unknown (λ f. no (failed f)) (λ p. never (passed p));
+  is_fail = λ f. w.is_fail (fails f);
+  is_pass = λ p. w.is_pass (passes p);
+  is_unknown = λ no never. w.is_unknown (λ f. no (failed f)) (λ p. never (passed p));
 }
 
 module _ {c st : List ℕ} {k : ℕ} (good : Good c) (steps : GoodSteps c st k) (p : List ℕ) (small : AllSmall p) where

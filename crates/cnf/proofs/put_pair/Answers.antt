@@ -14,4 +14,4 @@ pub slice_set_of-words : goal.slice_set_of-words
 slice_set_of-words c = simp length-set (omega arith)
 
 pub returns : goal.returns
-returns c = record { written = simp (to_z-of_z c.ranges.p, to_z-of_z c.ranges.q, add-one, add-two); next-is = refl }
+returns c = record { written = simp (to_z-of_z c.ranges.p, to_z-of_z c.ranges.q, add-one, add-two); next_is = refl }

@@ -17,4 +17,4 @@ pub slice_set_of-words : goal.slice_set_of-words
 slice_set_of-words c = simp length-set (omega arith)
 
 pub returns : goal.returns
-returns c = record { written = simp (to_z-of_z c.ranges.p, to_z-of_z c.ranges.q, to_z-of_z c.ranges.r, add-one, add-two, add-three); next-is = refl }
+returns c = record { written = simp (to_z-of_z c.ranges.p, to_z-of_z c.ranges.q, to_z-of_z c.ranges.r, add-one, add-two, add-three); next_is = refl }

@@ -13,7 +13,7 @@ returns-then-n-lt-TWO_DIGITS t c = one_digit c.if-f-eq0.false c.if-n-lt-TWO_DIGI
 pub put_byte-requires-2 : goal.put_byte-requires-2
 put_byte-requires-2 t c =
     let p = c.put_digits-next.ensures in
-    omega (arith, p.next-is, put_long p, digits_short (c.args.f - 1) (c.args.n / 10), c.if-f-eq0.false)
+    omega (arith, p.next_is, put_long p, digits_short (c.args.f - 1) (c.args.n / 10), c.if-f-eq0.false)
 
 pub returns : goal.returns
 returns t c = more-digits c.if-f-eq0.false c.if-n-lt-TWO_DIGITS.false c.put_digits-next.ensures c.put_byte-2.ensures

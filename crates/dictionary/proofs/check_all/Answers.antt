@@ -15,7 +15,7 @@ overflow_mul-places c =
 pub check_rest-rest-requires : goal.check_rest-rest-requires
 check_rest-rest-requires c =
     let k = accepts c.in-Accepted.is c.check-v.ensures in
-    omega (arith, k.inputs, k.good.some-inputs)
+    omega (arith, k.inputs, k.good.some_inputs)
 
 pub returns-in-Refused : goal.returns-in-Refused
 returns-in-Refused c = circuit_refused (refuses c.in-Refused.is c.check-v.ensures)

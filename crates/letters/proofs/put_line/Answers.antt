@@ -11,13 +11,13 @@ use Rattle.letters.proofs.put_line.Goals as goal
 pub put_three-letters-requires : goal.put_three-letters-requires
 put_three-letters-requires c =
     let p = c.put_decimal-number.ensures in
-    omega (arith, p.next-is, put_long p, digits_short 20 c.args.p)
+    omega (arith, p.next_is, put_long p, digits_short 20 c.args.p)
 
 pub put_letters-end-requires : goal.put_letters-end-requires
 put_letters-end-requires c =
     let p = c.put_decimal-number.ensures in
     let q = c.put_three-letters.ensures in
-    omega (arith, p.next-is, q.next-is, put_long p, put_long q, digits_short 20 c.args.p)
+    omega (arith, p.next_is, q.next_is, put_long p, put_long q, digits_short 20 c.args.p)
 
 pub put_byte-requires : goal.put_byte-requires
 put_byte-requires c =
@@ -27,9 +27,9 @@ put_byte-requires c =
     let a = c.args in
     omega (
       arith,
-      p.next-is,
-      q.next-is,
-      r.next-is,
+      p.next_is,
+      q.next_is,
+      r.next_is,
       length-map a.row.now letter_of,
       put_long p,
       put_long q,

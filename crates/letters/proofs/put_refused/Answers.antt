@@ -10,14 +10,14 @@ pub put_byte-at-requires : goal.put_byte-at-requires
 put_byte-at-requires c =
     let p = c.put_refused_word.ensures in
     let q = c.put_decimal-space.ensures in
-    omega (arith, put_long p, put_long q, q.next-is, digits_short 20 c.args.number)
+    omega (arith, put_long p, put_long q, q.next_is, digits_short 20 c.args.number)
 
 pub put_decimal-end-requires : goal.put_decimal-end-requires
 put_decimal-end-requires c =
     let p = c.put_refused_word.ensures in
     let q = c.put_decimal-space.ensures in
     let r = c.put_byte-at.ensures in
-    omega (arith, put_long p, put_long q, put_long r, q.next-is, r.next-is, digits_short 20 c.args.number)
+    omega (arith, put_long p, put_long q, put_long r, q.next_is, r.next_is, digits_short 20 c.args.number)
 
 pub put_byte-requires : goal.put_byte-requires
 put_byte-requires c =
@@ -32,9 +32,9 @@ put_byte-requires c =
       put_long q,
       put_long r,
       put_long s,
-      q.next-is,
-      r.next-is,
-      s.next-is,
+      q.next_is,
+      r.next_is,
+      s.next_is,
       digits_short 20 a.number,
       digits_short 20 a.place,
     )

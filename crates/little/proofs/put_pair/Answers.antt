@@ -10,4 +10,4 @@ pub bounds-out-at-2 : goal.bounds-out-at-2
 bounds-out-at-2 c = simp length-set (omega arith)
 
 pub returns : goal.returns
-returns c = record { written = rw add-one; next-is = refl }
+returns c = record { written = rw add-one; next_is = refl }

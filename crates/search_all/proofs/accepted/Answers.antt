@@ -14,8 +14,8 @@ use Rattle.search_all.proofs.accepted.Goals as goal
 pub search_list-requires : goal.search_list-requires
 search_list-requires c =
     let fine : refusal (search_all_rest_rules c.args.circuit.now c.args.faults.now c.args.inputs c.args.n (length c.args.budgets.now) (length c.args.outcomes.now) (length c.args.counts.now) (length c.args.tests.now) (length c.args.work.now)) ≡ Fine = sym c.check_rest-v.ensures ∙ c.in-Fine.is in
-    let is-ready : SearchesReady c.args.circuit.now c.args.faults.now c.args.n c.args.inputs (length c.args.budgets.now) (length c.args.outcomes.now) (length c.args.counts.now) (length c.args.tests.now) (length c.args.work.now) = ready _ _ _ _ _ _ _ _ _ c.requires (fine) in
-    is-ready
+    let is_ready : SearchesReady c.args.circuit.now c.args.faults.now c.args.n c.args.inputs (length c.args.budgets.now) (length c.args.outcomes.now) (length c.args.counts.now) (length c.args.tests.now) (length c.args.work.now) = ready _ _ _ _ _ _ _ _ _ c.requires (fine) in
+    is_ready
 
 pub returns-in-Refused : goal.returns-in-Refused
 returns-in-Refused c = refused_done (sym c.check_rest-v.ensures ∙ c.in-Refused.is)
@@ -23,5 +23,5 @@ returns-in-Refused c = refused_done (sym c.check_rest-v.ensures ∙ c.in-Refused
 pub returns-in-Fine : goal.returns-in-Fine
 returns-in-Fine c =
     let fine : refusal (search_all_rest_rules c.args.circuit.now c.args.faults.now c.args.inputs c.args.n (length c.args.budgets.now) (length c.args.outcomes.now) (length c.args.counts.now) (length c.args.tests.now) (length c.args.work.now)) ≡ Fine = sym c.check_rest-v.ensures ∙ c.in-Fine.is in
-    let is-ready : SearchesReady c.args.circuit.now c.args.faults.now c.args.n c.args.inputs (length c.args.budgets.now) (length c.args.outcomes.now) (length c.args.counts.now) (length c.args.tests.now) (length c.args.work.now) = ready _ _ _ _ _ _ _ _ _ c.requires (fine) in
-    list_searched fine is-ready (search rules) (search rules) (search rules) c.search_list.ensures
+    let is_ready : SearchesReady c.args.circuit.now c.args.faults.now c.args.n c.args.inputs (length c.args.budgets.now) (length c.args.outcomes.now) (length c.args.counts.now) (length c.args.tests.now) (length c.args.work.now) = ready _ _ _ _ _ _ _ _ _ c.requires (fine) in
+    list_searched fine is_ready (search rules) (search rules) (search rules) c.search_list.ensures

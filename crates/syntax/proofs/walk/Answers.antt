@@ -21,14 +21,14 @@ step-n-requires c = (c.requires.1, c.loop-i.invariant.1, omega arith)
 
 pub returns-then-n-eq0 : goal.returns-then-n-eq0
 returns-then-n-eq0 c =
-    let next-is = c.step-n.ensures.0 ∙ ap (next _) c.symbol_of.ensures.0 in
-    stops c.loop-i.invariant.0 (omega arith) next-is c.step-n.ensures.1.inside (omega arith) (omega (arith, c.if-n-eq0.true))
+    let next_is = c.step-n.ensures.0 ∙ ap (next _) c.symbol_of.ensures.0 in
+    stops c.loop-i.invariant.0 (omega arith) next_is c.step-n.ensures.1.inside (omega arith) (omega (arith, c.if-n-eq0.true))
 
 pub loop-i-preserved : goal.loop-i-preserved
 loop-i-preserved c =
     let row = c.step-n.ensures.1 in
-    let next-is = c.step-n.ensures.0 ∙ ap (next _) c.symbol_of.ensures.0 in
-    (more c.loop-i.invariant.0 (omega arith) next-is row.inside (omega arith) (omega (arith, c.if-n-eq0.false, row.begins)), row)
+    let next_is = c.step-n.ensures.0 ∙ ap (next _) c.symbol_of.ensures.0 in
+    (more c.loop-i.invariant.0 (omega arith) next_is row.inside (omega arith) (omega (arith, c.if-n-eq0.false, row.begins)), row)
 
 pub returns-then-q-lt-NO_END : goal.returns-then-q-lt-NO_END
 returns-then-q-lt-NO_END c = ended c.loop-i.invariant.0 (omega arith) (omega (arith, c.if-q-lt-NO_END.true))

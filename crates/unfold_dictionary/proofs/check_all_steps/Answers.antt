@@ -19,7 +19,7 @@ overflow_mul-steps-in-Accepted c =
 pub check_rest-rest-requires : goal.check_rest-rest-requires
 check_rest-rest-requires c =
     let a = clocked_accepts c.check_clocked-v.ensures c.in-Accepted.is in
-    omega (arith, a.2, a.0.good.some-inputs)
+    omega (arith, a.2, a.0.good.some_inputs)
 
 pub returns-in-Refused : goal.returns-in-Refused
 returns-in-Refused c = clocked_refused (clocked_refuses c.check_clocked-v.ensures c.in-Refused.is)
