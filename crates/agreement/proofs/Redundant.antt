@@ -9,19 +9,18 @@ use lib.ListN.{take}
 use Rattle.nodes.specs.Budget.{Decided}
 use Rattle.nodes.specs.declared.Verdict.{Verdict}
 use Rattle.nodes.specs.declared.Verdict.TheVariants.{Redundant}
-use Rattle.search.specs.declared.Searched.TheVariants as searched
 use Rattle.search.specs.Promise.{Searches}
-use Rattle.clauses.specs.declared.Written.TheVariants.{Success}
-use Rattle.clauses.specs.Promise.{Writes}
+use Rattle.clauses.specs.Promise.{Writes, written_are}
 use Rattle.satisfied.specs.Satisfied.{Unsatisfiable}
 use Rattle.satisfied.proofs.Written.{written_faithful}
 use Rattle.verdicts.proofs.Verdicts.{redundant_exactly}
+use Rattle.std.specs.Prelude.{Ok}
 
 -- where the search reaches a verdict, it is redundant exactly if no assignment satisfies the words that the writer wrote
 pub redundant_unsatisfiable : {c f : List ℕ} {budget : ℕ} {t w t' w' : List ℕ} {v : Verdict} {words words' : List ℤ} {a clauses variables : ℕ}
-    → Searches c f budget t w (searched.Verdict v) t' w'
+    → Searches c f budget t w (Ok v) t' w'
     → Decided v
-    → Writes c f words words' (Success a clauses variables)
+    → Writes c f words words' (Ok (written_are a clauses variables))
     → ((k : ℕ) × (v ≡ Redundant k)) ↔ Unsatisfiable (take a words')
 redundant_unsatisfiable s d p =
     let r = redundant_exactly s d in

@@ -10,10 +10,12 @@ use borrow.Author.Tests.{lt-ltb, le-ltb}
 use Rattle.ground.specs.Below.{first_not}
 use Rattle.ground.proofs.First.{first_cases}
 use Rattle.ground.proofs.Tests.{either}
-use Rattle.answers.specs.Rules.{Rule, or_else, said, refusal, number_of, Breaks, Applies, Holds, AllHold, Same, Says, AllSay}
+use Rattle.answers.specs.Rules.{Rule, or_else, said, refusal, reason_of, Breaks, Applies, Holds, AllHold, Same, Says, AllSay}
 use Rattle.answers.specs.Rules.Rule.{whole, each}
-use Rattle.answers.specs.declared.Ruling.{Ruling}
-use Rattle.answers.specs.declared.Ruling.TheVariants.{Fine, Refused}
+use Rattle.answers.specs.Rules.{Ruling}
+use Rattle.std.specs.Prelude.{Ok, Err, Result}
+use Rattle.answers.specs.declared.Reason.{Reason}
+use Rattle.answers.specs.declared.Refusal.{Refusal}
 
 -- what is asked does not hold where its test fails
 fails : {test : Bool} {asked : Type 0} → Same test asked → test ≡ false → asked → ⊥
@@ -23,12 +25,12 @@ fails s e a = true≢false (sym (s.tests a) ∙ e)
 record Broken (r : Rule) (k : ℕ) : Type 0 where
   breaks : Breaks r k
   lowest : (j : ℕ) → Breaks r j → k ≤ j
-  says : said r ≡ Refused (number_of r) k
+  says : said r ≡ Err (reason_of r, k)
 
 record Kept (r : Rule) : Type 0 where
   holds : Holds r
   never : (j : ℕ) → Breaks r j → ⊥
-  silent : said r ≡ Fine
+  silent : said r ≡ Ok tt
 
 rule_cases : (r : Rule) → Says r → ((k : ℕ) × Broken r k) ⊎ Kept r
 unfolding said
@@ -54,34 +56,48 @@ rule_cases (each m n test asked) s =
     }))
     (first_cases n test)
 
-pub or_fine : (v : Ruling) → or_else v Fine ≡ v
-or_fine Fine = refl
-or_fine (Refused m k) = refl
+pub or_fine : (v : Ruling) → or_else v (Ok tt) ≡ v
+or_fine (Ok u) = refl
+or_fine (Err why) = refl
 
-pub not_fine : {m k : ℕ} → Fine ≡ Refused m k → ⊥
-not_fine e = let z : ◌≡◌ {A = ℕ} 0 1 = cc in omega arith
+-- two good answers that are the same have one good case
+pub same_good : {A : Type 0} {x y : A} → ◌≡◌ {A = Result A Refusal} (Ok x) (Ok y) → x ≡ y
+same_good e = cc
+
+-- two refusals that are the same have one reason and one place
+module _ {A : Type 0} {x y : Refusal} (e : ◌≡◌ {A = Result A Refusal} (Err x) (Err y)) where
+  pub same_refusal : x ≡ y
+  same_refusal = cc
+
+  pub same_reason : x.0 ≡ y.0
+  same_reason = ap (λ (why : Refusal). why.0) same_refusal
+
+  pub same_place : x.1 ≡ y.1
+  same_place = ap (λ (why : Refusal). why.1) same_refusal
+
+pub not_fine : {why : Refusal} → ◌≡◌ {A = Ruling} (Ok tt) (Err why) → ⊥
+not_fine e = cc
 
 -- what is refused is the first that applies, with the lowest place
-pub applies : (rules : List Rule) → AllSay rules → (m k : ℕ) → refusal rules ≡ Refused m k → Applies rules m k
+pub applies : (rules : List Rule) → AllSay rules → (m : Reason) (k : ℕ) → refusal rules ≡ Err (m, k) → Applies rules m k
 unfolding refusal Applies AllSay
 applies [] s m k e = not_fine e
 applies (r ∷ rules) (s, ss) m k e = go (rule_cases r s) (applies rules ss m k)
   where
-    go : ((l : ℕ) × Broken r l) ⊎ Kept r → (refusal rules ≡ Refused m k → Applies rules m k) → Applies (r ∷ rules) m k
+    go : ((l : ℕ) × Broken r l) ⊎ Kept r → (refusal rules ≡ Err (m, k) → Applies rules m k) → Applies (r ∷ rules) m k
     go (inl (l, b)) ih =
-        let q : Refused (number_of r) l ≡ Refused m k = sym (ap (λ (v : Ruling). or_else v (refusal rules)) b.says) ∙ e in
-        let number : m ≡ number_of r = cc in
-        let place : l ≡ k = cc in
-        inl (number, rw (← place) b.breaks, rw (← place) b.lowest)
+        let q : ◌≡◌ {A = Ruling} (Err (reason_of r, l)) (Err (m, k)) = sym (ap (λ (v : Ruling). or_else v (refusal rules)) b.says) ∙ e in
+        let place : l ≡ k = same_place q in
+        inl (sym (same_reason q), rw (← place) b.breaks, rw (← place) b.lowest)
     go (inr a) ih = inr (a.never, ih (sym (ap (λ (v : Ruling). or_else v (refusal rules)) a.silent) ∙ e))
 
 -- and the first that applies, with the lowest place, is refused
-pub refused : (rules : List Rule) → AllSay rules → (m k : ℕ) → Applies rules m k → refusal rules ≡ Refused m k
+pub refused : (rules : List Rule) → AllSay rules → (m : Reason) (k : ℕ) → Applies rules m k → refusal rules ≡ Err (m, k)
 unfolding refusal Applies AllSay
 refused [] s m k g = absurd g
 refused (r ∷ rules) (s, ss) m k g = go (rule_cases r s) (refused rules ss m k) g
   where
-    go : ((l : ℕ) × Broken r l) ⊎ Kept r → (Applies rules m k → refusal rules ≡ Refused m k) → Applies (r ∷ rules) m k → or_else (said r) (refusal rules) ≡ Refused m k
+    go : ((l : ℕ) × Broken r l) ⊎ Kept r → (Applies rules m k → refusal rules ≡ Err (m, k)) → Applies (r ∷ rules) m k → or_else (said r) (refusal rules) ≡ Err (m, k)
     go (inl (l, b)) ih (inl (e, h, low)) =
         let u = b.lowest k h in
         let v = low l b.breaks in
@@ -92,29 +108,29 @@ refused (r ∷ rules) (s, ss) m k g = go (rule_cases r s) (refused rules ss m k)
     go (inr a) ih (inr (never, h)) = rw a.silent (ih h)
 
 -- so whatever gives the ruling of its rules refuses exactly when one applies, with the first that does and its lowest place
-module _ (rules : List Rule) (says : AllSay rules) {r : Ruling} (is : r ≡ refusal rules) (number place : ℕ) where
-  pub refused_applies : r ≡ Refused number place → Applies rules number place
-  refused_applies e = applies rules says number place (sym is ∙ e)
+module _ (rules : List Rule) (says : AllSay rules) {r : Ruling} (is : r ≡ refusal rules) (reason : Reason) (place : ℕ) where
+  pub refused_applies : r ≡ Err (reason, place) → Applies rules reason place
+  refused_applies e = applies rules says reason place (sym is ∙ e)
 
-  pub applies_refused : Applies rules number place → r ≡ Refused number place
-  applies_refused a = is ∙ refused rules says number place a
+  pub applies_refused : Applies rules reason place → r ≡ Err (reason, place)
+  applies_refused a = is ∙ refused rules says reason place a
 
 -- nothing is refused exactly if all that is asked holds
-pub all_hold : (rules : List Rule) → AllSay rules → refusal rules ≡ Fine → AllHold rules
+pub all_hold : (rules : List Rule) → AllSay rules → refusal rules ≡ Ok tt → AllHold rules
 unfolding refusal AllHold AllSay
 all_hold [] s e = tt
 all_hold (r ∷ rules) (s, ss) e = go (rule_cases r s) (all_hold rules ss)
   where
-    go : ((l : ℕ) × Broken r l) ⊎ Kept r → (refusal rules ≡ Fine → AllHold rules) → Holds r × AllHold rules
+    go : ((l : ℕ) × Broken r l) ⊎ Kept r → (refusal rules ≡ Ok tt → AllHold rules) → Holds r × AllHold rules
     go (inl (l, b)) ih = absurd (not_fine (sym e ∙ ap (λ (v : Ruling). or_else v (refusal rules)) b.says))
     go (inr a) ih = (a.holds, ih (sym (ap (λ (v : Ruling). or_else v (refusal rules)) a.silent) ∙ e))
 
-pub fine : (rules : List Rule) → AllSay rules → AllHold rules → refusal rules ≡ Fine
+pub fine : (rules : List Rule) → AllSay rules → AllHold rules → refusal rules ≡ Ok tt
 unfolding refusal AllHold AllSay
 fine [] s a = refl
 fine (r ∷ rules) (s, ss) (h, a) = go r h (rule_cases r s) (fine rules ss a)
   where
-    go : (r : Rule) → Holds r → ((l : ℕ) × Broken r l) ⊎ Kept r → refusal rules ≡ Fine → or_else (said r) (refusal rules) ≡ Fine
+    go : (r : Rule) → Holds r → ((l : ℕ) × Broken r l) ⊎ Kept r → refusal rules ≡ Ok tt → or_else (said r) (refusal rules) ≡ Ok tt
     go (whole m test asked p) h (inl (l, b)) ih = absurd (b.breaks.1 h)
     go (each m n test asked) h (inl (l, b)) ih = absurd (b.breaks.1 (h l b.breaks.0))
     go (whole m test asked p) h (inr k) ih = rw k.silent ih
@@ -128,25 +144,25 @@ in_order [] more = refl
 in_order (r ∷ rules) more = go (said r) (in_order rules more)
   where
     go : (v : Ruling) → refusal (rules ++ more) ≡ or_else (refusal rules) (refusal more) → or_else v (refusal (rules ++ more)) ≡ or_else (or_else v (refusal rules)) (refusal more)
-    go Fine ih = ih
-    go (Refused m k) ih = refl
+    go (Ok u) ih = ih
+    go (Err why) ih = refl
 
-pub after_refused : (rules more : List Rule) {m k : ℕ} → refusal rules ≡ Refused m k → refusal (rules ++ more) ≡ Refused m k
+pub after_refused : (rules more : List Rule) {m : Reason} {k : ℕ} → refusal rules ≡ Err (m, k) → refusal (rules ++ more) ≡ Err (m, k)
 after_refused rules more e = in_order rules more ∙ rw e
 
-pub after_fine : (rules more : List Rule) → refusal rules ≡ Fine → refusal (rules ++ more) ≡ refusal more
+pub after_fine : (rules more : List Rule) → refusal rules ≡ Ok tt → refusal (rules ++ more) ≡ refusal more
 after_fine rules more e = in_order rules more ∙ rw e
 
 -- of the rules behind others only their ruling matters
 pub same_after : (rules more more₂ : List Rule) → refusal more ≡ refusal more₂ → refusal (rules ++ more) ≡ refusal (rules ++ more₂)
 same_after rules more more₂ e = in_order rules more ∙ ap (λ (v : Ruling). or_else (refusal rules) v) e ∙ sym (in_order rules more₂)
 
-pub both_fine : (rules more : List Rule) → refusal (rules ++ more) ≡ Fine → (refusal rules ≡ Fine) × (refusal more ≡ Fine)
+pub both_fine : (rules more : List Rule) → refusal (rules ++ more) ≡ Ok tt → (refusal rules ≡ Ok tt) × (refusal more ≡ Ok tt)
 both_fine rules more e = go (refusal rules) refl (sym (in_order rules more) ∙ e)
   where
-    go : (v : Ruling) → refusal rules ≡ v → or_else v (refusal more) ≡ Fine → (refusal rules ≡ Fine) × (refusal more ≡ Fine)
-    go Fine q e = (q, e)
-    go (Refused m k) q e = absurd (not_fine (sym e))
+    go : (v : Ruling) → refusal rules ≡ v → or_else v (refusal more) ≡ Ok tt → (refusal rules ≡ Ok tt) × (refusal more ≡ Ok tt)
+    go (Ok u) q e = (q, e)
+    go (Err why) q e = absurd (not_fine (sym e))
 
 pub both_say : (rules more : List Rule) → AllSay rules → AllSay more → AllSay (rules ++ more)
 unfolding AllSay

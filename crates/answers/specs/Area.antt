@@ -1,10 +1,12 @@
 -- An answer in numbers, and the 32 bytes of the answer area: four numbers, eight little-endian bytes each.
 -- Assumes nothing.
-use Rattle.std.specs.Prelude.{◌≡◌, List, ◌++◌, ℕ, eqb, length}
+use Rattle.std.specs.Prelude.{◌≡◌, List, ◌++◌, ℕ, eqb, length, Result, Ok, Err}
 use Rattle.ground.specs.Choose.{choose}
 use Rattle.little.specs.Little.{le}
-use Rattle.answers.specs.declared.Ruling.{Ruling}
-use Rattle.answers.specs.declared.Ruling.TheVariants.{Fine, Refused}
+use Rattle.answers.specs.declared.Reason.{Reason}
+use Rattle.answers.specs.declared.Reason.TheVariants.{CircuitSize, CircuitLayout, ManyInputs, NoOutput, FaultsSize, FaultLayout, PatternsSize, PatternByte, BufferSize, NoRoom, TableSize, TableByte, BenchSyntax, BenchName, BenchCycle, NoPattern, StateRecords, UnfoldedSize, StepCount, NotOpened}
+use Rattle.answers.specs.declared.Refusal.{Refusal}
+use Rattle.answers.specs.Rules.{Ruling}
 
 pub record Four : Type 0 where
   pub first : ℕ
@@ -14,6 +16,29 @@ pub record Four : Type 0 where
 
 unfoldable pub area_of : Four → List ℕ
 area_of w = le 8 w.first ++ le 8 w.second ++ le 8 w.third ++ le 8 w.fourth
+
+-- the numbers of the refusals
+abbrev pub number_of : Reason → ℕ
+number_of CircuitSize = 1
+number_of CircuitLayout = 2
+number_of ManyInputs = 4
+number_of NoOutput = 5
+number_of FaultsSize = 6
+number_of FaultLayout = 7
+number_of PatternsSize = 8
+number_of PatternByte = 9
+number_of BufferSize = 10
+number_of NoRoom = 11
+number_of TableSize = 12
+number_of TableByte = 13
+number_of BenchSyntax = 14
+number_of BenchName = 15
+number_of BenchCycle = 16
+number_of NoPattern = 17
+number_of StateRecords = 18
+number_of UnfoldedSize = 19
+number_of StepCount = 21
+number_of NotOpened = 22
 
 -- an answer in the paper's numbers: the refusal's number or 0, and the values, unused ones 0
 pub record Numbers : Type 0 where
@@ -28,8 +53,13 @@ refused_at number place = record { number = number; values = record { first = pl
 
 -- the numbers by what the rules say, where s are those of success
 abbrev pub told : Ruling → Numbers → Numbers
-told Fine s = s
-told (Refused m k) s = refused_at m k
+told (Ok u) s = s
+told (Err why) s = refused_at (number_of why.0) why.1
+
+-- the same of a part's whole answer, where `good` gives the numbers of its good case
+abbrev pub in_numbers : {A : Type 0} → (A → Numbers) → Result A Refusal → Numbers
+in_numbers good (Ok a) = good a
+in_numbers good (Err why) = refused_at (number_of why.0) why.1
 
 -- those of a part that answers only that it is done
 abbrev pub done : Numbers

@@ -1,4 +1,4 @@
-// What a part answers: fine, or refused with a number and a place; and the 32 bytes in which C reads an answer.
+// Why a part refuses, with a place; and the 32 bytes in which C reads an answer.
 #![tactic(auto)]
 
 ghost use Rattle.std.specs.Prelude.{◌≡◌, ◌<◌, length};
@@ -7,7 +7,7 @@ ghost use Rattle.answers.specs.Rules.{refusal};
 ghost use Rattle.answers.specs.Small.{small_ok};
 ghost use Rattle.answers.specs.Lent.{lent_rules};
 ghost use Rattle.answers.specs.Records.{records_ok};
-ghost use Rattle.answers.specs.Area.{area_of};
+ghost use Rattle.answers.specs.Area.{number_of, area_of};
 
 use little::put_eight;
 
@@ -17,13 +17,64 @@ const EMPTY: usize = 0;
 // The largest byte that is a value or an entry.
 const LARGEST: u8 = 2;
 
-// What a list of rules says.
-#[derive(Drop)]
-pub enum Ruling {
-    Fine,
-    // number, place
-    Refused(u32, usize),
+// Why a part refuses, in the order of the refusals' numbers; the names are those of the C header, where each is told in words.
+#[derive(Clone, Copy, Debug, PartialEq, Eq)]
+pub enum Reason {
+    CircuitSize,
+    CircuitLayout,
+    ManyInputs,
+    NoOutput,
+    FaultsSize,
+    FaultLayout,
+    PatternsSize,
+    PatternByte,
+    BufferSize,
+    NoRoom,
+    TableSize,
+    TableByte,
+    BenchSyntax,
+    BenchName,
+    BenchCycle,
+    NoPattern,
+    StateRecords,
+    UnfoldedSize,
+    StepCount,
+    NotOpened,
 }
+
+impl Reason {
+    // The refusal's number: what C gets, and what is printed.
+    pub fn number(self) -> u32
+        ensures { result ≡ number_of self }
+    {
+        match self {
+            Reason::CircuitSize => 1,
+            Reason::CircuitLayout => 2,
+            Reason::ManyInputs => 4,
+            Reason::NoOutput => 5,
+            Reason::FaultsSize => 6,
+            Reason::FaultLayout => 7,
+            Reason::PatternsSize => 8,
+            Reason::PatternByte => 9,
+            Reason::BufferSize => 10,
+            Reason::NoRoom => 11,
+            Reason::TableSize => 12,
+            Reason::TableByte => 13,
+            Reason::BenchSyntax => 14,
+            Reason::BenchName => 15,
+            Reason::BenchCycle => 16,
+            Reason::NoPattern => 17,
+            Reason::StateRecords => 18,
+            Reason::UnfoldedSize => 19,
+            Reason::StepCount => 21,
+            Reason::NotOpened => 22,
+        }
+    }
+}
+
+// A refusal: why, and the place.
+#[derive(Clone, Copy, Debug, PartialEq, Eq)]
+pub struct Refusal(pub Reason, pub usize);
 
 // Whether so many bytes are whole records of a width: at least one, and at most `most`.
 pub fn records_ok(bytes: usize, width: usize, most: usize) -> bool
@@ -55,16 +106,16 @@ pub fn first_big(bytes: &[u8]) -> usize
 }
 
 // Refusal 10 for two lent buffers: each has its size.
-pub fn check_lent(size: usize, lent: usize, size2: usize, lent2: usize) -> Ruling
+pub fn check_lent(size: usize, lent: usize, size2: usize, lent2: usize) -> Result<(), Refusal>
     ensures { result ≡ refusal (lent_rules size lent size2 lent2) }
 {
     if lent != size {
-        return Ruling::Refused(10, 0);
+        return Err(Refusal(Reason::BufferSize, 0));
     }
     if lent2 != size2 {
-        return Ruling::Refused(10, 0);
+        return Err(Refusal(Reason::BufferSize, 0));
     }
-    Ruling::Fine
+    Ok(())
 }
 
 // Writes the four numbers of an answer.

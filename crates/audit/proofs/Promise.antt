@@ -4,7 +4,7 @@ use mathlib.Core.Path.{◌≡◌, refl, sym, ap, ◌∙◌}
 use mathlib.Core.Logic.{◌↔◌}
 use mathlib.Core.List.{List}
 use Prim.Native.Nat.{ℕ}
-use Rattle.answers.specs.declared.Ruling.{Ruling}
+use Rattle.answers.specs.Rules.{Ruling}
 use Rattle.answers.specs.Rules.{refusal}
 use Rattle.answers.specs.Answer.{answered}
 use Rattle.answers.proofs.Answer.{numbers-told, was_ruled}
@@ -17,31 +17,32 @@ use Rattle.findings.specs.Findings.{finding_of}
 use Rattle.findings.specs.Words.{Finds, ZeroOrOne}
 use Rattle.findings.proofs.Finds.{finding_words}
 use Rattle.findings.proofs.Sound.{sound_words}
-use Rattle.audit.specs.declared.Audited.{Audited}
-use Rattle.audit.specs.declared.Audited.TheVariants.{Found, Refused}
 use Rattle.audit.specs.Promise.{audited_numbers, Audits}
 use Rattle.audit.proofs.Says.{ruled}
+use Rattle.std.specs.Prelude.{Ok, Err, Result}
+use Rattle.answers.specs.declared.Refusal.{Refusal}
+use Rattle.answers.specs.declared.Reason.{Reason}
 
 module _ {F P : ℕ} {t m : List ℕ} where
   -- two answers that the promise allows are equal
-  pub one_answer : {r s : Audited} → Audits F P t m r → Audits F P t m s → r ≡ s
+  pub one_answer : {r s : Result Finding Refusal} → Audits F P t m r → Audits F P t m s → r ≡ s
   one_answer p q = p.answer ∙ sym q.answer
 
   -- ---- what a finding says
 
-  module _ {r : Audited} (so : Audits F P t m r) where
+  module _ {r : Result Finding Refusal} (so : Audits F P t m r) where
     -- the finding is given exactly if nothing is refused and the words say it
-    pub found_words : (x : Finding) → (r ≡ Found x) ↔ ((refusal (kept_rules F P t m) ≡ Ruling.Fine) × Finds (entries_of F t) F P m x)
+    pub found_words : (x : Finding) → (r ≡ Ok x) ↔ ((refusal (kept_rules F P t m) ≡ Ok tt) × Finds (entries_of F t) F P m x)
     found_words x = (
       λ e.
-          let fine : refusal (kept_rules F P t m) ≡ Ruling.Fine = was_ruled (ruled _) so.answer (rw e) in
-          let q : Found (finding_of (entries_of F t) F P m) ≡ Found x = sym (so.answer ∙ rw fine) ∙ e in
+          let fine : refusal (kept_rules F P t m) ≡ Ok tt = was_ruled (ruled _) so.answer (rw e) in
+          let q : Ok (finding_of (entries_of F t) F P m) ≡ Ok x = sym (so.answer ∙ rw fine) ∙ e in
           (fine, (finding_words (entries_of F t) F P m x).0 (cc)),
-      λ w. so.answer ∙ rw w.0 (ap Found ((finding_words (entries_of F t) F P m x).1 w.1)),
+      λ w. so.answer ∙ rw w.0 (ap Ok ((finding_words (entries_of F t) F P m x).1 w.1)),
     )
 
     -- sound exactly if, moreover, all marks are 0 or 1, every need is met and no kept pattern can be spared alone
-    pub found_sound : (r ≡ Found Sound) ↔ ((refusal (kept_rules F P t m) ≡ Ruling.Fine) × (ZeroOrOne P m × needs.Sound (entries_of F t) F P m))
+    pub found_sound : (r ≡ Ok Sound) ↔ ((refusal (kept_rules F P t m) ≡ Ok tt) × (ZeroOrOne P m × needs.Sound (entries_of F t) F P m))
     found_sound = (
       λ e. let w = (found_words Sound).0 e in (w.0, (sound_words (entries_of F t) F P m).0 w.1),
       λ w. (found_words Sound).1 (w.0, (sound_words (entries_of F t) F P m).1 w.1),
@@ -49,15 +50,15 @@ module _ {F P : ℕ} {t m : List ℕ} where
 
   -- ---- as the code comes to it
 
-  audits : {r : Audited} → r ≡ answered Refused (refusal (kept_rules F P t m)) (Found (finding_of (entries_of F t) F P m)) → Audits F P t m r
+  audits : {r : Result Finding Refusal} → r ≡ answered (refusal (kept_rules F P t m)) (finding_of (entries_of F t) F P m) → Audits F P t m r
   unfolding audited_numbers
   audits e = record {
     answer = e;
-    numbers = ap audited_numbers e ∙ numbers-told audited_numbers (λ n k. refl) (refusal (kept_rules F P t m)) (Found (finding_of (entries_of F t) F P m));
+    numbers = ap audited_numbers e ∙ numbers-told audited_numbers (λ n k. refl) (refusal (kept_rules F P t m)) (Ok (finding_of (entries_of F t) F P m));
   }
 
-  pub marks_refused : {number place : ℕ} → refusal (kept_rules F P t m) ≡ Ruling.Refused number place → Audits F P t m (Refused number place)
+  pub marks_refused : {reason : Reason} {place : ℕ} → refusal (kept_rules F P t m) ≡ Err (reason, place) → Audits F P t m (Err (reason, place))
   marks_refused e = audits (rw e)
 
-  pub marks_fine : {x : Finding} → refusal (kept_rules F P t m) ≡ Ruling.Fine → x ≡ finding_of (entries_of F t) F P m → Audits F P t m (Found x)
-  marks_fine e is = audits (rw e (ap Found is))
+  pub marks_fine : {x : Finding} → refusal (kept_rules F P t m) ≡ Ok tt → x ≡ finding_of (entries_of F t) F P m → Audits F P t m (Ok x)
+  marks_fine e is = audits (rw e (ap Ok is))

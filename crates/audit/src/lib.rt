@@ -9,19 +9,11 @@ ghost use Rattle.findings.specs.Findings.{finding_of};
 ghost use Rattle.inspect.specs.Owed.{MarksReady};
 ghost use Rattle.audit.specs.Promise.{Audits};
 
-use answers::Ruling;
+use answers::Refusal;
 use findings::Finding;
 use inspect::{find, first_bad};
 use tables::check_marks;
 use tallies::tally;
-
-// What the audit answers.
-#[derive(Drop)]
-pub enum Audited {
-    Found(Finding),
-    // number, place
-    Refused(u32, usize),
-}
 
 // Of marks that are all 0 or 1, over counts that are all 0: tallies the kept patterns and the dropped ones, and looks.
 fn tally_both(
@@ -100,16 +92,14 @@ fn audit_table(faults: usize, patterns: usize, table: &[u8], marks: &[u8]) -> Fi
 }
 
 // The audit.
-pub fn audit(fault_count: u64, pattern_count: u64, table: &[u8], marks: &[u8]) -> Audited
+pub fn audit(fault_count: u64, pattern_count: u64, table: &[u8], marks: &[u8]) -> Result<Finding, Refusal>
     ensures { Audits fault_count pattern_count table.now marks.now result }
 {
-    match check_marks(fault_count, pattern_count, table, marks) {
-        Ruling::Refused(number, place) => Audited::Refused(number, place),
-        Ruling::Fine => Audited::Found(audit_table(
-            fault_count as usize,
-            pattern_count as usize,
-            table,
-            marks,
-        )),
-    }
+    check_marks(fault_count, pattern_count, table, marks)?;
+    Ok(audit_table(
+        fault_count as usize,
+        pattern_count as usize,
+        table,
+        marks,
+    ))
 }

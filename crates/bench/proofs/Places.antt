@@ -7,8 +7,7 @@ use native.Mathlib.Omega.{arith}
 use lib.ListN.{length, get_or}
 use Rattle.ground.specs.Put.{laid_on}
 use Rattle.ground.proofs.Grow.{grow-same}
-use Rattle.answers.specs.declared.Ruling.{Ruling}
-use Rattle.answers.specs.declared.Ruling.TheVariants.{Fine}
+use Rattle.answers.specs.Rules.{Ruling}
 use Rattle.answers.specs.Rules.{refusal}
 use Rattle.answers.proofs.Rules.{both_fine}
 use Rattle.answers.proofs.Answer.{was_ruled}
@@ -19,8 +18,6 @@ use Rattle.order.specs.Order.{cycle_rules}
 use Rattle.order.proofs.Says.{order_inside, full_order}
 use Rattle.records.specs.Net.{gates_of, net_size, number_on}
 use Rattle.places.specs.Owed.{number_by, place_by, places_by, PutPlacesReady}
-use Rattle.nets.specs.declared.Read.{Read}
-use Rattle.nets.specs.declared.Read.TheVariants.{Records, Refused}
 use Rattle.nets.specs.Rules.{net_rules}
 use Rattle.nets.proofs.Order.{few_lines}
 use Rattle.texts.specs.Text.{forms_in, defs_in, uses_in, net_in, place_on, places_in}
@@ -29,22 +26,25 @@ use Rattle.bench.specs.Promise.{records_in}
 use Rattle.bench.specs.Owed.{TextDone}
 use Rattle.texts.proofs.Numbers.{size_is, numbers_below, each_number}
 use Rattle.bench.proofs.Says.{ruling_of, ruled}
+use Rattle.std.specs.Prelude.{Ok, Err, Result}
+use Rattle.answers.specs.declared.Refusal.{Refusal}
+use Rattle.answers.specs.declared.Reason.{Reason}
 
 -- where something is refused, no place is written
 pub unplaced : {t ws es fs defs numbers : List ℕ} {inputs : ℕ} → DefsKnown t ws es fs inputs defs numbers
-    → {order c c' p : List ℕ} {r : Read} {number place : ℕ} → UsesDone t order c c' r → r ≡ Refused number place → TextDone t p p c c' (Refused number place)
+    → {order c c' p : List ℕ} {r : Result ℕ Refusal} {reason : Reason} {place : ℕ} → UsesDone t order c c' r → r ≡ Err (reason, place) → TextDone t p p c c' (Err (reason, place))
 unplaced {t} u {c = c} {c'} {number = number} {place} o e =
-    let refused : refusal (text_rules t (length c)) ≡ Ruling.Refused number place = was_ruled (ruled _) o.done.answer (ap ruling_of e) in
+    let refused : refusal (text_rules t (length c)) ≡ Err (reason, place) = was_ruled (ruled _) o.done.answer (ap ruling_of e) in
     let same : c' ≡ c = rw refused at o.done.memory in
     record { answer = rw e at o.done.answer; memory = rw (refused, same) }
 
 -- where nothing is
-module _ {t ws es fs defs numbers : List ℕ} {inputs : ℕ} (u : DefsKnown t ws es fs inputs defs numbers) {order c c' : List ℕ} {r : Read}
-    (o : UsesDone t order c c' r) {n : ℕ} (e : r ≡ Records n) where
-  fine : refusal (text_rules t (length c)) ≡ Fine
+module _ {t ws es fs defs numbers : List ℕ} {inputs : ℕ} (u : DefsKnown t ws es fs inputs defs numbers) {order c c' : List ℕ} {r : Result ℕ Refusal}
+    (o : UsesDone t order c c' r) {n : ℕ} (e : r ≡ Ok n) where
+  fine : refusal (text_rules t (length c)) ≡ Ok tt
   fine = was_ruled (ruled _) o.done.answer (ap ruling_of e)
 
-  net_fine : refusal (net_rules (net_in t) (length c)) ≡ Fine
+  net_fine : refusal (net_rules (net_in t) (length c)) ≡ Ok tt
   net_fine = (both_fine (name_rules t (defs_in t) (uses_in t)) _ fine).1
 
   all_placed : length order ≡ gates_of (net_in t)
@@ -94,7 +94,7 @@ module _ {t ws es fs defs numbers : List ℕ} {inputs : ℕ} (u : DefsKnown t ws
   unfolding places_in
   places_are = grow-same (λ _. place_by defs numbers order) (λ _. place_on t) (length defs) (λ k l. same_place k) ∙ rw defs_long
 
-  pub placed : {p p' : List ℕ} → p' ≡ laid_on p (places_by defs numbers order) → TextDone t p p' c c' (Records n)
+  pub placed : {p p' : List ℕ} → p' ≡ laid_on p (places_by defs numbers order) → TextDone t p p' c c' (Ok n)
   placed {p} {p'} q =
       let lines : p' ≡ laid_on p (places_in t) = q ∙ ap (laid_on p) places_are in
       let records : c' ≡ laid_on c (records_in t) = rw fine at o.done.memory in

@@ -4,7 +4,7 @@ use mathlib.Core.Path.{◌≡◌, refl}
 use mathlib.Core.List.{List}
 use Prim.Native.Nat.{ℕ}
 use lib.ListN.{length}
-use Rattle.answers.specs.declared.Ruling.{Ruling}
+use Rattle.answers.specs.Rules.{Ruling}
 use Rattle.answers.specs.Rules.{Applies, AllSay}
 use Rattle.answers.proofs.Rules.{both_say}
 use Rattle.answers.proofs.Answer as answer
@@ -13,11 +13,12 @@ use Rattle.syntax.specs.Syntax.{syntax_rules}
 use Rattle.syntax.proofs.Says.{syntax_says}
 use Rattle.names.specs.Names.{name_rules}
 use Rattle.names.proofs.Says.{names_say}
-use Rattle.nets.specs.declared.Read.{Read}
-use Rattle.nets.specs.declared.Read.TheVariants.{Records, Refused}
 use Rattle.nets.proofs.Says.{net_says}
 use Rattle.texts.specs.Text.{defs_in, uses_in, net_in}
 use Rattle.bench.specs.Promise.{bench_rules, read_of, Reads}
+use Rattle.std.specs.Prelude.{Ok, Err, Result}
+use Rattle.answers.specs.declared.Refusal.{Refusal}
+use Rattle.answers.specs.declared.Reason.{Reason}
 
 pub bench_says : (t : List ℕ) (room : ℕ) → AllSay (bench_rules t room)
 bench_says t room =
@@ -25,18 +26,18 @@ bench_says t room =
     (both_say (name_rules t (defs_in t) (uses_in t)) _ (names_say t (defs_in t) (uses_in t)) (net_says (net_in t) room))
 
 -- what was ruled, by the answer
-abbrev pub ruling_of : Read → Ruling
-ruling_of (Records n) = Ruling.Fine
-ruling_of (Refused number place) = Ruling.Refused number place
+abbrev pub ruling_of : Result ℕ Refusal → Ruling
+ruling_of (Ok n) = Ok tt
+ruling_of (Err why) = Err why
 
-pub ruled : (n : ℕ) → Ruled Refused ruling_of (Records n)
+pub ruled : (n : ℕ) → Ruled ruling_of (Ok n)
 ruled n = record { refuses = λ x y. refl; accepts = refl }
 
-module _ {t c c' : List ℕ} {r : Read} (p : Reads t c c' r) (number place : ℕ) where
-  pub refused_applies : r ≡ Refused number place → Applies (bench_rules t (length c)) number place
+module _ {t c c' : List ℕ} {r : Result ℕ Refusal} (p : Reads t c c' r) (reason : Reason) (place : ℕ) where
+  pub refused_applies : r ≡ Err (reason, place) → Applies (bench_rules t (length c)) reason place
   unfolding read_of
-  refused_applies = answer.refused_applies (ruled _) (bench_rules t (length c)) (bench_says t (length c)) p.answer number place
+  refused_applies = answer.refused_applies (ruled _) (bench_rules t (length c)) (bench_says t (length c)) p.answer reason place
 
-  pub applies_refused : Applies (bench_rules t (length c)) number place → r ≡ Refused number place
+  pub applies_refused : Applies (bench_rules t (length c)) reason place → r ≡ Err (reason, place)
   unfolding read_of
-  applies_refused = answer.applies_refused (ruled _) (bench_rules t (length c)) (bench_says t (length c)) p.answer number place
+  applies_refused = answer.applies_refused (ruled _) (bench_rules t (length c)) (bench_says t (length c)) p.answer reason place

@@ -8,9 +8,8 @@ ghost use Rattle.bench.specs.Promise.{bench_rules, Reads};
 ghost use Rattle.texts.specs.Owed.{ReadUsesReady, ReadDefsReady, ReadLinesReady};
 ghost use Rattle.bench.specs.Owed.{PlacesDone, TextDone};
 
-use answers::Ruling;
+use answers::Refusal;
 use forms::put_forms;
-use nets::Read;
 use places::put_places;
 use statements::put_defs;
 use syntax::check_text;
@@ -31,21 +30,16 @@ fn read_placed(
     order: &mut [u16],
     places: &mut [u16],
     circuit: &mut [u8],
-) -> Read
+) -> Result<usize, Refusal>
     requires read_uses_ready { ReadUsesReady text.now words.now ends.now forms.now gates defs.now numbers.now order.old }
     requires places_len { length places.old ≡ 2048 }
     ensures { TextDone text.now places.old places.new circuit.old circuit.new result }
 {
-    let v = read_uses(
+    let n = read_uses(
         text, words, ends, forms, gates, defs, numbers, order, circuit,
-    );
-    match v {
-        Read::Refused(number, place) => Read::Refused(number, place),
-        Read::Records(n) => {
-            put_places(defs, numbers, order, places);
-            Read::Records(n)
-        }
-    }
+    )?;
+    put_places(defs, numbers, order, places);
+    Ok(n)
 }
 
 // The names that are defined.
@@ -60,7 +54,7 @@ fn read_defs_in(
     order: &mut [u16],
     places: &mut [u16],
     circuit: &mut [u8],
-) -> Read
+) -> Result<usize, Refusal>
     requires read_defs_ready { ReadDefsReady text.now words.now ends.now forms.now × (gates ≡ gates_in forms.now) }
     requires defs_len { (length defs.old ≡ 8193) × (length numbers.old ≡ 8193) × (length order.old ≡ gates) × (length places.old ≡ 2048) }
     ensures { TextDone text.now places.old places.new circuit.old circuit.new result }
@@ -88,7 +82,7 @@ fn read_defs(
     gates: usize,
     places: &mut [u16],
     circuit: &mut [u8],
-) -> Read
+) -> Result<usize, Refusal>
     requires read_defs_ready { ReadDefsReady text.now words.now ends.now forms.now × (gates ≡ gates_in forms.now) }
     requires places_len { length places.old ≡ 2048 }
     ensures { TextDone text.now places.old places.new circuit.old circuit.new result }
@@ -118,7 +112,7 @@ fn read_lines_in(
     forms: &mut [u8],
     places: &mut [u16],
     circuit: &mut [u8],
-) -> Read
+) -> Result<usize, Refusal>
     requires read_lines_ready { ReadLinesReady text.now words.now ends.now × (length forms.old ≡ length ends.now) × (length ends.now ≤ 32769) }
     requires places_len { length places.old ≡ 2048 }
     ensures { TextDone text.now places.old places.new circuit.old circuit.new result }
@@ -133,7 +127,7 @@ fn read_lines(
     ends: &[u16],
     places: &mut [u16],
     circuit: &mut [u8],
-) -> Read
+) -> Result<usize, Refusal>
     requires read_lines_ready { ReadLinesReady text.now words.now ends.now × (length ends.now ≤ 32769) }
     requires places_len { length places.old ≡ 2048 }
     ensures { TextDone text.now places.old places.new circuit.old circuit.new result }
@@ -150,7 +144,7 @@ fn read_words_in(
     ends: &mut [u16],
     places: &mut [u16],
     circuit: &mut [u8],
-) -> Read
+) -> Result<usize, Refusal>
     requires { CutRoom text.now words.old ends.old × (length places.old ≡ 2048) }
     ensures { TextDone text.now places.old places.new circuit.old circuit.new result }
 {
@@ -164,7 +158,7 @@ fn read_words_in(
     )
 }
 
-fn read_words(text: &[u8], places: &mut [u16], circuit: &mut [u8]) -> Read
+fn read_words(text: &[u8], places: &mut [u16], circuit: &mut [u8]) -> Result<usize, Refusal>
     requires { (length text.now ≤ 32768) × (length places.old ≡ 2048) }
     ensures { TextDone text.now places.old places.new circuit.old circuit.new result }
 {
@@ -174,20 +168,17 @@ fn read_words(text: &[u8], places: &mut [u16], circuit: &mut [u8]) -> Read
 }
 
 // The reader, with the places of the names for whoever asks for them.
-pub fn read_text(text: &[u8], places: &mut [u16], circuit: &mut [u8]) -> Read
+pub fn read_text(text: &[u8], places: &mut [u16], circuit: &mut [u8]) -> Result<usize, Refusal>
     requires { length places.old ≡ 2048 }
     ensures { PlacesDone (bench_rules text.now (length circuit.old)) text.now
         places.old places.new circuit.old circuit.new result }
 {
-    let v = check_text(text);
-    match v {
-        Ruling::Refused(number, place) => Read::Refused(number, place),
-        Ruling::Fine => read_words(text, places, circuit),
-    }
+    check_text(text)?;
+    read_words(text, places, circuit)
 }
 
 // The reader: how many records it wrote, or the first refusal.
-pub fn bench(text: &[u8], circuit: &mut [u8]) -> Read
+pub fn bench(text: &[u8], circuit: &mut [u8]) -> Result<usize, Refusal>
     ensures { Reads text.now circuit.old circuit.new result }
 {
     let mut places = [0u16; 2048];

@@ -8,8 +8,7 @@ use lib.ListN.{length, take, drop}
 use lib.Seq.{take_at}
 use Rattle.ground.specs.Put.{laid_on}
 use Rattle.ground.proofs.Grow.{table-length}
-use Rattle.answers.specs.declared.Ruling.{Ruling}
-use Rattle.answers.specs.declared.Ruling.TheVariants.{Fine}
+use Rattle.answers.specs.Rules.{Ruling}
 use Rattle.answers.specs.Answer.{answered}
 use Rattle.answers.specs.Owed.{RulesDone}
 use Rattle.answers.specs.Rules.{refusal}
@@ -18,8 +17,6 @@ use Rattle.answers.proofs.Answer.{numbers-told, was_ruled, first_refused, first_
 use Rattle.circuit.specs.Record.{lines_of}
 use Rattle.records.specs.Net.{net_size}
 use Rattle.netlist.proofs.Fields.{net_lines}
-use Rattle.nets.specs.declared.Read.{Read}
-use Rattle.nets.specs.declared.Read.TheVariants.{Records, Refused}
 use Rattle.nets.specs.Rules.{buffer_bytes}
 use Rattle.nets.proofs.Order.{few_lines}
 use Rattle.names.specs.Names.{name_rules}
@@ -30,8 +27,11 @@ use Rattle.bench.specs.Owed.{PlacesDone}
 use Rattle.bench.proofs.Says.{ruling_of, ruled}
 use Rattle.bench_names.specs.Promise.{place_count_rules, place_rules, names_answer, TellsNames}
 use Rattle.bench_names.specs.Owed.{HandOverDone}
+use Rattle.std.specs.Prelude.{Ok, Err, Result}
+use Rattle.answers.specs.declared.Refusal.{Refusal}
+use Rattle.answers.specs.declared.Reason.{Reason}
 
-names_done : {t p p' : List ℕ} {r : Read} → RulesDone Refused (place_rules t (length p)) (Records (lines_of (records_in t))) p (laid_on p (places_in t)) r p' → TellsNames t p p' r
+names_done : {t p p' : List ℕ} {r : Result ℕ Refusal} → RulesDone (place_rules t (length p)) (lines_of (records_in t)) p (laid_on p (places_in t)) r p' → TellsNames t p p' r
 unfolding names_answer read_numbers
 names_done {t} {p} d = record {
   answer = d.answer;
@@ -41,21 +41,21 @@ names_done {t} {p} d = record {
 
 -- ---- what the reader leaves, with a buffer of its size
 
-module _ (t : List ℕ) {f f' c c' : List ℕ} {v : Read} (size : length c ≡ buffer_bytes) (d : PlacesDone (bench_rules t (length c)) t f f' c c' v) where
-  answer_is : v ≡ answered Refused (refusal (bench_rules t buffer_bytes)) (Records (lines_of (records_in t)))
-  answer_is = d.answer ∙ ap (λ (n : ℕ). answered Refused (refusal (bench_rules t n)) (Records (lines_of (records_in t)))) size
+module _ (t : List ℕ) {f f' c c' : List ℕ} {v : Result ℕ Refusal} (size : length c ≡ buffer_bytes) (d : PlacesDone (bench_rules t (length c)) t f f' c c' v) where
+  answer_is : v ≡ answered (refusal (bench_rules t buffer_bytes)) (lines_of (records_in t))
+  answer_is = d.answer ∙ ap (λ (n : ℕ). answered (refusal (bench_rules t n)) (lines_of (records_in t))) size
 
   -- it refuses
-  pub names_refused : {p : List ℕ} {number place : ℕ} → v ≡ Refused number place → TellsNames t p p (Refused number place)
+  pub names_refused : {p : List ℕ} {reason : Reason} {place : ℕ} → v ≡ Err (reason, place) → TellsNames t p p (Err (reason, place))
   names_refused e = names_done (first_refused (bench_rules t buffer_bytes) _ (was_ruled (ruled _) answer_is (ap ruling_of e)))
 
   -- it has found n places
-  module _ {n : ℕ} (e : v ≡ Records n) where
-    fine : refusal (bench_rules t buffer_bytes) ≡ Fine
+  module _ {n : ℕ} (e : v ≡ Ok n) where
+    fine : refusal (bench_rules t buffer_bytes) ≡ Ok tt
     fine = was_ruled (ruled _) answer_is (ap ruling_of e)
 
     count_is : n ≡ lines_of (records_in t)
-    count_is = let a = answer_is ∙ ap (λ (w : Ruling). answered Refused w (Records (lines_of (records_in t)))) fine in cc (a, e)
+    count_is = let a = answer_is ∙ ap (λ (w : Ruling). answered w (lines_of (records_in t))) fine in cc (a, e)
 
     lines_are : n ≡ net_size (net_in t)
     lines_are = count_is ∙ net_lines (net_in t)
@@ -78,12 +78,12 @@ module _ (t : List ℕ) {f f' c c' : List ℕ} {v : Read} (size : length c ≡ b
     pub found_few : length (take n f') ≤ 2048
     found_few = rw (found-is, places_long, ← count_is) few
 
-    pub names_found : {p p' : List ℕ} {r : Read} → HandOverDone (take n f') p p' r → TellsNames t p p' r
+    pub names_found : {p p' : List ℕ} {r : Result ℕ Refusal} → HandOverDone (take n f') p p' r → TellsNames t p p' r
     names_found {p} {p'} {r} h =
         let over = subst (λ (l : List ℕ). HandOverDone l p p' r) found-is h in
-        let counted = ap (λ (m : ℕ). answered Refused (refusal (place_count_rules (length p))) (Records m)) places_long in
+        let counted = ap (λ (m : ℕ). answered (refusal (place_count_rules (length p))) m) places_long in
         names_done (first_fine (bench_rules t buffer_bytes) _ fine (record { answer = over.answer ∙ counted; memory = over.memory }))
 
 -- two allowed results are equal
-pub one_result : {t p p' p'' : List ℕ} {r s : Read} → TellsNames t p p' r → TellsNames t p p'' s → (r ≡ s) × (p' ≡ p'')
+pub one_result : {t p p' p'' : List ℕ} {r s : Result ℕ Refusal} → TellsNames t p p' r → TellsNames t p p'' s → (r ≡ s) × (p' ≡ p'')
 one_result p q = (cc, cc)

@@ -5,43 +5,40 @@ ghost use Rattle.std.specs.Prelude.{◌≡◌, ◌≤◌, length};
 ghost use Rattle.bench_names.specs.Promise.{TellsNames};
 ghost use Rattle.bench_names.specs.Owed.{HandOverDone};
 
+use answers::{Reason, Refusal};
 use bench::read_text;
 use ground::wide16;
-use nets::Read;
 
 // How many places are lent.
 const PLACES: usize = 2048;
 
 // Refusal 10, or the places in the lent ones.
-fn hand_over(found: &[u16], places: &mut [u32]) -> Read
+fn hand_over(found: &[u16], places: &mut [u32]) -> Result<usize, Refusal>
     requires { length found.now ≤ 2048 }
     ensures { HandOverDone found.now places.old places.new result }
 {
     if places.len() != PLACES {
-        return Read::Refused(10, 0);
+        return Err(Refusal(Reason::BufferSize, 0));
     }
     let mut k = 0;
     while k < found.len() {
         places[k] = wide16(found[k]) as u32;
         k += 1;
     }
-    Read::Records(k)
+    Ok(k)
 }
 
 // In memory for the places and for the records, which the reader checks.
-fn bench_names_in(text: &[u8], found: &mut [u16], circuit: &mut [u8], places: &mut [u32]) -> Read
+fn bench_names_in(text: &[u8], found: &mut [u16], circuit: &mut [u8], places: &mut [u32]) -> Result<usize, Refusal>
     requires { (length found.old ≡ 2048) × (length circuit.old ≡ 16384) }
     ensures { TellsNames text.now places.old places.new result }
 {
-    let v = read_text(text, found, circuit);
-    match v {
-        Read::Refused(number, place) => Read::Refused(number, place),
-        Read::Records(n) => hand_over(&found[..n], places),
-    }
+    let n = read_text(text, found, circuit)?;
+    hand_over(&found[..n], places)
 }
 
 // Where the names begin: how many lines there are, or the first refusal.
-pub fn bench_names(text: &[u8], places: &mut [u32]) -> Read
+pub fn bench_names(text: &[u8], places: &mut [u32]) -> Result<usize, Refusal>
     ensures { TellsNames text.now places.old places.new result }
 {
     let mut found = [0u16; 2048];

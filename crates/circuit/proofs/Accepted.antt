@@ -6,20 +6,21 @@ use mathlib.Core.List.{List}
 use Prim.Native.Nat.{ℕ}
 use native.Mathlib.Omega.{arith}
 use Rattle.ground.proofs.Tests.{either}
-use Rattle.answers.specs.declared.Ruling.{Ruling}
 use Rattle.answers.specs.Rules.{refusal, AllHold}
-use Rattle.answers.proofs.Rules.{all_hold, both_fine}
-use Rattle.answers.proofs.Answer.{was_ruled}
+use Rattle.answers.proofs.Rules.{all_hold, both_fine, same_good}
+use Rattle.answers.proofs.Answer.{ruling_of, was_ruled}
 use Rattle.gates.specs.Gate.{pins_of}
 use Rattle.gates.proofs.Laws.{gate-pin}
-use Rattle.circuit.specs.declared.Checked.{Checked}
-use Rattle.circuit.specs.declared.Checked.TheVariants.{Accepted, Refused}
+use Rattle.circuit.specs.declared.Counts.{Counts}
 use Rattle.circuit.specs.Record.{kind_at, lines_of, inputs_of, outputs_of}
 use Rattle.circuit.specs.Layout.{Layout}
-use Rattle.circuit.specs.Promise.{layout_rules, count_rules, circuit_rules, check_of, Checks}
+use Rattle.circuit.specs.Promise.{layout_rules, count_rules, circuit_rules, check_of, Checks, counts_are}
 use Rattle.circuit.specs.Formed.{Lower, Good, Accepts, Known}
-use Rattle.circuit.proofs.Says.{circuit_says, ruling_of, ruled}
+use Rattle.circuit.proofs.Says.{circuit_says}
 use Rattle.circuit.proofs.FirstLine.{some-input}
+use Rattle.std.specs.Prelude.{Ok, Err, Result}
+use Rattle.answers.specs.declared.Refusal.{Refusal}
+use Rattle.answers.specs.declared.Reason.{Reason}
 
 -- a gate has a first pin, so its line is not the lowest, and a source that it lacks is lower too
 lower : (c : List ℕ) (k : ℕ) → Layout c k → (kind_at c k ≡ 0 → ⊥) → Lower c k
@@ -27,7 +28,7 @@ lower c k l ne s a b =
     let first = (l.pin 1 (omega arith) (omega arith)).has (gate-pin (kind_at c k) ne) in
     ⊎_elim (λ h. omega (arith, (l.pin s a b).lacks h)) (λ h. (l.pin s a b).has h) (either (pins_of (kind_at c k)) s)
 
-pub good : (c : List ℕ) → refusal (circuit_rules c) ≡ Ruling.Fine → Good c
+pub good : (c : List ℕ) → refusal (circuit_rules c) ≡ Ok tt → Good c
 unfolding layout_rules count_rules AllHold
 good c e =
     let a = all_hold (circuit_rules c) (circuit_says c) e in
@@ -46,19 +47,19 @@ good c e =
     }
 
 -- what the check's answer says
-module _ {c : List ℕ} {r : Checked} where
+module _ {c : List ℕ} {r : Result Counts Refusal} where
   was : Checks c r → refusal (circuit_rules c) ≡ ruling_of r
   unfolding check_of
-  was p = was_ruled (ruled (lines_of c) (inputs_of c) (outputs_of c)) p.answer refl
+  was p = was_ruled _ p.answer refl
 
-  pub accepts : {n m o : ℕ} → r ≡ Accepted n m o → Checks c r → Accepts c n m o
+  pub accepts : {n m o : ℕ} → r ≡ Ok (counts_are n m o) → Checks c r → Accepts c n m o
   unfolding check_of
   accepts {n} {m} {o} told p =
-      let q : refusal (circuit_rules c) ≡ Ruling.Fine = was p ∙ ap ruling_of told in
-      let so : Accepted n m o ≡ Accepted (lines_of c) (inputs_of c) (outputs_of c) = sym told ∙ p.answer ∙ rw q in
-      record { lines = cc; inputs = cc; outputs = cc; fine = q; good = good c q }
+      let q : refusal (circuit_rules c) ≡ Ok tt = was p ∙ ap ruling_of told in
+      let so : counts_are n m o ≡ counts_are (lines_of c) (inputs_of c) (outputs_of c) = same_good (sym told ∙ p.answer ∙ rw q) in
+      record { lines = ap (λ (a : Counts). a.lines) so; inputs = ap (λ (a : Counts). a.inputs) so; outputs = ap (λ (a : Counts). a.outputs) so; fine = q; good = good c q }
 
-  pub refuses : {x y : ℕ} → r ≡ Refused x y → Checks c r → refusal (circuit_rules c) ≡ Ruling.Refused x y
+  pub refuses : {x : Reason} {y : ℕ} → r ≡ Err (x, y) → Checks c r → refusal (circuit_rules c) ≡ Err (x, y)
   refuses told p = was p ∙ ap ruling_of told
 
 -- where the number of outputs does not matter

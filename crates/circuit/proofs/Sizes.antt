@@ -13,8 +13,7 @@ use borrow.Author.Tests.{leb-true}
 use Rattle.ground.specs.Choose.{choose}
 use Rattle.ground.specs.Below.{all_below}
 use Rattle.ground.proofs.Tests.{both}
-use Rattle.answers.specs.declared.Ruling.{Ruling}
-use Rattle.answers.specs.declared.Ruling.TheVariants.{Fine, Refused}
+use Rattle.answers.specs.Rules.{Ruling}
 use Rattle.answers.specs.Rules.{or_else, said, refusal, AllSay, AllHold}
 use Rattle.answers.specs.Records.{records_ok}
 use Rattle.answers.proofs.Rules.{after_refused, fine, all_hold}
@@ -29,14 +28,18 @@ use Rattle.circuit.specs.Sizes.{size_rules, SizesHold}
 use Rattle.circuit.proofs.All.{all_same}
 use Rattle.circuit.proofs.Lines.{layout_same}
 use Rattle.circuit.proofs.Says.{counts_say}
+use Rattle.std.specs.Prelude.{Ok, Err}
+use Rattle.answers.specs.declared.Reason.{Reason}
+use Rattle.answers.specs.declared.Reason.TheVariants.{CircuitSize, CircuitLayout}
+use Rattle.answers.specs.Area.{number_of}
 
 -- no number is above 5
-pub refused_small : (c : List ℕ) {m k : ℕ} → refusal (circuit_rules c) ≡ Refused m k → m ≤ 5
+pub refused_small : (c : List ℕ) {m : Reason} {k : ℕ} → refusal (circuit_rules c) ≡ Err (m, k) → number_of m ≤ 5
 unfolding layout_rules count_rules
-refused_small c = refused_number (λ m. m ≤ 5) (circuit_rules c) (omega arith, (omega arith, (omega arith, (omega arith, tt))))
+refused_small c = refused_number (λ m. number_of m ≤ 5) (circuit_rules c) (omega arith, (omega arith, (omega arith, (omega arith, tt))))
 
 -- more than 2,048 lines are refused before all else
-pub too_many : (c : List ℕ) → 2048 < lines_of c → refusal (circuit_rules c) ≡ Refused 1 0
+pub too_many : (c : List ℕ) → 2048 < lines_of c → refusal (circuit_rules c) ≡ Err (CircuitSize, 0)
 unfolding layout_rules refusal said
 too_many c l = after_refused (layout_rules c) (count_rules (inputs_of c) (outputs_of c)) (rw (too_many_records 8 2048 (length c) l))
 
@@ -45,19 +48,19 @@ unfolding AllSay size_rules
 sizes_say lines inputs outputs = (and_same (le_same _ _) (le_same _ _), counts_say inputs outputs)
 
 -- nothing is refused exactly where the sizes hold
-pub sizes_fine : {lines inputs outputs : ℕ} → SizesHold lines inputs outputs → refusal (size_rules lines inputs outputs) ≡ Fine
+pub sizes_fine : {lines inputs outputs : ℕ} → SizesHold lines inputs outputs → refusal (size_rules lines inputs outputs) ≡ Ok tt
 unfolding AllHold size_rules count_rules
 sizes_fine {lines} {inputs} {outputs} s =
     fine (size_rules lines inputs outputs) (sizes_say lines inputs outputs) ((s.some_lines, s.most_lines), (s.most_inputs, (s.some_outputs, tt)))
 
-pub fine_sizes : (lines inputs outputs : ℕ) → refusal (size_rules lines inputs outputs) ≡ Fine → SizesHold lines inputs outputs
+pub fine_sizes : (lines inputs outputs : ℕ) → refusal (size_rules lines inputs outputs) ≡ Ok tt → SizesHold lines inputs outputs
 unfolding AllHold size_rules count_rules
 fine_sizes lines inputs outputs e =
     let a = all_hold (size_rules lines inputs outputs) (sizes_say lines inputs outputs) e in
     record { some_lines = a.0.0; most_lines = a.0.1; most_inputs = a.1.0; some_outputs = a.1.1.0 }
 
 -- a rule that says nothing where the test of the one before it holds
-passed : (t : Bool) (m : ℕ) {v : Ruling} (x : Ruling) → (t ≡ true → v ≡ Fine) → or_else (choose t Fine (Refused m 0)) (or_else v x) ≡ or_else (choose t Fine (Refused m 0)) x
+passed : (t : Bool) (m : Reason) {v : Ruling} (x : Ruling) → (t ≡ true → v ≡ Ok tt) → or_else (choose {A = Ruling} t (Ok tt) (Err (m, 0))) (or_else v x) ≡ or_else (choose {A = Ruling} t (Ok tt) (Err (m, 0))) x
 passed true m x h = rw (h refl)
 passed false m x h = refl
 
@@ -69,7 +72,7 @@ module _ (c : List ℕ) (n : ℕ) (long : length c ≡ 8 * n) (keeps : n ≤ 204
   unfolding records_ok
   whole_records = rw (long, mul-mod_right 8 n, mul-div_right n {m = 8} (omega arith))
 
-  each_line : n ≤ 2048 → choose (all_below (lines_of c) (line_ok c)) Fine (Refused 2 (bad_byte c)) ≡ Fine
+  each_line : n ≤ 2048 → choose {A = Ruling} (all_below (lines_of c) (line_ok c)) (Ok tt) (Err (CircuitLayout, bad_byte c)) ≡ Ok tt
   each_line few =
       let all : all_below (lines_of c) (line_ok c) ≡ true = rw lines ((all_same n (line_ok c) (λ k _. layout_same c k)).tests (keeps few)) in
       rw all
@@ -79,7 +82,7 @@ module _ (c : List ℕ) (n : ℕ) (long : length c ≡ 8 * n) (keeps : n ≤ 204
   unfolding refusal layout_rules size_rules said
   sizes_decide =
       rw whole_records
-      (passed (leb 1 n && leb n 2048) 1 _ (λ e. each_line (leb-true n 2048 (both (leb 1 n) (leb n 2048) e).1)))
+      (passed (leb 1 n && leb n 2048) CircuitSize _ (λ e. each_line (leb-true n 2048 (both (leb 1 n) (leb n 2048) e).1)))
 
 -- of the outputs it counts only whether there are any
 pub same_sizes : (n m o p : ℕ) → leb 1 o ≡ leb 1 p → refusal (size_rules n m o) ≡ refusal (size_rules n m p)

@@ -1,7 +1,6 @@
 -- What a circuit is that the check accepts, in the words that callers use.
 -- Assumes nothing.
-use Rattle.std.specs.Prelude.{◌≡◌, List, ℕ, ◌*◌, ◌≤◌, ◌<◌, length}
-use Rattle.answers.specs.declared.Ruling.{Ruling}
+use Rattle.std.specs.Prelude.{◌≡◌, List, ℕ, ◌*◌, ◌≤◌, ◌<◌, length, Ok}
 use Rattle.answers.specs.Rules.{refusal}
 use Rattle.gates.specs.Gate.{last_kind}
 use Rattle.circuit.specs.Record.{kind_at, pin_at, lines_of, inputs_before, inputs_of, outputs_of}
@@ -32,7 +31,7 @@ pub record Accepts (c : List ℕ) (n m o : ℕ) : Type 0 where
   pub lines : n ≡ lines_of c
   pub inputs : m ≡ inputs_of c
   pub outputs : o ≡ outputs_of c
-  pub fine : refusal (circuit_rules c) ≡ Ruling.Fine
+  pub fine : refusal (circuit_rules c) ≡ Ok tt
   pub good : Good c
 
 -- an accepted circuit of n lines and m inputs: what a part's inner functions ask for

@@ -4,10 +4,11 @@ use Rattle.std.specs.Prelude.{◌&&◌, List, ◌∷◌, ℕ, ◌≤◌, leb}
 use Rattle.answers.specs.Rules.{Rule}
 use Rattle.answers.specs.Rules.Rule.{whole}
 use Rattle.circuit.specs.Promise.{count_rules}
+use Rattle.answers.specs.declared.Reason.TheVariants.{CircuitSize}
 
 -- 1 to 2,048 lines, not more than 64 inputs, some output
 unfoldable pub size_rules : ℕ → ℕ → ℕ → List Rule
-size_rules lines inputs outputs = whole 1 (leb 1 lines && leb lines 2048) ((1 ≤ lines) × (lines ≤ 2048)) 0 ∷ count_rules inputs outputs
+size_rules lines inputs outputs = whole CircuitSize (leb 1 lines && leb lines 2048) ((1 ≤ lines) × (lines ≤ 2048)) 0 ∷ count_rules inputs outputs
 
 -- all of them hold
 pub record SizesHold (lines inputs outputs : ℕ) : Type 0 where

@@ -10,7 +10,7 @@ ghost use Rattle.circuit.specs.BadByte.{first_byte, bad_field};
 ghost use Rattle.circuit.specs.Owed.{limit_of, CountLinesDone};
 ghost use Rattle.circuit.specs.Promise.{count_rules, counted_of, Checks};
 
-use answers::{Ruling, records_ok};
+use answers::{Reason, Refusal, records_ok};
 use gates::{LAST_KIND, pins};
 use ground::wide;
 use little::pair_at;
@@ -18,13 +18,12 @@ use little::pair_at;
 // The most inputs of a circuit.
 const MOST_INPUTS: usize = 64;
 
-// What the check answers.
-#[derive(Drop)]
-pub enum Checked {
-    // lines, inputs, outputs
-    Accepted(usize, usize, usize),
-    // number, place
-    Refused(u32, usize),
+// How many lines, inputs and outputs an accepted circuit has.
+#[derive(Clone, Copy, Debug, PartialEq, Eq)]
+pub struct Counts {
+    pub lines: usize,
+    pub inputs: usize,
+    pub outputs: usize,
 }
 
 // Lines that keep their layout, the inputs and outputs among them, and where in the record after them the first bad field begins, or 8.
@@ -126,42 +125,43 @@ fn count_lines(circuit: &[u8], n: usize) -> LineCounts
 }
 
 // Refusals 4 and 5.
-fn check_counts(inputs: usize, outputs: usize) -> Ruling
+fn check_counts(inputs: usize, outputs: usize) -> Result<(), Refusal>
     ensures { result ≡ refusal (count_rules inputs outputs) }
 {
     if MOST_INPUTS < inputs {
-        return Ruling::Refused(4, 0);
+        return Err(Refusal(Reason::ManyInputs, 0));
     }
     if outputs < 1 {
-        return Ruling::Refused(5, 0);
+        return Err(Refusal(Reason::NoOutput, 0));
     }
-    Ruling::Fine
+    Ok(())
 }
 
 // The answer on a circuit whose records keep their layout.
-fn counted(n: usize, inputs: usize, outputs: usize) -> Checked
+fn counted(n: usize, inputs: usize, outputs: usize) -> Result<Counts, Refusal>
     ensures { result ≡ counted_of n inputs outputs }
 {
-    let v = check_counts(inputs, outputs);
-    match v {
-        Ruling::Refused(number, place) => Checked::Refused(number, place),
-        Ruling::Fine => Checked::Accepted(n, inputs, outputs),
-    }
+    check_counts(inputs, outputs)?;
+    Ok(Counts {
+        lines: n,
+        inputs,
+        outputs,
+    })
 }
 
 // Part 1: the numbers of lines, inputs and outputs, or the first refusal.
-pub fn check(circuit: &[u8]) -> Checked
+pub fn check(circuit: &[u8]) -> Result<Counts, Refusal>
     ensures { Checks circuit.now result }
 {
     if !records_ok(circuit.len(), 8, 2048) {
-        return Checked::Refused(1, 0);
+        return Err(Refusal(Reason::CircuitSize, 0));
     }
     let n = circuit.len() / 8;
     let counts = count_lines(circuit, n);
     let bad = counts.lines;
     if bad < n {
         let place = 8 * bad + counts.byte;
-        return Checked::Refused(2, place);
+        return Err(Refusal(Reason::CircuitLayout, place));
     }
     counted(n, counts.inputs, counts.outputs)
 }

@@ -11,7 +11,7 @@ use lib.ListN.{length}
 use borrow.Author.Tests.{le-leb, lt-leb}
 use Rattle.ground.proofs.Counting.{count_most}
 use Rattle.ground.specs.Put.{laid_on}
-use Rattle.answers.specs.declared.Ruling.{Ruling}
+use Rattle.answers.specs.Rules.{Ruling}
 use Rattle.answers.specs.Rules.{said, refusal}
 use Rattle.answers.proofs.Answer as answer
 use Rattle.answers.proofs.Answer.{numbers-told, refused_done, fine_done}
@@ -26,10 +26,12 @@ use Rattle.cnf.specs.Cnf.{Clauses, words_of}
 use Rattle.cnf.specs.Owed.{Takes}
 use Rattle.cnf.proofs.Sizes.{words_length}
 use Rattle.clauses.specs.declared.Written.{Written}
-use Rattle.clauses.specs.declared.Written.TheVariants.{Success, Refused}
 use Rattle.line_clauses.specs.Clauses.{clauses_of, variables_of}
-use Rattle.clauses.specs.Promise.{room_rules, clauses_for, clause_rules, written_of, written_numbers, Writes}
+use Rattle.clauses.specs.Promise.{room_rules, clauses_for, clause_rules, written_of, written_numbers, Writes, written_are}
 use Rattle.clauses.specs.Owed.{WholeReady, PutAllReady, ClausesDone}
+use Rattle.std.specs.Prelude.{Ok, Err, Result}
+use Rattle.answers.specs.declared.Refusal.{Refusal}
+use Rattle.answers.specs.declared.Reason.TheVariants.{NoRoom}
 
 -- ---- rule by rule
 
@@ -40,21 +42,21 @@ pub whole_room : {c : List ℕ} {f : Fault} {n outputs : ℕ} {size : Size} {w :
 whole_room p t l = record { counted = p; room = omega (arith, takes_words t) }
 
 module _ {cs : Clauses} {v : ℕ} {w : List ℤ} where
-  pub short : {size : Size} → Takes cs size → length w < size.words → ClausesDone (room_rules (length (words_of cs)) (length w)) cs v w w (Refused 11 size.words)
+  pub short : {size : Size} → Takes cs size → length w < size.words → ClausesDone (room_rules (length (words_of cs)) (length w)) cs v w w (Err (NoRoom, size.words))
   unfolding room_rules refusal said
   short {size} t l =
       let q : leb (length (words_of cs)) (length w) ≡ false = lt-leb (length (words_of cs)) (length w) (omega (arith, takes_words t)) in
       refused_done (rw (q, takes_words t))
 
   pub fits : {size : Size} {w' : List ℤ} {variables : ℕ} → Takes cs size → variables ≡ v → size.words ≤ length w → w' ≡ laid_on w (words_of cs)
-      → ClausesDone (room_rules (length (words_of cs)) (length w)) cs v w w' (Success size.words size.clauses variables)
+      → ClausesDone (room_rules (length (words_of cs)) (length w)) cs v w w' (Ok (written_are size.words size.clauses variables))
   unfolding room_rules refusal said
   fits {size} t d l e =
       let q : leb (length (words_of cs)) (length w) ≡ true = le-leb (length (words_of cs)) (length w) (omega (arith, takes_words t)) in
       fine_done (rw q) (rw (takes_words t, t.clauses, d)) e
 
 -- the fault that is not refused is one record
-pub one_fault : (c fs : List ℕ) → refusal (fault_rules 1 c fs) ≡ Ruling.Fine → Inside fs 0
+pub one_fault : (c fs : List ℕ) → refusal (fault_rules 1 c fs) ≡ Ok tt → Inside fs 0
 one_fault c fs e = record { inside = omega (arith, one_record (length fs) (good_faults 1 c fs e).records) }
 
 -- where the number of inputs does not matter
@@ -72,7 +74,7 @@ counted {c} {n} {m} {o} a =
       few_outputs = omega (arith, count_most n (is_output c));
     }
 
-pub writes : {c fs : List ℕ} {w w' : List ℤ} {r : Written} → ClausesDone (clause_rules c fs (length w)) (clauses_for c (fault_at fs 0)) (variables_of c (lines_of c)) w w' r → Writes c fs w w' r
+pub writes : {c fs : List ℕ} {w w' : List ℤ} {r : Result Written Refusal} → ClausesDone (clause_rules c fs (length w)) (clauses_for c (fault_at fs 0)) (variables_of c (lines_of c)) w w' r → Writes c fs w w' r
 unfolding written_of written_numbers
 writes {c} {fs} {w} p = record {
   answer = p.answer;
@@ -82,5 +84,5 @@ writes {c} {fs} {w} p = record {
 
 -- ---- two allowed results are equal
 
-pub one_result : {c fs : List ℕ} {w w' w'' : List ℤ} {r s : Written} → Writes c fs w w' r → Writes c fs w w'' s → (r ≡ s) × (w' ≡ w'')
+pub one_result : {c fs : List ℕ} {w w' w'' : List ℤ} {r s : Result Written Refusal} → Writes c fs w w' r → Writes c fs w w'' s → (r ≡ s) × (w' ≡ w'')
 one_result p q = (cc, cc)

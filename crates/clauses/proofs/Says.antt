@@ -5,7 +5,7 @@ use mathlib.Core.List.{List}
 use Prim.Native.Nat.{ℕ}
 use lib.IntN.{ℤ}
 use lib.ListN.{length}
-use Rattle.answers.specs.declared.Ruling.{Ruling}
+use Rattle.answers.specs.Rules.{Ruling}
 use Rattle.answers.specs.Rules.{Applies, AllSay}
 use Rattle.answers.proofs.Rules.{both_say}
 use Rattle.answers.proofs.Answer as answer
@@ -16,8 +16,10 @@ use Rattle.circuit.proofs.Says.{circuit_says}
 use Rattle.lists.specs.Faults.{fault_at, fault_rules}
 use Rattle.lists.proofs.Faults.{faults_say}
 use Rattle.clauses.specs.declared.Written.{Written}
-use Rattle.clauses.specs.declared.Written.TheVariants.{Success, Refused}
-use Rattle.clauses.specs.Promise.{room_rules, words_for, clause_rules, written_of, Writes}
+use Rattle.clauses.specs.Promise.{room_rules, words_for, clause_rules, written_of, Writes, written_are}
+use Rattle.std.specs.Prelude.{Ok, Err, Result}
+use Rattle.answers.specs.declared.Refusal.{Refusal}
+use Rattle.answers.specs.declared.Reason.{Reason}
 
 pub room_says : (need room : ℕ) → AllSay (room_rules need room)
 unfolding room_rules AllSay
@@ -27,20 +29,20 @@ pub clause_says : (c fs : List ℕ) (room : ℕ) → AllSay (clause_rules c fs r
 clause_says c fs room = both_say (circuit_rules c) _ (circuit_says c) (both_say (fault_rules 1 c fs) _ (faults_say 1 c fs) (room_says (length (words_for c (fault_at fs 0))) room))
 
 -- what was ruled, by the answer
-abbrev pub ruling_of : Written → Ruling
-ruling_of (Success w l v) = Ruling.Fine
-ruling_of (Refused number place) = Ruling.Refused number place
+abbrev pub ruling_of : Result Written Refusal → Ruling
+ruling_of (Ok (written_are w l v)) = Ok tt
+ruling_of (Err why) = Err why
 
-pub ruled : (w l v : ℕ) → Ruled Refused ruling_of (Success w l v)
+pub ruled : (w l v : ℕ) → Ruled ruling_of (Ok (written_are w l v))
 ruled w l v = record { refuses = λ x y. refl; accepts = refl }
 
-module _ {c fs : List ℕ} {w w' : List ℤ} {r : Written} (p : Writes c fs w w' r) (number place : ℕ) where
+module _ {c fs : List ℕ} {w w' : List ℤ} {r : Result Written Refusal} (p : Writes c fs w w' r) (reason : Reason) (place : ℕ) where
   -- a refusal is the first that applies, with the lowest place
-  pub refused_applies : r ≡ Refused number place → Applies (clause_rules c fs (length w)) number place
+  pub refused_applies : r ≡ Err (reason, place) → Applies (clause_rules c fs (length w)) reason place
   unfolding written_of
-  refused_applies = answer.refused_applies (ruled _ _ _) (clause_rules c fs (length w)) (clause_says c fs (length w)) p.answer number place
+  refused_applies = answer.refused_applies (ruled _ _ _) (clause_rules c fs (length w)) (clause_says c fs (length w)) p.answer reason place
 
   -- and where one applies, it is given
-  pub applies_refused : Applies (clause_rules c fs (length w)) number place → r ≡ Refused number place
+  pub applies_refused : Applies (clause_rules c fs (length w)) reason place → r ≡ Err (reason, place)
   unfolding written_of
-  applies_refused = answer.applies_refused (ruled _ _ _) (clause_rules c fs (length w)) (clause_says c fs (length w)) p.answer number place
+  applies_refused = answer.applies_refused (ruled _ _ _) (clause_rules c fs (length w)) (clause_says c fs (length w)) p.answer reason place

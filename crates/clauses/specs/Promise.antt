@@ -1,6 +1,6 @@
 -- Part 5, the clause writer: its refusals, what it answers, and what the lent words hold afterwards.
 -- Assumes nothing.
-use Rattle.std.specs.Prelude.{◌≡◌, List, [], ◌∷◌, ◌++◌, ℕ, ◌≤◌, leb, ℤ, length}
+use Rattle.std.specs.Prelude.{◌≡◌, List, [], ◌∷◌, ◌++◌, ℕ, ◌≤◌, leb, ℤ, length, Ok, Err, Result}
 use Rattle.ground.specs.Put.{laid_on}
 use Rattle.answers.specs.Rules.{Rule, refusal, unless}
 use Rattle.answers.specs.Rules.Rule.{whole}
@@ -12,12 +12,13 @@ use Rattle.lists.specs.declared.Fault.{Fault}
 use Rattle.lists.specs.Faults.{fault_at, fault_rules}
 use Rattle.cnf.specs.Cnf.{Clauses, words_of}
 use Rattle.clauses.specs.declared.Written.{Written}
-use Rattle.clauses.specs.declared.Written.TheVariants.{Success, Refused}
 use Rattle.line_clauses.specs.Clauses.{clauses_of, variables_of}
+use Rattle.answers.specs.declared.Refusal.{Refusal}
+use Rattle.answers.specs.declared.Reason.TheVariants.{NoRoom}
 
 -- the clauses fit the lent words, else the words needed are the place
 unfoldable pub room_rules : ℕ → ℕ → List Rule
-room_rules need room = whole 11 (leb need room) (need ≤ room) need ∷ []
+room_rules need room = whole NoRoom (leb need room) (need ≤ room) need ∷ []
 
 -- the list of a circuit and a fault, and its words
 abbrev pub clauses_for : List ℕ → Fault → Clauses
@@ -31,18 +32,18 @@ abbrev pub clause_rules : List ℕ → List ℕ → ℕ → List Rule
 clause_rules c fs room = circuit_rules c ++ (fault_rules 1 c fs ++ room_rules (length (words_for c (fault_at fs 0))) room)
 
 -- words, clauses and variables where all is fine
-unfoldable pub written_of : List ℕ → List ℕ → ℕ → Written
+unfoldable pub written_of : List ℕ → List ℕ → ℕ → Result Written Refusal
 written_of c fs room =
-    answered Refused (refusal (clause_rules c fs room))
-    (Success (length (words_for c (fault_at fs 0))) (length (clauses_for c (fault_at fs 0))) (variables_of c (lines_of c)))
+    answered (refusal (clause_rules c fs room))
+    (Ok (written_are (length (words_for c (fault_at fs 0))) (length (clauses_for c (fault_at fs 0))) (variables_of c (lines_of c))))
 
 -- the paper's number and values for each case of the answer
-unfoldable pub written_numbers : Written → Numbers
-written_numbers (Success w l v) = success w l v
-written_numbers (Refused number place) = refused_at number place
+unfoldable pub written_numbers : Result Written Refusal → Numbers
+written_numbers (Ok (written_are w l v)) = success w l v
+written_numbers (Err why) = refused_at why.0 why.1
 
 -- the promise, whatever the bytes and the words: the answer's case, its number and values, and every word; a refusal writes nothing
-pub record Writes (c fs : List ℕ) (w w' : List ℤ) (r : Written) : Type 0 where
+pub record Writes (c fs : List ℕ) (w w' : List ℤ) (r : Result Written Refusal) : Type 0 where
   pub answer : r ≡ written_of c fs (length w)
   pub numbers :
       written_numbers r

@@ -12,19 +12,18 @@ ghost use Rattle.circuit.specs.Record.{inputs_of};
 ghost use Rattle.circuit.specs.Formed.{Accepts};
 ghost use Rattle.clauses.specs.Owed.{WholeReady, ClauseLinesReady, PutAllReady, FitDone, RestDone};
 
-use answers::Ruling;
-use circuit::{Checked, check, equal};
+use answers::{Reason, Refusal};
+use circuit::{Counts, check, equal};
 use cnf::{Size, minus, plus, put_single};
 use line_clauses::{line_size, put_difference, put_faulty, put_good};
 use lists::{Fault, check_faults, read_fault};
 
-// What the writer answers.
-#[derive(Drop)]
-pub enum Written {
-    // words, clauses, variables
-    Success(usize, usize, usize),
-    // number, place
-    Refused(u32, usize),
+// How many words, clauses and variables a list has that was written.
+#[derive(Clone, Copy, Debug, PartialEq, Eq)]
+pub struct Written {
+    pub words: usize,
+    pub clauses: usize,
+    pub variables: usize,
 }
 
 // ---- how much the list takes
@@ -139,41 +138,33 @@ fn put_all(circuit: &[u8], fault: Fault, n: usize, outputs: usize, words: &mut [
 // ---- the part
 
 // On an accepted circuit and a fault of it: the list, if it fits.
-fn fitted(circuit: &[u8], fault: Fault, n: usize, outputs: usize, words: &mut [i32]) -> Written
+fn fitted(circuit: &[u8], fault: Fault, n: usize, outputs: usize, words: &mut [i32]) -> Result<Written, Refusal>
     requires { WholeReady circuit.now n outputs }
     ensures { FitDone circuit.now fault n words.old words.new result }
 {
     let size = whole_size(circuit, fault, n, outputs);
     let need = size.words;
     if words.len() < need {
-        return Written::Refused(11, need);
+        return Err(Refusal(Reason::NoRoom, need));
     }
     put_all(circuit, fault, n, outputs, words);
-    Written::Success(need, size.clauses, 2 * n + 1 + outputs)
+    Ok(Written { words: need, clauses: size.clauses, variables: 2 * n + 1 + outputs })
 }
 
 // On an accepted circuit: the fault's refusals, then the list.
-fn accepted(circuit: &[u8], fault: &[u8], n: usize, outputs: usize, words: &mut [i32]) -> Written
+fn accepted(circuit: &[u8], fault: &[u8], n: usize, outputs: usize, words: &mut [i32]) -> Result<Written, Refusal>
     requires { Accepts circuit.now n (inputs_of circuit.now) outputs }
     ensures { RestDone circuit.now fault.now n words.old words.new result }
 {
-    let v = check_faults(circuit, fault, 1);
-    match v {
-        Ruling::Refused(number, place) => Written::Refused(number, place),
-        Ruling::Fine => {
-            let f = read_fault(fault, 0);
-            fitted(circuit, f, n, outputs, words)
-        }
-    }
+    check_faults(circuit, fault, 1)?;
+    let f = read_fault(fault, 0);
+    fitted(circuit, f, n, outputs, words)
 }
 
 // Part 5: the words written, with the numbers of words, clauses and variables, or the first refusal.
-pub fn clauses(circuit: &[u8], fault: &[u8], words: &mut [i32]) -> Written
+pub fn clauses(circuit: &[u8], fault: &[u8], words: &mut [i32]) -> Result<Written, Refusal>
     ensures { Writes circuit.now fault.now words.old words.new result }
 {
-    let v = check(circuit);
-    match v {
-        Checked::Refused(number, place) => Written::Refused(number, place),
-        Checked::Accepted(n, _, outputs) => accepted(circuit, fault, n, outputs, words),
-    }
+    let Counts { lines: n, outputs, .. } = check(circuit)?;
+    accepted(circuit, fault, n, outputs, words)
 }

@@ -7,7 +7,6 @@ use native.Mathlib.Omega.{arith}
 use lib.ListN.{length, get_or}
 use Rattle.ground.specs.Choose.{one}
 use Rattle.ground.proofs.Tests.{one_same}
-use Rattle.answers.specs.declared.Ruling.TheVariants.{Fine}
 use Rattle.answers.specs.Rules.{refusal}
 use Rattle.circuit.specs.Record.{lines_of}
 use Rattle.circuit.specs.Promise.{circuit_rules}
@@ -39,8 +38,9 @@ use Rattle.unfold_dictionary.proofs.Checked.{steps_taken}
 use Rattle.unfold_dictionary.proofs.Entries.{good-there, fail-looked, pass-looked}
 use Rattle.unfold_dictionary.proofs.Says.{layout, small, made_by_rows}
 use Rattle.clocked_meaning.specs.Entries.{EqualThere, DetectsInSteps, ExposesInSteps, ClearsInSteps, StepsMean}
+use Rattle.std.specs.Prelude.{Ok}
 
-module _ {c st : List ℕ} {k : ℕ} (fine : refusal (circuit_rules c) ≡ Fine) (steps : GoodSteps c st k) (fs : List ℕ) (j : ℕ) (keeps : FaultLayout c fs j) (p : List ℕ)
+module _ {c st : List ℕ} {k : ℕ} (fine : refusal (circuit_rules c) ≡ Ok tt) (steps : GoodSteps c st k) (fs : List ℕ) (j : ℕ) (keeps : FaultLayout c fs j) (p : List ℕ)
     (three : AllSmall p) (long : length p ≡ inputs_after c st k) where
   accepted : Good c
   accepted = good c fine
@@ -122,7 +122,7 @@ module _ {c st : List ℕ} {k : ℕ} (fine : refusal (circuit_rules c) ≡ Fine)
 
 -- of the table that the dictionary maker leaves: the byte of pattern i and fault j
 pub steps_dictionary_means : {c st : List ℕ} {k : ℕ} {fs ps t w t' w' : List ℕ}
-    → StepsDictionary c st k fs ps t w Fine t' w'
+    → StepsDictionary c st k fs ps t w (Ok tt) t' w'
     → (i j : ℕ)
     → i < pattern_count (inputs_after c st k) ps
     → j < fault_count fs

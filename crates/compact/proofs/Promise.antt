@@ -5,14 +5,15 @@ use mathlib.Core.List.{List}
 use Prim.Native.Nat.{ℕ, ◌<◌}
 use lib.ListN.{replicate}
 use Rattle.answers.specs.Rules.{refusal}
-use Rattle.answers.specs.declared.Ruling.{Ruling}
-use Rattle.answers.specs.declared.Ruling.TheVariants.{Fine, Refused}
+use Rattle.answers.specs.Rules.{Ruling}
 use Rattle.tables.specs.Entries.{entries_of}
 use Rattle.tables.specs.Marks.{kept_rules}
 use Rattle.needs.specs.Needs.{whole, compacted}
 use Rattle.needs.specs.Words.{Detected, LastToFirst, Sound}
 use Rattle.needs.proofs.Sound.{compacted_so, compacted_sound, none_detected}
 use Rattle.compact.specs.Promise.{Compacts}
+use Rattle.std.specs.Prelude.{Ok, Err}
+use Rattle.answers.specs.declared.Reason.{Reason}
 
 module _ {F P : ℕ} {t m : List ℕ} where
   -- two results that the promise allows are equal
@@ -20,10 +21,10 @@ module _ {F P : ℕ} {t m : List ℕ} where
   one_result p q = (p.answer ∙ sym q.answer, p.marks ∙ sym q.marks)
 
   -- a refusal writes nothing
-  pub refused_leaves : {n k : ℕ} {m' : List ℕ} → Compacts F P t m (Refused n k) m' → m' ≡ m
+  pub refused_leaves : {n : Reason} {k : ℕ} {m' : List ℕ} → Compacts F P t m (Err (n, k)) m' → m' ≡ m
   refused_leaves so = so.marks ∙ rw (← so.answer)
 
-  module _ {m' : List ℕ} (so : Compacts F P t m Fine m') where
+  module _ {m' : List ℕ} (so : Compacts F P t m (Ok tt) m') where
     pub marks_are : m' ≡ compacted (entries_of F t) F P
     marks_are = so.marks ∙ rw (← so.answer)
 
@@ -41,8 +42,8 @@ module _ {F P : ℕ} {t m : List ℕ} where
 
   -- ---- as the code comes to it
 
-  pub refused : {n k : ℕ} → refusal (kept_rules F P t m) ≡ Refused n k → Compacts F P t m (Refused n k) m
+  pub refused : {n : Reason} {k : ℕ} → refusal (kept_rules F P t m) ≡ Err (n, k) → Compacts F P t m (Err (n, k)) m
   refused e = record { answer = sym e; numbers = rw e; marks = rw e }
 
-  pub marked : {m' : List ℕ} → refusal (kept_rules F P t m) ≡ Fine → m' ≡ compacted (entries_of F t) F P → Compacts F P t m Fine m'
+  pub marked : {m' : List ℕ} → refusal (kept_rules F P t m) ≡ Ok tt → m' ≡ compacted (entries_of F t) F P → Compacts F P t m (Ok tt) m'
   marked e w = record { answer = sym e; numbers = rw e; marks = rw e w }

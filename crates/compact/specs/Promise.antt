@@ -3,7 +3,7 @@
 use Rattle.std.specs.Prelude.{◌≡◌, List, ℕ}
 use Rattle.answers.specs.Rules.{refusal, unless}
 use Rattle.answers.specs.Area.{told, done}
-use Rattle.answers.specs.declared.Ruling.{Ruling}
+use Rattle.answers.specs.Rules.{Ruling}
 use Rattle.tables.specs.Entries.{entries_of}
 use Rattle.tables.specs.Marks.{kept_rules}
 use Rattle.needs.specs.Needs.{compacted}

@@ -10,7 +10,7 @@ ghost use Rattle.tallies.specs.Owed.{TallyRoom, Cleared};
 ghost use Rattle.compact.specs.Promise.{Compacts};
 ghost use Rattle.compact.specs.Owed.{TurnRoom, TurnReady, TurnDone};
 
-use answers::Ruling;
+use answers::Refusal;
 use tables::check_marks;
 use tallies::tally;
 
@@ -117,14 +117,10 @@ fn mark_table(faults: usize, patterns: usize, table: &[u8], marks: &mut [u8])
 }
 
 // The compactor.
-pub fn compact(fault_count: u64, pattern_count: u64, table: &[u8], marks: &mut [u8]) -> Ruling
+pub fn compact(fault_count: u64, pattern_count: u64, table: &[u8], marks: &mut [u8]) -> Result<(), Refusal>
     ensures { Compacts fault_count pattern_count table.now marks.old result marks.new }
 {
-    match check_marks(fault_count, pattern_count, table, marks) {
-        Ruling::Refused(number, place) => Ruling::Refused(number, place),
-        Ruling::Fine => {
-            mark_table(fault_count as usize, pattern_count as usize, table, marks);
-            Ruling::Fine
-        }
-    }
+    check_marks(fault_count, pattern_count, table, marks)?;
+    mark_table(fault_count as usize, pattern_count as usize, table, marks);
+    Ok(())
 }

@@ -7,8 +7,7 @@ use native.Mathlib.Omega.{arith}
 use lib.ListN.{length, take, replicate}
 use lib.Ieee.{Float}
 use Rattle.ground.proofs.Filled.{take-replicate, front_length}
-use Rattle.answers.specs.declared.Ruling.{Ruling}
-use Rattle.answers.specs.declared.Ruling.TheVariants.{Fine}
+use Rattle.answers.specs.Rules.{Ruling}
 use Rattle.answers.specs.Rules.{Rule, refusal}
 use Rattle.answers.specs.Lent.{lent_rules}
 use Rattle.answers.proofs.Lent.{lent_sizes}
@@ -16,6 +15,7 @@ use Rattle.answers.proofs.Answer.{ruling_is, fine_done, memory_part}
 use Rattle.circuit.specs.Formed.{Known}
 use Rattle.control.specs.Promise.{control_rules, Controls}
 use Rattle.control.specs.Owed.{FillReady, RoomReady, Filled, Memories, ControlledBy}
+use Rattle.std.specs.Prelude.{Ok}
 
 -- ---- memory for the readings: the front of so many zeros
 
@@ -35,7 +35,7 @@ module _ {c : List ℕ} {n ones zeros : ℕ} (p : RoomReady c n ones zeros) wher
       }
 
 -- what is not refused has its sizes
-pub room_ready : {c : List ℕ} {n inputs ones zeros : ℕ} → Known c n inputs → refusal (lent_rules n ones n zeros) ≡ Fine → RoomReady c n ones zeros
+pub room_ready : {c : List ℕ} {n inputs ones zeros : ℕ} → Known c n inputs → refusal (lent_rules n ones n zeros) ≡ Ok tt → RoomReady c n ones zeros
 room_ready {n = n} {inputs = inputs} {ones = ones} {zeros = zeros} known e =
     let sizes = lent_sizes n ones n zeros e in
     record { inputs = inputs; known = known; ones_long = sizes.0; zeros_long = sizes.1 }
@@ -43,9 +43,9 @@ room_ready {n = n} {inputs = inputs} {ones = ones} {zeros = zeros} known e =
 -- ---- the promise
 
 pub rest_fine : {rules : List Rule} {c : List ℕ} {ones zeros ones' zeros' : List Float}
-    → refusal rules ≡ Fine
+    → refusal rules ≡ Ok tt
     → Filled c ones' zeros'
-    → ControlledBy rules c ones zeros Fine ones' zeros'
+    → ControlledBy rules c ones zeros (Ok tt) ones' zeros'
 rest_fine e p = fine_done e refl (rw (p.ones_are, p.zeros_are))
 
 module _ {c : List ℕ} {ones zeros : List Float} where

@@ -10,8 +10,7 @@ use lib.Seq.{ext_get_or}
 use lib.Ieee.{Float, nan}
 use Rattle.ground.specs.Lists.{table}
 use Rattle.ground.proofs.Grow.{table-length, table_at}
-use Rattle.answers.specs.declared.Ruling.{Ruling}
-use Rattle.answers.specs.declared.Ruling.TheVariants.{Fine}
+use Rattle.answers.specs.Rules.{Ruling}
 use Rattle.answers.specs.Rules.{AllSay}
 use Rattle.answers.proofs.Rules.{applies, refused, both_fine, both_say}
 use Rattle.answers.proofs.Lent.{lent_says}
@@ -32,6 +31,7 @@ use Rattle.exponents.proofs.Fraction.{bottom_is}
 use Rattle.exponents.proofs.Words.{measured, measures}
 use Rattle.control.specs.Promise.{control_rules, control_ruling, chances_of, Controls}
 use Rattle.control.specs.Words.{Exactly, ChancesAre, ControlInWords}
+use Rattle.std.specs.Prelude.{Ok}
 
 pub control_says : (c : List ℕ) (ones zeros : ℕ) → AllSay (control_rules c ones zeros)
 control_says c ones zeros = both_say (circuit_rules c) _ (circuit_says c) (lent_says (lines_of c) ones (lines_of c) zeros)
@@ -67,7 +67,7 @@ module _ {c : List ℕ} (well : WellFormed c (inputs_of c) (lines_of c)) (v : Bo
 -- ---- the whole
 
 module _ (c : List ℕ) (ones zeros : List Float) where
-  well : control_ruling c ones zeros ≡ Fine → WellFormed c (inputs_of c) (lines_of c)
+  well : control_ruling c ones zeros ≡ Ok tt → WellFormed c (inputs_of c) (lines_of c)
   well e = (good c (both_fine (circuit_rules c) _ e).0).well
 
   module _ {r : Ruling} {ones' zeros' : List Float} where

@@ -2,7 +2,7 @@
 -- Assumes nothing.
 use Rattle.std.specs.Prelude.{◌≡◌, Bool, true, false, List, ℕ, ◌<◌, Float, length, get_or, replicate}
 use Rattle.std.specs.Float.{nan}
-use Rattle.answers.specs.declared.Ruling.{Ruling}
+use Rattle.answers.specs.Rules.{Ruling}
 use Rattle.answers.specs.Rules.{Rule}
 use Rattle.answers.specs.Lent.{lent_rules}
 use Rattle.answers.specs.Owed.{RulesDone}
@@ -65,7 +65,7 @@ Memories = List Float × List Float
 -- the answer and both afterwards, where these are the rules
 abbrev pub ControlledBy : List Rule → List ℕ → List Float → List Float → Ruling → List Float → List Float → Type 0
 ControlledBy rules c ones zeros r ones' zeros' =
-    RulesDone {M = Memories} Ruling.Refused rules Ruling.Fine (ones, zeros) (chances_of c true, chances_of c false) r (ones', zeros')
+    RulesDone {M = Memories} rules tt (ones, zeros) (chances_of c true, chances_of c false) r (ones', zeros')
 
 -- for an accepted circuit of n lines
 abbrev pub ControlDone : List ℕ → ℕ → List Float → List Float → Ruling → List Float → List Float → Type 0

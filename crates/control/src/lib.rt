@@ -8,9 +8,9 @@ ghost use Rattle.exponents.specs.Lines.{exponents, pin_exponents};
 ghost use Rattle.control.specs.Promise.{Controls};
 ghost use Rattle.control.specs.Owed.{gate_at, LineReady, GateReady, FillReady, RoomReady, Filled, ControlDone};
 
-use answers::{Ruling, check_lent};
+use answers::{Refusal, check_lent};
 use chances::{Chances, certain, floor_chances, gate_chances, select};
-use circuit::{Checked, check, source};
+use circuit::{Counts, check, source};
 use gates::SELECTOR;
 use halves::{share, times};
 use reads::count_reads;
@@ -107,27 +107,19 @@ fn fill_sized(circuit: &[u8], n: usize, ones: &mut [f64], zeros: &mut [f64])
 }
 
 // The chances in an accepted circuit.
-fn accepted(circuit: &[u8], n: usize, inputs: usize, ones: &mut [f64], zeros: &mut [f64]) -> Ruling
+fn accepted(circuit: &[u8], n: usize, inputs: usize, ones: &mut [f64], zeros: &mut [f64]) -> Result<(), Refusal>
     requires { Known circuit.now n inputs }
     ensures { ControlDone circuit.now n ones.old zeros.old result ones.new zeros.new }
 {
-    let v = check_lent(n, ones.len(), n, zeros.len());
-    match v {
-        Ruling::Refused(number, place) => Ruling::Refused(number, place),
-        Ruling::Fine => {
-            fill_sized(circuit, n, ones, zeros);
-            Ruling::Fine
-        }
-    }
+    check_lent(n, ones.len(), n, zeros.len())?;
+    fill_sized(circuit, n, ones, zeros);
+    Ok(())
 }
 
 // #113: the chance of 1 and the chance of 0 of each line, each exactly a power of one half; or the first refusal, and nothing is written.
-pub fn control(circuit: &[u8], ones: &mut [f64], zeros: &mut [f64]) -> Ruling
+pub fn control(circuit: &[u8], ones: &mut [f64], zeros: &mut [f64]) -> Result<(), Refusal>
     ensures { Controls circuit.now ones.old zeros.old result ones.new zeros.new }
 {
-    let v = check(circuit);
-    match v {
-        Checked::Refused(number, place) => Ruling::Refused(number, place),
-        Checked::Accepted(n, inputs, _) => accepted(circuit, n, inputs, ones, zeros),
-    }
+    let Counts { lines: n, inputs, .. } = check(circuit)?;
+    accepted(circuit, n, inputs, ones, zeros)
 }

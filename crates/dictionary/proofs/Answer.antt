@@ -4,9 +4,8 @@ use mathlib.Core.Path.{◌≡◌}
 use mathlib.Core.List.{List}
 use Prim.Native.Nat.{ℕ}
 use lib.ListN.{length}
-use Rattle.answers.specs.declared.Ruling.{Ruling}
-use Rattle.answers.specs.declared.Ruling.TheVariants.{Fine, Refused}
-use Rattle.circuit.specs.declared.Checked.{Checked}
+use Rattle.answers.specs.Rules.{Ruling}
+use Rattle.circuit.specs.declared.Counts.{Counts}
 use Rattle.circuit.specs.Record.{lines_of, inputs_of}
 use Rattle.simulate.proofs.Small.{all_small}
 use Rattle.rows.specs.Table.{table_of}
@@ -14,6 +13,9 @@ use Rattle.rows.specs.Owed.{TableReady}
 use Rattle.dictionary.specs.Promise.{Answered}
 use Rattle.dictionary.specs.Owed.{AllChecked}
 use Rattle.dictionary.proofs.Checked.{Taken, all_refuses}
+use Rattle.std.specs.Prelude.{Ok, Err, Result}
+use Rattle.answers.specs.declared.Refusal.{Refusal}
+use Rattle.answers.specs.declared.Reason.{Reason}
 
 -- what is not refused is ready
 pub ready : {places : ℕ} {c fs ps : List ℕ} {table work : ℕ} → Taken places c fs ps table work → TableReady 256 places c (lines_of c) (inputs_of c) fs ps table work
@@ -33,7 +35,7 @@ ready {ps = ps} k = record {
 
 module _ {places : ℕ} {left c fs ps t w : List ℕ} where
   -- a refusal is the answer, and leaves both memories
-  pub refused_answer : {v : Checked} {x y : ℕ} → AllChecked places c fs ps (length t) (length w) v → v ≡ Checked.Refused x y → Answered places left c fs ps t w (Refused x y) t w
+  pub refused_answer : {v : Result Counts Refusal} {x : Reason} {y : ℕ} → AllChecked places c fs ps (length t) (length w) v → v ≡ Err (x, y) → Answered places left c fs ps t w (Err (x, y)) t w
   refused_answer p told = let e = all_refuses p told in record { answer = rw e; numbers = rw e; table = rw e; work = rw e }
 
   -- where there is none, the table is made
@@ -41,7 +43,7 @@ module _ {places : ℕ} {left c fs ps t w : List ℕ} where
       → Taken places c fs ps (length t) (length w)
       → t' ≡ table_of c (lines_of c) (inputs_of c) fs ps
       → w' ≡ left
-      → Answered places left c fs ps t w Fine t' w'
+      → Answered places left c fs ps t w (Ok tt) t' w'
   made_answer k made kept = let e = k.fine in record { answer = rw e; numbers = rw e; table = rw e made; work = rw e kept }
 
 -- two results that the promise allows are equal

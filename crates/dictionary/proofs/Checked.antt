@@ -3,15 +3,14 @@
 use mathlib.Core.Path.{◌≡◌, refl, sym, ap, ◌∙◌}
 use mathlib.Core.List.{List}
 use Prim.Native.Nat.{ℕ, ◌*◌}
-use Rattle.answers.specs.declared.Ruling.{Ruling}
+use Rattle.answers.specs.Rules.{Ruling}
 use Rattle.answers.specs.Rules.{refusal, AllSay}
 use Rattle.answers.proofs.Rules.{after_refused, after_fine, same_after, both_fine, both_say}
 use Rattle.answers.proofs.Answer.{was_ruled}
 use Rattle.answers.proofs.Lent.{lent_says, lent_sizes, second_exact}
-use Rattle.circuit.specs.declared.Checked.{Checked}
-use Rattle.circuit.specs.declared.Checked.TheVariants.{Accepted, Refused}
+use Rattle.circuit.specs.declared.Counts.{Counts}
 use Rattle.circuit.specs.Record.{lines_of, inputs_of, outputs_of}
-use Rattle.circuit.specs.Promise.{circuit_rules}
+use Rattle.circuit.specs.Promise.{circuit_rules, counts_are}
 use Rattle.circuit.specs.Formed.{Good, Accepts}
 use Rattle.circuit.proofs.Says.{circuit_says, ruling_of, ruled}
 use Rattle.circuit.proofs.Accepted.{good}
@@ -21,12 +20,15 @@ use Rattle.lists.specs.Both.{list_rules}
 use Rattle.lists.proofs.Both.{lists_say, good_lists}
 use Rattle.dictionary.specs.Promise.{dictionary_rest_rules, dictionary_rules}
 use Rattle.dictionary.specs.Owed.{AllChecked}
+use Rattle.std.specs.Prelude.{Ok, Err, Result}
+use Rattle.answers.specs.declared.Refusal.{Refusal}
+use Rattle.answers.specs.declared.Reason.{Reason}
 
 -- what is not refused
 pub record Taken (places : ℕ) (c fs ps : List ℕ) (table work : ℕ) : Type 0 where
-  pub fine : refusal (dictionary_rules places c fs ps table work) ≡ Ruling.Fine
-  pub circuit_fine : refusal (circuit_rules c) ≡ Ruling.Fine
-  pub lists_fine : refusal (list_rules c (inputs_of c) fs ps) ≡ Ruling.Fine
+  pub fine : refusal (dictionary_rules places c fs ps table work) ≡ Ok tt
+  pub circuit_fine : refusal (circuit_rules c) ≡ Ok tt
+  pub lists_fine : refusal (list_rules c (inputs_of c) fs ps) ≡ Ok tt
   pub good : Good c
   pub faults : GoodFaults 256 c fs
   pub patterns : GoodPatterns (inputs_of c) ps
@@ -35,7 +37,7 @@ pub record Taken (places : ℕ) (c fs ps : List ℕ) (table work : ℕ) : Type 0
 
 -- what is checked after the circuit: m inputs, and work memory of this size
 pub record RestTaken (size : ℕ) (c : List ℕ) (m : ℕ) (fs ps : List ℕ) (table work : ℕ) : Type 0 where
-  pub lists_fine : refusal (list_rules c m fs ps) ≡ Ruling.Fine
+  pub lists_fine : refusal (list_rules c m fs ps) ≡ Ok tt
   pub faults : GoodFaults 256 c fs
   pub patterns : GoodPatterns m ps
   pub table_is : table ≡ fault_count fs * pattern_count m ps
@@ -45,7 +47,7 @@ module _ (size : ℕ) (c : List ℕ) (m : ℕ) (fs ps : List ℕ) (table work : 
   pub rest_says : AllSay (dictionary_rest_rules size c m fs ps table work)
   rest_says = both_say (list_rules c m fs ps) _ (lists_say c m fs ps) (lent_says (fault_count fs * pattern_count m ps) table size work)
 
-  pub rest_taken : refusal (dictionary_rest_rules size c m fs ps table work) ≡ Ruling.Fine → RestTaken size c m fs ps table work
+  pub rest_taken : refusal (dictionary_rest_rules size c m fs ps table work) ≡ Ok tt → RestTaken size c m fs ps table work
   rest_taken e =
       let b = both_fine (list_rules c m fs ps) _ e in
       let lists = good_lists c m fs ps b.0 in
@@ -56,7 +58,7 @@ module _ (places : ℕ) (c fs ps : List ℕ) (table work : ℕ) where
   pub dictionary_says : AllSay (dictionary_rules places c fs ps table work)
   dictionary_says = both_say (circuit_rules c) _ (circuit_says c) (rest_says (places * lines_of c) c (inputs_of c) fs ps table work)
 
-  pub taken : refusal (dictionary_rules places c fs ps table work) ≡ Ruling.Fine → Taken places c fs ps table work
+  pub taken : refusal (dictionary_rules places c fs ps table work) ≡ Ok tt → Taken places c fs ps table work
   taken e =
       let a = both_fine (circuit_rules c) _ e in
       let rest = rest_taken (places * lines_of c) c (inputs_of c) fs ps table work a.1 in
@@ -78,27 +80,27 @@ module _ (places : ℕ) (c fs ps : List ℕ) (table work : ℕ) where
 -- ---- the answer of the checks
 
 module _ {places : ℕ} {c fs ps : List ℕ} {table work : ℕ} where
-  pub circuit_refused : {x y : ℕ} → refusal (circuit_rules c) ≡ Ruling.Refused x y → AllChecked places c fs ps table work (Refused x y)
+  pub circuit_refused : {x : Reason} {y : ℕ} → refusal (circuit_rules c) ≡ Err (x, y) → AllChecked places c fs ps table work (Err (x, y))
   circuit_refused e = record { answer = rw (after_refused (circuit_rules c) (dictionary_rest_rules (places * lines_of c) c (inputs_of c) fs ps table work) e) }
 
   module _ {n m o : ℕ} (k : Accepts c n m o) where
-    pub rest_refused : {x y : ℕ} → refusal (dictionary_rest_rules (places * n) c m fs ps table work) ≡ Ruling.Refused x y → AllChecked places c fs ps table work (Refused x y)
+    pub rest_refused : {x : Reason} {y : ℕ} → refusal (dictionary_rest_rules (places * n) c m fs ps table work) ≡ Err (x, y) → AllChecked places c fs ps table work (Err (x, y))
     rest_refused e = record { answer = rw (rest_decides places c fs ps table work k ∙ e) }
 
-    pub all_fine : refusal (dictionary_rest_rules (places * n) c m fs ps table work) ≡ Ruling.Fine → AllChecked places c fs ps table work (Accepted n m o)
+    pub all_fine : refusal (dictionary_rest_rules (places * n) c m fs ps table work) ≡ Ok tt → AllChecked places c fs ps table work (Ok (counts_are n m o))
     all_fine e = record { answer = rw (rest_decides places c fs ps table work k ∙ e, k.lines, k.inputs, k.outputs) }
 
-  module _ {r : Checked} (p : AllChecked places c fs ps table work r) where
+  module _ {r : Result Counts Refusal} (p : AllChecked places c fs ps table work r) where
     was : refusal (dictionary_rules places c fs ps table work) ≡ ruling_of r
     was = was_ruled (ruled (lines_of c) (inputs_of c) (outputs_of c)) p.answer refl
 
-    pub all_refuses : {x y : ℕ} → r ≡ Refused x y → refusal (dictionary_rules places c fs ps table work) ≡ Ruling.Refused x y
+    pub all_refuses : {x : Reason} {y : ℕ} → r ≡ Err (x, y) → refusal (dictionary_rules places c fs ps table work) ≡ Err (x, y)
     all_refuses told = was ∙ ap ruling_of told
 
-    pub all_accepts : {n m o : ℕ} → r ≡ Accepted n m o → Taken places c fs ps table work × (n ≡ lines_of c) × (m ≡ inputs_of c)
+    pub all_accepts : {n m o : ℕ} → r ≡ Ok (counts_are n m o) → Taken places c fs ps table work × (n ≡ lines_of c) × (m ≡ inputs_of c)
     all_accepts {n} {m} {o} told =
-        let q : refusal (dictionary_rules places c fs ps table work) ≡ Ruling.Fine = was ∙ ap ruling_of told in
-        let so : Accepted n m o ≡ Accepted (lines_of c) (inputs_of c) (outputs_of c) = sym told ∙ p.answer ∙ rw q in
+        let q : refusal (dictionary_rules places c fs ps table work) ≡ Ok tt = was ∙ ap ruling_of told in
+        let so : Ok (counts_are n m o) ≡ Ok (counts_are (lines_of c) (inputs_of c) (outputs_of c)) = sym told ∙ p.answer ∙ rw q in
         (taken places c fs ps table work q, cc, cc)
 
 -- two engines refuse the same, where each has a work memory of its size and the tables are as long

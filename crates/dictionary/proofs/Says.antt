@@ -4,8 +4,7 @@ use mathlib.Core.Path.{◌≡◌, refl, sym, ap, ◌∙◌}
 use mathlib.Core.List.{List}
 use Prim.Native.Nat.{ℕ}
 use lib.ListN.{length}
-use Rattle.answers.specs.declared.Ruling.{Ruling}
-use Rattle.answers.specs.declared.Ruling.TheVariants.{Fine, Refused}
+use Rattle.answers.specs.Rules.{Ruling}
 use Rattle.answers.specs.Rules.{Applies}
 use Rattle.answers.specs.Area.{told, done}
 use Rattle.answers.proofs.Rules as rules
@@ -18,19 +17,21 @@ use Rattle.rows.proofs.Entries.{made, one_made}
 use Rattle.dictionary.specs.Promise.{dictionary_rules, Answered, Dictionary}
 use Rattle.dictionary.specs.Words.{EngineWords, LeftBoth, InWords}
 use Rattle.dictionary.proofs.Checked.{dictionary_says, Taken, taken}
+use Rattle.std.specs.Prelude.{Ok, Err}
+use Rattle.answers.specs.declared.Reason.{Reason}
 
 -- where nothing is refused, table and work memory are as said
-pub made_so : {places : ℕ} {left c fs ps t w t' w' : List ℕ} → Answered places left c fs ps t w Fine t' w' → (t' ≡ table_of c (lines_of c) (inputs_of c) fs ps) × (w' ≡ left)
+pub made_so : {places : ℕ} {left c fs ps t w t' w' : List ℕ} → Answered places left c fs ps t w (Ok tt) t' w' → (t' ≡ table_of c (lines_of c) (inputs_of c) fs ps) × (w' ≡ left)
 made_so d = let q = sym d.answer in (d.table ∙ rw q, d.work ∙ rw q)
 
 module _ {places : ℕ} {left c fs ps t w : List ℕ} {r : Ruling} {t' w' : List ℕ} where
   -- a refusal is the first that applies, with the lowest place; and where one applies, it is given
-  module _ (d : Answered places left c fs ps t w r t' w') (number place : ℕ) where
-    pub refused_applies : r ≡ Refused number place → Applies (dictionary_rules places c fs ps (length t) (length w)) number place
-    refused_applies = rules.refused_applies _ (dictionary_says places c fs ps (length t) (length w)) d.answer number place
+  module _ (d : Answered places left c fs ps t w r t' w') (reason : Reason) (place : ℕ) where
+    pub refused_applies : r ≡ Err (reason, place) → Applies (dictionary_rules places c fs ps (length t) (length w)) reason place
+    refused_applies = rules.refused_applies _ (dictionary_says places c fs ps (length t) (length w)) d.answer reason place
 
-    pub applies_refused : Applies (dictionary_rules places c fs ps (length t) (length w)) number place → r ≡ Refused number place
-    applies_refused = rules.applies_refused _ (dictionary_says places c fs ps (length t) (length w)) d.answer number place
+    pub applies_refused : Applies (dictionary_rules places c fs ps (length t) (length w)) reason place → r ≡ Err (reason, place)
+    applies_refused = rules.applies_refused _ (dictionary_says places c fs ps (length t) (length w)) d.answer reason place
 
   module _ {Left : List ℕ → Type 0} where
     -- the promise meets the words

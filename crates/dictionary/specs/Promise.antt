@@ -1,7 +1,7 @@
 -- Part 2, the dictionary maker: the refusals 1, 2 and 4 to 10, and what it promises. The engines that make the table differ in their work memory alone.
 -- Assumes nothing.
 use Rattle.std.specs.Prelude.{◌≡◌, List, ◌++◌, ℕ, ◌*◌, length}
-use Rattle.answers.specs.declared.Ruling.{Ruling}
+use Rattle.answers.specs.Rules.{Ruling}
 use Rattle.answers.specs.Rules.{Rule, refusal, unless}
 use Rattle.answers.specs.Lent.{lent_rules}
 use Rattle.answers.specs.Area.{told, done}

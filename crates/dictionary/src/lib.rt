@@ -6,8 +6,8 @@ ghost use Rattle.answers.specs.Rules.{refusal};
 ghost use Rattle.dictionary.specs.Promise.{dictionary_rest_rules, Dictionary};
 ghost use Rattle.dictionary.specs.Owed.{AllChecked};
 
-use answers::{Ruling, check_lent};
-use circuit::{Checked, check};
+use answers::{Refusal, check_lent};
+use circuit::{Counts, check};
 use lists::check_lists;
 use rows::fill_table;
 
@@ -20,19 +20,14 @@ pub fn check_rest(
     table: usize,
     size: usize,
     work: usize,
-) -> Ruling
+) -> Result<(), Refusal>
     requires { 0 < inputs }
     ensures { result ≡ refusal (dictionary_rest_rules size circuit.now inputs faults.now patterns.now table work) }
 {
-    let v = check_lists(circuit, inputs, faults, patterns);
-    match v {
-        Ruling::Refused(number, place) => Ruling::Refused(number, place),
-        Ruling::Fine => {
-            let f = faults.len() / 8;
-            let p = patterns.len() / inputs;
-            check_lent(f * p, table, size, work)
-        }
-    }
+    check_lists(circuit, inputs, faults, patterns)?;
+    let f = faults.len() / 8;
+    let p = patterns.len() / inputs;
+    check_lent(f * p, table, size, work)
 }
 
 // Refusals 1, 2 and 4 to 10, where each line has so many places in the work memory: every engine starts with them. The circuit's numbers come back.
@@ -43,21 +38,13 @@ pub fn check_all(
     table: usize,
     places: usize,
     work: usize,
-) -> Checked
+) -> Result<Counts, Refusal>
     requires { places ≤ 4 }
     ensures { AllChecked places circuit.now faults.now patterns.now table work result }
 {
-    let v = check(circuit);
-    match v {
-        Checked::Refused(number, place) => Checked::Refused(number, place),
-        Checked::Accepted(n, inputs, outputs) => {
-            let rest = check_rest(circuit, inputs, faults, patterns, table, places * n, work);
-            match rest {
-                Ruling::Refused(number, place) => Checked::Refused(number, place),
-                Ruling::Fine => Checked::Accepted(n, inputs, outputs),
-            }
-        }
-    }
+    let Counts { lines: n, inputs, outputs } = check(circuit)?;
+    check_rest(circuit, inputs, faults, patterns, table, places * n, work)?;
+    Ok(Counts { lines: n, inputs, outputs })
 }
 
 // Part 2: fills the table, or gives the first refusal and writes nothing.
@@ -67,15 +54,10 @@ pub fn dictionary(
     patterns: &[u8],
     table: &mut [u8],
     work: &mut [u8],
-) -> Ruling
+) -> Result<(), Refusal>
     ensures { Dictionary circuit.now faults.now patterns.now table.old work.old result table.new work.new }
 {
-    let v = check_all(circuit, faults, patterns, table.len(), 2, work.len());
-    match v {
-        Checked::Refused(number, place) => Ruling::Refused(number, place),
-        Checked::Accepted(n, inputs, _) => {
-            fill_table(circuit, n, inputs, faults, patterns, table, work);
-            Ruling::Fine
-        }
-    }
+    let Counts { lines: n, inputs, .. } = check_all(circuit, faults, patterns, table.len(), 2, work.len())?;
+    fill_table(circuit, n, inputs, faults, patterns, table, work);
+    Ok(())
 }

@@ -4,16 +4,16 @@ use mathlib.Core.Path.{◌≡◌, refl, sym, ◌∙◌}
 use mathlib.Core.List.{List}
 use Prim.Native.Nat.{ℕ, ◌*◌}
 use lib.ListN.{length}
-use Rattle.answers.specs.declared.Ruling.{Ruling}
-use Rattle.answers.specs.declared.Ruling.TheVariants.{Fine}
+use Rattle.answers.specs.Rules.{Ruling}
 use Rattle.circuit.specs.Record.{lines_of}
 use Rattle.dictionary.specs.Promise.{Dictionary}
 use Rattle.dictionary.proofs.Checked.{alike}
 use Rattle.dictionary.proofs.Says.{made_so}
 use Rattle.dictionary_lanes.specs.Promise.{DictionaryLanes}
+use Rattle.std.specs.Prelude.{Ok}
 
 -- whatever was lent
-pub same-table : {c fs ps t w t' w' u v u' v' : List ℕ} → Dictionary c fs ps t w Fine t' w' → DictionaryLanes c fs ps u v Fine u' v' → t' ≡ u'
+pub same-table : {c fs ps t w t' w' u v u' v' : List ℕ} → Dictionary c fs ps t w (Ok tt) t' w' → DictionaryLanes c fs ps u v (Ok tt) u' v' → t' ≡ u'
 same-table d e = (made_so d).0 ∙ sym (made_so e).0
 
 -- with work memory of its size each, and tables as long, the answer is the same: both accept, or refuse with one number and place

@@ -2,7 +2,7 @@
 -- Assumes nothing.
 use mathlib.Core.List.{List}
 use Prim.Native.Nat.{ℕ}
-use Rattle.answers.specs.declared.Ruling.{Ruling}
+use Rattle.answers.specs.Rules.{Ruling}
 use Rattle.circuit.specs.Record.{lines_of}
 use Rattle.dictionary.proofs.Says.{engine_in_words, engine_by_words}
 use Rattle.dictionary_lanes.specs.Promise.{DictionaryLanes}

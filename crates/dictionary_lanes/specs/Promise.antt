@@ -2,7 +2,7 @@
 -- four words a line.
 -- Assumes nothing.
 use Rattle.std.specs.Prelude.{List, ℕ}
-use Rattle.answers.specs.declared.Ruling.{Ruling}
+use Rattle.answers.specs.Rules.{Ruling}
 use Rattle.circuit.specs.Record.{lines_of, inputs_of}
 use Rattle.dictionary.specs.Promise.{Answered}
 use Rattle.groups.specs.Work.{lane_work}

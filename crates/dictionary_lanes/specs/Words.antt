@@ -2,7 +2,7 @@
 -- Assumes nothing.
 use Rattle.std.specs.Prelude.{◌≡◌, List, ℕ, ◌+◌, ◌*◌, ◌-◌, ◌/◌, ◌<◌, eqb, ltb, length, get_or, replicate}
 use Rattle.ground.specs.Choose.{choose}
-use Rattle.answers.specs.declared.Ruling.{Ruling}
+use Rattle.answers.specs.Rules.{Ruling}
 use Rattle.gates.specs.Gate.{X}
 use Rattle.circuit.specs.Record.{lines_of, inputs_of}
 use Rattle.lists.specs.Patterns.{pattern_count, pattern_at}

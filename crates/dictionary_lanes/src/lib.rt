@@ -3,8 +3,8 @@
 
 ghost use Rattle.dictionary_lanes.specs.Promise.{DictionaryLanes};
 
-use answers::Ruling;
-use circuit::Checked;
+use answers::Refusal;
+use circuit::Counts;
 use dictionary::check_all;
 use groups::fill_groups;
 
@@ -15,15 +15,10 @@ pub fn dictionary_lanes(
     patterns: &[u8],
     table: &mut [u8],
     work: &mut [u64],
-) -> Ruling
+) -> Result<(), Refusal>
     ensures { DictionaryLanes circuit.now faults.now patterns.now table.old work.old result table.new work.new }
 {
-    let v = check_all(circuit, faults, patterns, table.len(), 4, work.len());
-    match v {
-        Checked::Refused(number, place) => Ruling::Refused(number, place),
-        Checked::Accepted(n, inputs, _) => {
-            fill_groups(circuit, n, inputs, faults, patterns, table, work);
-            Ruling::Fine
-        }
-    }
+    let Counts { lines: n, inputs, .. } = check_all(circuit, faults, patterns, table.len(), 4, work.len())?;
+    fill_groups(circuit, n, inputs, faults, patterns, table, work);
+    Ok(())
 }

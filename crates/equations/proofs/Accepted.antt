@@ -4,8 +4,7 @@ use mathlib.Core.Path.{◌≡◌, refl, sym, ◌∙◌}
 use mathlib.Core.List.{List}
 use Prim.Native.Nat.{ℕ}
 use native.Mathlib.Omega.{arith}
-use Rattle.answers.specs.declared.Ruling.{Ruling}
-use Rattle.answers.specs.declared.Ruling.TheVariants.{Fine, Refused}
+use Rattle.answers.specs.Rules.{Ruling}
 use Rattle.answers.specs.Rules.{said, refusal, AllSay, AllHold}
 use Rattle.answers.proofs.Rules.{not_fine, all_hold}
 use Rattle.answers.proofs.Same.{eq_same}
@@ -26,33 +25,34 @@ use Rattle.equations.proofs.RightNet.{right_net}
 use Rattle.equations.proofs.Cycles.{net_cycle, text_cycle}
 use Rattle.equations.proofs.Parts.{parts, all_parts}
 use Rattle.equations.proofs.Computes.{parts_right}
+use Rattle.std.specs.Prelude.{Ok, Err}
 
 -- ---- cycles
 
-module _ (t : List ℕ) (none : refusal (name_rules t (defs_in t) (uses_in t)) ≡ Fine) where
-  pub no_cycle_fine : (TextCycle t → ⊥) → refusal (cycle_rules (net_in t).firsts (net_in t).seconds) ≡ Fine
+module _ (t : List ℕ) (none : refusal (name_rules t (defs_in t) (uses_in t)) ≡ Ok tt) where
+  pub no_cycle_fine : (TextCycle t → ⊥) → refusal (cycle_rules (net_in t).firsts (net_in t).seconds) ≡ Ok tt
   no_cycle_fine n = go (refusal (cycle_rules (net_in t).firsts (net_in t).seconds)) refl
     where
-      go : (v : Ruling) → refusal (cycle_rules (net_in t).firsts (net_in t).seconds) ≡ v → v ≡ Fine
-      go Fine e = refl
-      go (Refused m k) e = absurd (n (text_cycle t none (refused_cycle (net_in t).firsts (net_in t).seconds e)))
+      go : (v : Ruling) → refusal (cycle_rules (net_in t).firsts (net_in t).seconds) ≡ v → v ≡ Ok tt
+      go (Ok u) e = refl
+      go (Err why) e = absurd (n (text_cycle t none (refused_cycle (net_in t).firsts (net_in t).seconds e)))
 
-  pub fine_no_cycle : refusal (cycle_rules (net_in t).firsts (net_in t).seconds) ≡ Fine → TextCycle t → ⊥
+  pub fine_no_cycle : refusal (cycle_rules (net_in t).firsts (net_in t).seconds) ≡ Ok tt → TextCycle t → ⊥
   fine_no_cycle e c = let w = cycle_refused (net_in t).firsts (net_in t).seconds (net_cycle t none c) in not_fine (sym e ∙ w.1)
 
 -- ---- the buffer
 
-buffer_fine : refusal (buffer_rules buffer_bytes) ≡ Fine
+buffer_fine : refusal (buffer_rules buffer_bytes) ≡ Ok tt
 unfolding refusal buffer_rules said
 buffer_fine = refl
 
-fine_buffer : (room : ℕ) → refusal (buffer_rules room) ≡ Fine → room ≡ buffer_bytes
+fine_buffer : (room : ℕ) → refusal (buffer_rules room) ≡ Ok tt → room ≡ buffer_bytes
 unfolding buffer_rules AllSay AllHold
 fine_buffer room e = (all_hold (buffer_rules room) (eq_same room buffer_bytes, tt) e).0
 
 -- ---- both ways
 
-pub accepted : (t : List ℕ) → Acceptable t → refusal (bench_rules t buffer_bytes) ≡ Fine
+pub accepted : (t : List ℕ) → Acceptable t → refusal (bench_rules t buffer_bytes) ≡ Ok tt
 accepted t a =
     let none = right_names t a.names in
     let cycles = no_cycle_fine t none a.no_cycle in
@@ -75,7 +75,7 @@ accepted t a =
       buffer = buffer_fine;
     })
 
-pub acceptable : (t : List ℕ) (room : ℕ) → refusal (bench_rules t room) ≡ Fine → Acceptable t × (room ≡ buffer_bytes)
+pub acceptable : (t : List ℕ) (room : ℕ) → refusal (bench_rules t room) ≡ Ok tt → Acceptable t × (room ≡ buffer_bytes)
 acceptable t room e =
     let p = parts t room e in
     let s = net_sizes_lem (net_in t) (parts_right p) p.circuit in

@@ -5,12 +5,10 @@ use mathlib.Core.List.{List}
 use Prim.Native.Nat.{ℕ, ◌≤◌, ◌<◌}
 use native.Mathlib.Omega.{arith}
 use lib.ListN.{length, get_or}
-use Rattle.answers.specs.declared.Ruling.TheVariants.{Fine}
 use Rattle.answers.specs.Rules.{refusal}
 use Rattle.gates.specs.Gate.{gate_of}
 use Rattle.gates.specs.Boolean.{bool_gate}
-use Rattle.circuit.specs.declared.Checked.TheVariants.{Accepted}
-use Rattle.circuit.specs.Promise.{check_of}
+use Rattle.circuit.specs.Promise.{check_of, counts_are}
 use Rattle.simulate.specs.Work.{good_of}
 use Rattle.simulate.specs.Boolean.{Vector, good, truth_at}
 use Rattle.syntax.proofs.Says.{right_text}
@@ -34,8 +32,9 @@ use Rattle.equations.proofs.Fields.{own_records}
 use Rattle.equations.proofs.InOrder.{in_order}
 use Rattle.equations.proofs.Outputs.{outputs_exactly, outputs_count}
 use Rattle.equations.proofs.Parts.{Parts, parts}
+use Rattle.std.specs.Prelude.{Ok}
 
-module _ (t : List ℕ) (none : refusal (name_rules t (defs_in t) (uses_in t)) ≡ Fine) where
+module _ (t : List ℕ) (none : refusal (name_rules t (defs_in t) (uses_in t)) ≡ Ok tt) where
   -- what solves the net, and is the only one, solves the text, and is the only one
   one_solution : {A : Type 0} {gate : ℕ → (ℕ → A) → A} {inputs : ℕ → A} (value : ℕ → A)
       → Solved gate (net_in t) inputs (λ x. value (net_line (net_in t) x))
@@ -61,7 +60,7 @@ module _ (t : List ℕ) (room : ℕ) (p : Parts t room) where
   few : net_size (net_in t) ≤ 65536
   few = omega (arith, s.most_lines)
 
-  accepted : check_of (records_in t) ≡ Accepted (size_in t) (inputs_in (forms_in t)) (outputs_in t)
+  accepted : check_of (records_in t) ≡ Ok (counts_are (size_in t) (inputs_in (forms_in t)) (outputs_in t))
   accepted =
       net_accepted (net_in t) r s ∙ cc (size_is t, inputs_are t, outputs_count t p.names r)
 
@@ -87,5 +86,5 @@ module _ (t : List ℕ) (room : ℕ) (p : Parts t room) where
         subst (λ (n : ℕ). OneSolution bool_gate t x (λ w. truth_at good (records_in t) x n (line_for t w))) (size_is t) (truths x);
   }
 
-pub computes : (t : List ℕ) (room : ℕ) → refusal (bench_rules t room) ≡ Fine → Computes t (records_in t)
+pub computes : (t : List ℕ) (room : ℕ) → refusal (bench_rules t room) ≡ Ok tt → Computes t (records_in t)
 computes t room e = computes_parts t room (parts t room e)

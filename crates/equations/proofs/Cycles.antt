@@ -8,7 +8,6 @@ use Prim.Native.Nat.{ℕ, ◌<◌}
 use lib.Dec.{eqb}
 use lib.ListN.{get_or}
 use Rattle.ground.specs.Choose.{choose}
-use Rattle.answers.specs.declared.Ruling.TheVariants.{Fine}
 use Rattle.answers.specs.Rules.{refusal}
 use Rattle.forms.specs.Forms.{says_gate, gates_to}
 use Rattle.names.specs.Names.{name_rules}
@@ -19,6 +18,7 @@ use Rattle.equations.specs.Right.{Line, ReadsFrom, TextWay, last, then, TextCycl
 use Rattle.equations.specs.Numbers.{name_of, number_for}
 use Rattle.equations.proofs.Tables.{NthLine, counted, gates_are, gate-line, pin_get}
 use Rattle.equations.proofs.SameMeaning.{name_of_gate, name_of_pin, number_of_gate}
+use Rattle.std.specs.Prelude.{Ok}
 
 module _ (t : List ℕ) where
   -- sources and ways in the net
@@ -44,7 +44,7 @@ module _ (t : List ℕ) where
   unfolding pin_of
   source_pin g x r = ⊎_elim (λ e. (1, e)) (λ e. (2, e)) r.is
 
-  module _ (none : refusal (name_rules t (defs_in t) (uses_in t)) ≡ Fine) where
+  module _ (none : refusal (name_rules t (defs_in t) (uses_in t)) ≡ Ok tt) where
     -- ---- from the text to the net
 
     net_source_lem : {k h : ℕ} → Line says_gate t k → ReadsFrom t k h → Source (gates_to (forms_in t) k) (gates_to (forms_in t) h)

@@ -5,7 +5,6 @@ use mathlib.Core.List.{List}
 use Prim.Native.Nat.{ℕ, ◌≤◌, ◌<◌}
 use native.Mathlib.Omega.{arith}
 use borrow.Author.Tests.{lt-ltb, le-ltb, le-leb}
-use Rattle.answers.specs.declared.Ruling.TheVariants.{Fine}
 use Rattle.answers.specs.Rules.{refusal}
 use Rattle.gates.specs.Gate.{pins_of}
 use Rattle.gates.proofs.Laws.{few_pins}
@@ -25,8 +24,9 @@ use Rattle.equations.proofs.Tables.{counted, gates_are, inputs_are, kind_get, pi
 use Rattle.texts.proofs.Numbers.{size_is}
 use Rattle.equations.proofs.SameMeaning.{gate-defines, input-defines, number_of_gate}
 use Rattle.equations.proofs.Lines.{number-on, own_lines}
+use Rattle.std.specs.Prelude.{Ok}
 
-module _ (t : List ℕ) (none : refusal (name_rules t (defs_in t) (uses_in t)) ≡ Fine) (r : Right (net_in t)) (few : net_size (net_in t) ≤ 65536) where
+module _ (t : List ℕ) (none : refusal (name_rules t (defs_in t) (uses_in t)) ≡ Ok tt) (r : Right (net_in t)) (few : net_size (net_in t) ≤ 65536) where
   own : OwnLines t
   own = own_lines t none r
 

@@ -7,7 +7,6 @@ use native.Mathlib.Omega.{arith}
 use lib.ListN.{length, get_or, length-map}
 use Rattle.ground.specs.Lists.{elem}
 use Rattle.ground.proofs.Elem.{elem_at}
-use Rattle.answers.specs.declared.Ruling.TheVariants.{Fine}
 use Rattle.answers.specs.Rules.{refusal}
 use Rattle.syntax.specs.Syntax.{Formed}
 use Rattle.names.specs.Names.{name_rules}
@@ -22,8 +21,9 @@ use Rattle.equations.specs.Placing.{InOrder, FirstLeft}
 use Rattle.equations.proofs.Tables.{inputs_are, map_get, gate-line}
 use Rattle.equations.proofs.SameMeaning.{number_of_gate}
 use Rattle.equations.proofs.Placing.{number, number_inside, later, later-line, order_gates, elem-same, Whole, whole, one-order, places_to, places_from}
+use Rattle.std.specs.Prelude.{Ok}
 
-module _ (t : List ℕ) (f : Formed t) (none : refusal (name_rules t (defs_in t) (uses_in t)) ≡ Fine) where
+module _ (t : List ℕ) (f : Formed t) (none : refusal (name_rules t (defs_in t) (uses_in t)) ≡ Ok tt) where
   -- ---- where all gates are placed
 
   module _ (r : Right (net_in t)) where

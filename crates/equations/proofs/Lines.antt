@@ -3,7 +3,6 @@
 use mathlib.Core.Path.{◌≡◌, sym, ap, ◌∙◌}
 use mathlib.Core.List.{List}
 use Prim.Native.Nat.{ℕ, ◌+◌, ◌<◌}
-use Rattle.answers.specs.declared.Ruling.TheVariants.{Fine}
 use Rattle.answers.specs.Rules.{refusal}
 use Rattle.forms.specs.Forms.{inputs_to}
 use Rattle.names.specs.Names.{name_rules}
@@ -19,8 +18,9 @@ use Rattle.equations.proofs.Tables.{gate-line, input-line}
 use Rattle.texts.proofs.Numbers.{size_is}
 use Rattle.equations.proofs.RightNet.{number_below}
 use Rattle.equations.proofs.SameMeaning.{gate-defines, input-defines, name_of_lem, number_of_gate, number_of_input}
+use Rattle.std.specs.Prelude.{Ok}
 
-module _ (t : List ℕ) (none : refusal (name_rules t (defs_in t) (uses_in t)) ≡ Fine) where
+module _ (t : List ℕ) (none : refusal (name_rules t (defs_in t) (uses_in t)) ≡ Ok tt) where
   -- a name with the number x
   record Named (x : ℕ) : Type 0 where
     word : List ℕ

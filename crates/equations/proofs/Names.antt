@@ -8,7 +8,6 @@ use native.Mathlib.Omega.{arith}
 use lib.ListN.{length, get_or}
 use Rattle.ground.specs.Lists.{elem}
 use Rattle.ground.proofs.Collect.{count_one}
-use Rattle.answers.specs.declared.Ruling.TheVariants.{Fine}
 use Rattle.answers.specs.Rules.{refusal, AllHold}
 use Rattle.answers.proofs.Rules.{all_hold, fine}
 use Rattle.words.specs.Words.{word_at}
@@ -23,10 +22,11 @@ use Rattle.equations.specs.Right.{Defines, Defined, NamesRight}
 use Rattle.equations.specs.Numbers.{number_for}
 use Rattle.equations.proofs.Tables.{place_of, def_get, def_inside, number_get}
 use Rattle.equations.proofs.Uses.{def_line, def_defines, output_at, source_at, used_output, used_source, used_inside, used_cases}
+use Rattle.std.specs.Prelude.{Ok}
 
 -- ---- where 15 is not given
 
-module _ (t : List ℕ) (none : refusal (name_rules t (defs_in t) (uses_in t)) ≡ Fine) where
+module _ (t : List ℕ) (none : refusal (name_rules t (defs_in t) (uses_in t)) ≡ Ok tt) where
   names_ok : (i : ℕ) → i < length t → NameOk t (defs_in t) (uses_in t) i
   unfolding name_rules AllHold
   names_ok = (all_hold (name_rules t (defs_in t) (uses_in t)) (names_say t (defs_in t) (uses_in t)) none).0
@@ -75,6 +75,6 @@ module _ (t : List ℕ) (r : NamesRight t) where
     known = λ e. defined-known (word_at t i) (used_cases t (Defined t) r.outputs r.sources i e);
   }
 
-  pub right_names : refusal (name_rules t (defs_in t) (uses_in t)) ≡ Fine
+  pub right_names : refusal (name_rules t (defs_in t) (uses_in t)) ≡ Ok tt
   unfolding name_rules AllHold
   right_names = fine (name_rules t (defs_in t) (uses_in t)) (names_say t (defs_in t) (uses_in t)) (λ i l. name_ok i, tt)

@@ -12,7 +12,6 @@ use Rattle.ground.specs.Lists.{elem}
 use Rattle.ground.proofs.Tests.{both, and_both, one-is}
 use Rattle.ground.proofs.Below.{any_some, some_any}
 use Rattle.ground.proofs.Elem.{elem_at, elem_place}
-use Rattle.answers.specs.declared.Ruling.TheVariants.{Fine}
 use Rattle.answers.specs.Rules.{refusal}
 use Rattle.circuit.specs.Record as record_of
 use Rattle.words.specs.Words.{same}
@@ -34,6 +33,7 @@ use Rattle.equations.proofs.Names.{names_right}
 use Rattle.texts.proofs.Numbers.{size_is}
 use Rattle.ground.proofs.Related.{Match, count_related}
 use Rattle.equations.proofs.Lines.{number-on, own_lines}
+use Rattle.std.specs.Prelude.{Ok}
 
 -- ---- the test says what the words say
 
@@ -52,7 +52,7 @@ module _ (t w : List ℕ) where
   unfolding output_name
   output_name_lem o = any_some (lines_in t) output_of o.place o.line.inside (and_both o.line.passes (rw o.is (same_refl w)))
 
-module _ (t : List ℕ) (none : refusal (name_rules t (defs_in t) (uses_in t)) ≡ Fine) (r : Right (net_in t)) where
+module _ (t : List ℕ) (none : refusal (name_rules t (defs_in t) (uses_in t)) ≡ Ok tt) (r : Right (net_in t)) where
   -- an output's name is defined
   output_defined : (w : List ℕ) → IsOutput t w → Defined t w
   output_defined w o = rw (← o.is) ((names_right t none).outputs o.place o.line)

@@ -16,7 +16,6 @@ use Rattle.ground.proofs.Tests.{either, both}
 use Rattle.ground.proofs.Lists.{elem_other}
 use Rattle.ground.proofs.Counting.{count_mono, count_below_lem}
 use Rattle.ground.proofs.Collect.{count_one}
-use Rattle.answers.specs.declared.Ruling.TheVariants.{Fine}
 use Rattle.answers.specs.Rules.{refusal}
 use Rattle.gates.specs.Gate.{pins_of}
 use Rattle.syntax.specs.Syntax.{Formed}
@@ -36,6 +35,7 @@ use Rattle.equations.specs.Placing.{There, input, gate, Placeable, EarliestGate,
 use Rattle.equations.proofs.Tables.{counted, gates_are, gate-line, pin_get, gate-number, by_cases}
 use Rattle.equations.proofs.Names.{names_right, number_of_name}
 use Rattle.equations.proofs.SameMeaning.{number_of_gate, number_of_input}
+use Rattle.std.specs.Prelude.{Ok}
 
 -- at each pin of a gate that is ready the source is there
 pins_there : (net : Net) (q : List ℕ) (g : ℕ) → ready net.firsts net.seconds q g ≡ true → (s : ℕ) → there (gates_of net) q (pin_of net g s) ≡ true
@@ -121,7 +121,7 @@ module _ (t : List ℕ) where
       go (yes y) f ih = rw (← y) r.is_ready.gate
       go (no n) f ih = ih (sym (elem_other q j k n) ∙ f)
 
-  module _ (f : Formed t) (none : refusal (name_rules t (defs_in t) (uses_in t)) ≡ Fine) where
+  module _ (f : Formed t) (none : refusal (name_rules t (defs_in t) (uses_in t)) ≡ Ok tt) where
     -- ---- ready in the text is ready in the net
 
     module _ {k : ℕ} (l : Line says_gate t k) where

@@ -6,14 +6,12 @@ use mathlib.Core.List.{List}
 use Prim.Native.Nat.{ℕ, ◌*◌}
 use lib.ListN.{length, take, drop}
 use lib.Seq.{take_at}
-use Rattle.answers.specs.declared.Ruling.{Ruling}
+use Rattle.answers.specs.Rules.{Ruling}
 use Rattle.answers.specs.Answer.{answered}
 use Rattle.answers.proofs.Answer.{was_ruled}
 use Rattle.answers.specs.Rules.{refusal, unless}
 use Rattle.circuit.specs.Record.{lines_of}
 use Rattle.netlist.proofs.Fields.{net_long, net_lines}
-use Rattle.nets.specs.declared.Read.{Read}
-use Rattle.nets.specs.declared.Read.TheVariants.{Records, Refused}
 use Rattle.ground.specs.Put.{laid_on}
 use Rattle.nets.specs.Rules.{buffer_bytes}
 use Rattle.texts.specs.Text.{net_in}
@@ -26,21 +24,25 @@ use Rattle.texts.proofs.Numbers.{size_is}
 use Rattle.equations.proofs.Computes.{computes}
 use Rattle.equations.proofs.Accepted.{accepted}
 use Rattle.equations.proofs.Sixteen.{sixteen, sixteen_place}
+use Rattle.std.specs.Prelude.{Ok, Err, Result}
+use Rattle.answers.specs.declared.Refusal.{Refusal}
+use Rattle.answers.specs.declared.Reason.{Reason}
+use Rattle.answers.specs.declared.Reason.TheVariants.{BenchSyntax, BenchName, BenchCycle}
 
 pub lines_are : (t : List ℕ) → lines_of (records_in t) ≡ size_in t
 lines_are t = net_lines (net_in t) ∙ size_is t
 
 -- the answer by the ruling
-given_by_lem : (t : List ℕ) {v w : Ruling} → v ≡ w → answered Refused v (Records (lines_of (records_in t))) ≡ answered Refused w (Records (lines_of (records_in t)))
-given_by_lem t = ap (λ (v : Ruling). answered Refused v (Records (lines_of (records_in t))))
+given_by_lem : (t : List ℕ) {v w : Ruling} → v ≡ w → answered v (lines_of (records_in t)) ≡ answered w (lines_of (records_in t))
+given_by_lem t = ap (λ (v : Ruling). answered v (lines_of (records_in t)))
 
 module _ {t c c' : List ℕ} where
   -- the records are those of a circuit that computes what the text says, as many as answered
-  pub read_computes : {n : ℕ} → Reads t c c' (Records n) → (n ≡ size_in t) × Computes t (take (8 * n) c')
+  pub read_computes : {n : ℕ} → Reads t c c' (Ok n) → (n ≡ size_in t) × Computes t (take (8 * n) c')
   unfolding read_of
   read_computes {n} p =
-      let e : refusal (bench_rules t (length c)) ≡ Ruling.Fine = was_ruled (ruled (lines_of (records_in t))) p.answer refl in
-      let a : Records n ≡ Records (lines_of (records_in t)) = p.answer ∙ given_by_lem t e in
+      let e : refusal (bench_rules t (length c)) ≡ Ok tt = was_ruled (ruled (lines_of (records_in t))) p.answer refl in
+      let a : Ok n ≡ Ok (lines_of (records_in t)) = p.answer ∙ given_by_lem t e in
       let m : n ≡ size_in t = cc (a, lines_are t) in
       let laid : c' ≡ laid_on c (records_in t) = p.circuit ∙ ap (λ (v : Ruling). unless v c (laid_on c (records_in t))) e in
       let long : length (records_in t) ≡ 8 * n = net_long (net_in t) ∙ ap (λ (k : ℕ). 8 * k) (size_is t ∙ sym m) in (
@@ -48,32 +50,32 @@ module _ {t c c' : List ℕ} where
         subst (Computes t) (sym (ap (take (8 * n)) laid ∙ take_at (records_in t) (drop (length (records_in t)) c) (8 * n) long)) (computes t (length c) e),
       )
 
-  module _ {r : Read} (p : Reads t c c' r) where
+  module _ {r : Result ℕ Refusal} (p : Reads t c c' r) where
     -- what can be accepted is accepted
-    pub read_accepts : Acceptable t → length c ≡ buffer_bytes → r ≡ Records (size_in t)
+    pub read_accepts : Acceptable t → length c ≡ buffer_bytes → r ≡ Ok (size_in t)
     unfolding read_of
     read_accepts a e =
         p.answer
         ∙ given_by_lem t (ap (λ (n : ℕ). refusal (bench_rules t n)) e ∙ accepted t a)
-        ∙ ap Records (lines_are t)
+        ∙ ap Ok (lines_are t)
 
-    given : {m k : ℕ} → refusal (bench_rules t (length c)) ≡ Ruling.Refused m k → r ≡ Refused m k
+    given : {m : Reason} {k : ℕ} → refusal (bench_rules t (length c)) ≡ Err (m, k) → r ≡ Err (m, k)
     unfolding read_of
     given e = p.answer ∙ given_by_lem t e
 
     -- without 14 or 15, 16 is given exactly if the text has a cycle
-    module _ (a : (k : ℕ) → r ≡ Refused 14 k → ⊥) (b : (k : ℕ) → r ≡ Refused 15 k → ⊥) where
-      refused : {m k : ℕ} → r ≡ Refused m k → refusal (bench_rules t (length c)) ≡ Ruling.Refused m k
+    module _ (a : (k : ℕ) → r ≡ Err (BenchSyntax, k) → ⊥) (b : (k : ℕ) → r ≡ Err (BenchName, k) → ⊥) where
+      refused : {m : Reason} {k : ℕ} → r ≡ Err (m, k) → refusal (bench_rules t (length c)) ≡ Err (m, k)
       unfolding read_of
       refused e = was_ruled (ruled (lines_of (records_in t))) p.answer (ap ruling_of e)
 
-      pub read_sixteen : ((k : ℕ) × (r ≡ Refused 16 k)) ↔ TextCycle t
+      pub read_sixteen : ((k : ℕ) × (r ≡ Err (BenchCycle, k))) ↔ TextCycle t
       read_sixteen =
           let s = sixteen t (length c) (λ k e. a k (given e)) (λ k e. b k (given e)) in
           (λ (k, e). s.0 (k, refused e), λ y. let w = s.1 y in (w.0, given w.1))
 
       -- at gate g exactly if it is the first in the text that can't be placed
-      pub read_place : (g : ℕ) → (r ≡ Refused 16 g) ↔ FirstLeft t g
+      pub read_place : (g : ℕ) → (r ≡ Err (BenchCycle, g)) ↔ FirstLeft t g
       read_place g =
           let s = sixteen_place t (length c) (λ k e. a k (given e)) (λ k e. b k (given e)) g in
           (λ e. s.0 (refused e), λ y. given (s.1 y))

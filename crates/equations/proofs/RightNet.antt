@@ -4,7 +4,6 @@ use mathlib.Core.Path.{◌≡◌, sym, ◌∙◌}
 use mathlib.Core.List.{List}
 use Prim.Native.Nat.{ℕ, ◌≤◌, ◌<◌}
 use lib.ListN.{length, get_or, length-map}
-use Rattle.answers.specs.declared.Ruling.TheVariants.{Fine}
 use Rattle.answers.specs.Rules.{refusal}
 use Rattle.gates.specs.Gate.{selector}
 use Rattle.words.specs.Words.{words_in, ends_in}
@@ -23,6 +22,7 @@ use Rattle.equations.specs.Right.{Defined}
 use Rattle.equations.specs.Numbers.{number_for}
 use Rattle.equations.proofs.Tables.{gates_are, gate-line, output_line, kind_get, pin_get, output_get, number_inside}
 use Rattle.equations.proofs.Names.{names_right, number_of_name}
+use Rattle.std.specs.Prelude.{Ok}
 
 module _ (t : List ℕ) where
   kinds_long : length (net_in t).kinds ≡ gates_of (net_in t)
@@ -36,7 +36,7 @@ module _ (t : List ℕ) where
   kind_in_lem : Formed t → (g : ℕ) → g < gates_of (net_in t) → (1 ≤ get_or (net_in t).kinds g 0) × (get_or (net_in t).kinds g 0 < selector)
   kind_in_lem f g l = let n = gate-line t l in let w = (gate_sources t f n.place n.line.passes).0 in rw (← n.before, kind_get n.line) (w.some_kind, w.no_selector)
 
-  module _ (none : refusal (name_rules t (defs_in t) (uses_in t)) ≡ Fine) where
+  module _ (none : refusal (name_rules t (defs_in t) (uses_in t)) ≡ Ok tt) where
     -- the number of a name that is defined is a gate's or an input's
     pub number_below : (w : List ℕ) → Defined t w → number_for t w < net_size (net_in t)
     number_below w (k, d) = rw (number_of_name t none d, size_is t) (number_inside d.line)
@@ -51,7 +51,7 @@ module _ (t : List ℕ) where
         let n = output_line t l in
         rw (← n.before, output_get n.line) (number_below (word_on t n.place 1) ((names_right t none).outputs n.place n.line))
 
-    pub right_net : Formed t → refusal (cycle_rules (net_in t).firsts (net_in t).seconds) ≡ Fine → Right (net_in t)
+    pub right_net : Formed t → refusal (cycle_rules (net_in t).firsts (net_in t).seconds) ≡ Ok tt → Right (net_in t)
     unfolding pin_of
     right_net f placed = record {
       kinds_long = kinds_long;

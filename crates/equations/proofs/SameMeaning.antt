@@ -4,7 +4,6 @@ use mathlib.Core.Path.{◌≡◌, refl, sym, ap, ◌∙◌, fun_ext}
 use mathlib.Core.Bool.{or-true}
 use mathlib.Core.List.{List}
 use Prim.Native.Nat.{ℕ, ◌+◌}
-use Rattle.answers.specs.declared.Ruling.TheVariants.{Fine}
 use Rattle.answers.specs.Rules.{refusal}
 use Rattle.forms.specs.Forms.{says_input, says_gate, gates_to, inputs_to}
 use Rattle.names.specs.Names.{name_rules}
@@ -16,6 +15,7 @@ use Rattle.equations.specs.Right.{Line, Defined, Defines}
 use Rattle.equations.specs.Numbers.{name_of, number_for}
 use Rattle.equations.proofs.Tables.{counted, gates_are, inputs_are, gate-line, input-line, kind_get, pin_get, gate-number, input-number, name_of_number}
 use Rattle.equations.proofs.Names.{names_right, number_of_name}
+use Rattle.std.specs.Prelude.{Ok}
 
 -- a gate's line and an input's define a name
 pub gate-defines : {t : List ℕ} {k : ℕ} → Line says_gate t k → Defines t k (name_on t k)
@@ -24,7 +24,7 @@ gate-defines l = record { line = record { inside = l.inside; passes = rw (l.pass
 pub input-defines : {t : List ℕ} {k : ℕ} → Line says_input t k → Defines t k (name_on t k)
 input-defines l = record { line = record { inside = l.inside; passes = rw l.passes }; is = refl }
 
-module _ (t : List ℕ) (none : refusal (name_rules t (defs_in t) (uses_in t)) ≡ Fine) where
+module _ (t : List ℕ) (none : refusal (name_rules t (defs_in t) (uses_in t)) ≡ Ok tt) where
   -- the name of the number of a name that is defined
   pub name_of_lem : (w : List ℕ) → Defined t w → name_of t (number_for t w) ≡ w
   name_of_lem w (k, d) = ap (name_of t) (number_of_name t none d) ∙ name_of_number d.line ∙ d.is

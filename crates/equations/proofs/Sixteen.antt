@@ -5,8 +5,7 @@ use mathlib.Core.Logic.{◌↔◌}
 use mathlib.Core.List.{List, ◌++◌}
 use Prim.Native.Nat.{ℕ}
 use native.Mathlib.Omega.{arith}
-use Rattle.answers.specs.declared.Ruling.{Ruling}
-use Rattle.answers.specs.declared.Ruling.TheVariants.{Fine, Refused}
+use Rattle.answers.specs.Rules.{Ruling}
 use Rattle.answers.specs.Rules.{refusal}
 use Rattle.answers.proofs.Rules.{after_refused, after_fine}
 use Rattle.circuit.specs.Promise.{circuit_rules}
@@ -25,77 +24,80 @@ use Rattle.equations.specs.Placing.{FirstLeft}
 use Rattle.equations.proofs.Cycles.{net_cycle, text_cycle}
 use Rattle.equations.proofs.InOrder as placing
 use Rattle.answers.proofs.Numbers.{refused_number}
+use Rattle.std.specs.Prelude.{Ok, Err}
+use Rattle.answers.specs.declared.Reason.{Reason}
+use Rattle.answers.specs.declared.Reason.TheVariants.{BenchCycle}
 
-syntax_14 : (t : List ℕ) {m k : ℕ} → refusal (syntax_rules t) ≡ Refused m k → m ≡ 14
+syntax_14 : (t : List ℕ) {m : Reason} {k : ℕ} → refusal (syntax_rules t) ≡ Err (m, k) → m ≡ 14
 unfolding syntax_rules
 syntax_14 t = refused_number (λ m. m ≡ 14) (syntax_rules t) (refl, (refl, tt))
 
-names_15 : (t : List ℕ) {m k : ℕ} → refusal (name_rules t (defs_in t) (uses_in t)) ≡ Refused m k → m ≡ 15
+names_15 : (t : List ℕ) {m : Reason} {k : ℕ} → refusal (name_rules t (defs_in t) (uses_in t)) ≡ Err (m, k) → m ≡ 15
 unfolding name_rules
 names_15 t = refused_number (λ m. m ≡ 15) (name_rules t (defs_in t) (uses_in t)) (refl, tt)
 
-records_not_16 : (c : List ℕ) (room : ℕ) {m k : ℕ} → refusal (record_rules c room) ≡ Refused m k → m ≡ 16 → ⊥
+records_not_16 : (c : List ℕ) (room : ℕ) {m : Reason} {k : ℕ} → refusal (record_rules c room) ≡ Err (m, k) → m ≡ 16 → ⊥
 unfolding buffer_rules
 records_not_16 c room {m} {k} e = go (refusal (circuit_rules c)) refl e
   where
-    ten : refusal (buffer_rules room) ≡ Refused m k → m ≡ 10
+    ten : refusal (buffer_rules room) ≡ Err (m, k) → m ≡ 10
     ten = refused_number (λ m. m ≡ 10) (buffer_rules room) (refl, tt)
 
-    go : (v : Ruling) → refusal (circuit_rules c) ≡ v → refusal (circuit_rules c ++ buffer_rules room) ≡ Refused m k → m ≡ 16 → ⊥
-    go Fine q f s = omega (arith, ten (sym (after_fine (circuit_rules c) (buffer_rules room) q) ∙ f))
-    go (Refused x y) q f s =
-        let given : Refused x y ≡ Refused m k = sym (after_refused (circuit_rules c) (buffer_rules room) q) ∙ f in
-        let number : x ≡ m = cc in
+    go : (v : Ruling) → refusal (circuit_rules c) ≡ v → refusal (circuit_rules c ++ buffer_rules room) ≡ Err (m, k) → m ≡ 16 → ⊥
+    go (Ok u) q f s = omega (arith, ten (sym (after_fine (circuit_rules c) (buffer_rules room) q) ∙ f))
+    go (Err why) q f s =
+        let given : Err why ≡ Err (m, k) = sym (after_refused (circuit_rules c) (buffer_rules room) q) ∙ f in
+        let number : why.0 ≡ m = cc in
         omega (arith, refused_small c q)
 
 module _ (t : List ℕ) (room : ℕ) where
   -- a number is not given
   abbrev pub Without : ℕ → Type 0
-  Without m = (k : ℕ) → refusal (bench_rules t room) ≡ Refused m k → ⊥
+  Without m = (k : ℕ) → refusal (bench_rules t room) ≡ Err (m, k) → ⊥
 
-  no_14 : Without 14 → refusal (syntax_rules t) ≡ Fine
+  no_14 : Without 14 → refusal (syntax_rules t) ≡ Ok tt
   no_14 n = go (refusal (syntax_rules t)) refl
     where
-      go : (v : Ruling) → refusal (syntax_rules t) ≡ v → v ≡ Fine
-      go Fine e = refl
-      go (Refused m k) e = absurd (n k (after_refused (syntax_rules t) _ e ∙ ap (λ (i : ℕ). Refused i k) (syntax_14 t e)))
+      go : (v : Ruling) → refusal (syntax_rules t) ≡ v → v ≡ Ok tt
+      go (Ok u) e = refl
+      go (Err why) e = absurd (n why.1 (after_refused (syntax_rules t) _ e ∙ ap (λ (i : ℕ). Err (i, why.1)) (syntax_14 t e)))
 
-  module _ (syntax : refusal (syntax_rules t) ≡ Fine) where
-    no_15 : Without 15 → refusal (name_rules t (defs_in t) (uses_in t)) ≡ Fine
+  module _ (syntax : refusal (syntax_rules t) ≡ Ok tt) where
+    no_15 : Without 15 → refusal (name_rules t (defs_in t) (uses_in t)) ≡ Ok tt
     no_15 n = go (refusal (name_rules t (defs_in t) (uses_in t))) refl
       where
-        go : (v : Ruling) → refusal (name_rules t (defs_in t) (uses_in t)) ≡ v → v ≡ Fine
-        go Fine e = refl
-        go (Refused m k) e =
-            absurd (n k (after_fine (syntax_rules t) _ syntax
+        go : (v : Ruling) → refusal (name_rules t (defs_in t) (uses_in t)) ≡ v → v ≡ Ok tt
+        go (Ok u) e = refl
+        go (Err why) e =
+            absurd (n why.1 (after_fine (syntax_rules t) _ syntax
             ∙ after_refused (name_rules t (defs_in t) (uses_in t)) _ e
-            ∙ ap (λ (i : ℕ). Refused i k) (names_15 t e)))
+            ∙ ap (λ (i : ℕ). Err (i, why.1)) (names_15 t e)))
 
-    module _ (names : refusal (name_rules t (defs_in t) (uses_in t)) ≡ Fine) where
+    module _ (names : refusal (name_rules t (defs_in t) (uses_in t)) ≡ Ok tt) where
       -- what is left are the rules of the net
       net_left : refusal (bench_rules t room) ≡ refusal (net_rules (net_in t) room)
       net_left = after_fine (syntax_rules t) _ syntax ∙ after_fine (name_rules t (defs_in t) (uses_in t)) _ names
 
       -- the records are not refused with 16, so the net is
-      net_sixteen : {k : ℕ} → refusal (bench_rules t room) ≡ Refused 16 k → refusal (cycle_rules (net_in t).firsts (net_in t).seconds) ≡ Refused 16 k
+      net_sixteen : {k : ℕ} → refusal (bench_rules t room) ≡ Err (BenchCycle, k) → refusal (cycle_rules (net_in t).firsts (net_in t).seconds) ≡ Err (BenchCycle, k)
       net_sixteen {k} e = go (refusal (cycle_rules (net_in t).firsts (net_in t).seconds)) refl
         where
-          go : (v : Ruling) → refusal (cycle_rules (net_in t).firsts (net_in t).seconds) ≡ v → v ≡ Refused 16 k
-          go Fine q =
-              let records : refusal (record_rules (records_in t) room) ≡ Refused 16 k =
+          go : (v : Ruling) → refusal (cycle_rules (net_in t).firsts (net_in t).seconds) ≡ v → v ≡ Err (BenchCycle, k)
+          go (Ok u) q =
+              let records : refusal (record_rules (records_in t) room) ≡ Err (BenchCycle, k) =
               sym (after_fine (cycle_rules (net_in t).firsts (net_in t).seconds) _ q) ∙ sym net_left ∙ e in
               absurd (records_not_16 (records_in t) room records refl)
-          go (Refused m i) q = sym (net_left ∙ after_refused (cycle_rules (net_in t).firsts (net_in t).seconds) _ q) ∙ e
+          go (Err why) q = sym (net_left ∙ after_refused (cycle_rules (net_in t).firsts (net_in t).seconds) _ q) ∙ e
 
-      sixteen_net : {k : ℕ} → refusal (cycle_rules (net_in t).firsts (net_in t).seconds) ≡ Refused 16 k → refusal (bench_rules t room) ≡ Refused 16 k
+      sixteen_net : {k : ℕ} → refusal (cycle_rules (net_in t).firsts (net_in t).seconds) ≡ Err (BenchCycle, k) → refusal (bench_rules t room) ≡ Err (BenchCycle, k)
       sixteen_net e = net_left ∙ after_refused (cycle_rules (net_in t).firsts (net_in t).seconds) _ e
 
   -- without 14 and 15 the text is right in syntax and names
   module _ {P : Type 0} where
-    right : (refusal (syntax_rules t) ≡ Fine → refusal (name_rules t (defs_in t) (uses_in t)) ≡ Fine → P) → Without 14 → Without 15 → P
+    right : (refusal (syntax_rules t) ≡ Ok tt → refusal (name_rules t (defs_in t) (uses_in t)) ≡ Ok tt → P) → Without 14 → Without 15 → P
     right f a b = let syntax = no_14 a in f syntax (no_15 syntax b)
 
-  pub sixteen : Without 14 → Without 15 → ((k : ℕ) × (refusal (bench_rules t room) ≡ Refused 16 k)) ↔ TextCycle t
+  pub sixteen : Without 14 → Without 15 → ((k : ℕ) × (refusal (bench_rules t room) ≡ Err (BenchCycle, k))) ↔ TextCycle t
   sixteen =
       right
       (λ syntax names. (
@@ -104,7 +106,7 @@ module _ (t : List ℕ) (room : ℕ) where
       ))
 
   -- and it names the first gate in the text that can't be placed
-  pub sixteen_place : Without 14 → Without 15 → (g : ℕ) → (refusal (bench_rules t room) ≡ Refused 16 g) ↔ FirstLeft t g
+  pub sixteen_place : Without 14 → Without 15 → (g : ℕ) → (refusal (bench_rules t room) ≡ Err (BenchCycle, g)) ↔ FirstLeft t g
   sixteen_place =
       right
       (λ syntax names g.

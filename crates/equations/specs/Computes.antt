@@ -1,13 +1,12 @@
 -- What is promised of a text beyond the bytes that are written: which texts are accepted, and that the records are then a circuit that
 -- computes what the text says.
 -- Assumes nothing.
-use Rattle.std.specs.Prelude.{◌≡◌, ◌↔◌, Bool, true, ◌&&◌, List, ℕ, ◌+◌, ◌≤◌, ◌<◌, get_or}
+use Rattle.std.specs.Prelude.{◌≡◌, ◌↔◌, Bool, true, ◌&&◌, List, ℕ, ◌+◌, ◌≤◌, ◌<◌, get_or, Ok}
 use Rattle.ground.specs.Below.{any_below, count_below}
 use Rattle.gates.specs.Gate.{pins_of, gate_of}
 use Rattle.gates.specs.Boolean.{bool_gate}
-use Rattle.circuit.specs.declared.Checked.TheVariants.{Accepted}
 use Rattle.circuit.specs.Record as record_of
-use Rattle.circuit.specs.Promise.{check_of}
+use Rattle.circuit.specs.Promise.{check_of, counts_are}
 use Rattle.simulate.specs.Work.{good_of}
 use Rattle.simulate.specs.Boolean.{Vector, good, truth_at}
 use Rattle.words.specs.Words.{same}
@@ -72,7 +71,7 @@ pub record OneSolution {A : Type 0} (gate : ℕ → (ℕ → A) → A) (t : List
 
 -- the records c of the text t
 pub record Computes (t c : List ℕ) : Type 0 where
-  pub check : check_of c ≡ Accepted (size_in t) (inputs_in (forms_in t)) (outputs_in t)
+  pub check : check_of c ≡ Ok (counts_are (size_in t) (inputs_in (forms_in t)) (outputs_in t))
   pub lines : OwnLines t
   pub gates : InOrder t
   pub records : OwnRecords t c

@@ -7,7 +7,7 @@ use mathlib.Core.List.{List}
 use Prim.Native.Nat.{ℕ, ◌+◌, ◌-◌, ◌^◌, ◌≤◌, ◌<◌}
 use native.Mathlib.Omega.{arith}
 use lib.ListN.{length}
-use Rattle.answers.specs.declared.Ruling.{Ruling}
+use Rattle.answers.specs.Rules.{Ruling}
 use Rattle.answers.specs.Rules.{refusal}
 use Rattle.answers.proofs.Rules.{both_fine}
 use Rattle.circuit.specs.Record.{lines_of, inputs_of}
@@ -26,7 +26,6 @@ use Rattle.nodes.specs.Walk.{Answers}
 use Rattle.nodes.proofs.Node.{start_is}
 use Rattle.nodes.proofs.Walk.{answers}
 use Rattle.nodes.proofs.Budget as budget
-use Rattle.search.specs.declared.Searched.TheVariants as searched
 use Rattle.search.specs.Promise.{search_rest_rules, search_rules, Searches}
 use Rattle.search.proofs.Says.{was_found}
 use Rattle.verdicts.specs.Told.{Tells}
@@ -38,12 +37,13 @@ use Rattle.head_verdicts.proofs.Verdicts as heads
 use Rattle.search_heads.specs.Promise.{served, head_verdict_for, head_test_for, head_work_for, HeadSearches}
 use Rattle.head_meaning.specs.Told.{head_count, all_head_nodes}
 use Rattle.head_meaning.proofs.Served.{serves_says}
+use Rattle.std.specs.Prelude.{Ok}
 
-module _ {c f : List ℕ} {b : ℕ} {t w : List ℕ} {v : Verdict} {t' w' : List ℕ} (p : HeadSearches c f b t w (searched.Verdict v) t' w') where
-  pub fine : (refusal (search_rules c f (length t) (length w)) ≡ Ruling.Fine) × (v ≡ head_verdict_for c (fault_at f 0) b)
+module _ {c f : List ℕ} {b : ℕ} {t w : List ℕ} {v : Verdict} {t' w' : List ℕ} (p : HeadSearches c f b t w (Ok v) t' w') where
+  pub fine : (refusal (search_rules c f (length t) (length w)) ≡ Ok tt) × (v ≡ head_verdict_for c (fault_at f 0) b)
   fine = was_found p.answer
 
-  accepted : (refusal (circuit_rules c) ≡ Ruling.Fine) × (refusal (search_rest_rules c f (inputs_of c) (lines_of c) (length t) (length w)) ≡ Ruling.Fine)
+  accepted : (refusal (circuit_rules c) ≡ Ok tt) × (refusal (search_rest_rules c f (inputs_of c) (lines_of c) (length t) (length w)) ≡ Ok tt)
   accepted = both_fine (circuit_rules c) (search_rest_rules c f (inputs_of c) (lines_of c) (length t) (length w)) fine.0
 
   value : (fault_at f 0).value ≤ 1
@@ -56,7 +56,7 @@ module _ {c f : List ℕ} {b : ℕ} {t w : List ℕ} {v : Verdict} {t' w' : List
 
   -- ---- where the fault is not served, the promise is the very one of the search
 
-  pub as_search : served c (fault_at f 0) ≡ false → Searches c f b t w (searched.Verdict v) t' w'
+  pub as_search : served c (fault_at f 0) ≡ false → Searches c f b t w (Ok v) t' w'
   unfolding head_verdict_for head_test_for head_work_for
   as_search e = record { answer = rw e at p.answer; numbers = rw e at p.numbers; test = rw e at p.test; work = rw e at p.work }
 
@@ -138,8 +138,8 @@ module _ {c f : List ℕ} {b : ℕ} {t w : List ℕ} {v : Verdict} {t' w' : List
 
 -- where both searches reach a verdict they agree, whatever their budgets
 pub agree : {c f : List ℕ} {b b₂ : ℕ} {t w t₂ w₂ : List ℕ} {v u : Verdict} {t' w' t₂' w₂' : List ℕ}
-    → HeadSearches c f b t w (searched.Verdict v) t' w'
-    → Searches c f b₂ t₂ w₂ (searched.Verdict u) t₂' w₂'
+    → HeadSearches c f b t w (Ok v) t' w'
+    → Searches c f b₂ t₂ w₂ (Ok u) t₂' w₂'
     → Decided v
     → Decided u
     → (((k : ℕ) × (v ≡ Test k)) ↔ ((k : ℕ) × (u ≡ Test k))) × (((k : ℕ) × (v ≡ Redundant k)) ↔ ((k : ℕ) × (u ≡ Redundant k)))

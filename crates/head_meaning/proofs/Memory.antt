@@ -20,7 +20,6 @@ use Rattle.nodes.specs.Node.{Node, start}
 use Rattle.nodes.specs.Order.{trail}
 use Rattle.nodes.specs.Budget.{Decided, test_by}
 use Rattle.nodes.proofs.Budget as budget
-use Rattle.search.specs.declared.Searched.TheVariants as searched
 use Rattle.sides.specs.Look.{look_work}
 use Rattle.verdicts.proofs.Verdicts as inputs
 use Rattle.heads.specs.Heads.{bound, head}
@@ -30,10 +29,11 @@ use Rattle.head_verdicts.proofs.Look.{others_x}
 use Rattle.search_heads.specs.Promise.{served, head_test_for, head_work_for, HeadSearches}
 use Rattle.head_meaning.specs.Told.{head_count, all_head_nodes, head_trail, head_works}
 use Rattle.head_meaning.proofs.Meaning.{fine, well, serves, is, buffer, as_search}
+use Rattle.std.specs.Prelude.{Ok}
 
 -- ---- of a fault that is served
 
-module _ {c f : List ℕ} {b : ℕ} {t w : List ℕ} {v : Verdict} {t' w' : List ℕ} (p : HeadSearches c f b t w (searched.Verdict v) t' w') (s : served c (fault_at f 0) ≡ true) where
+module _ {c f : List ℕ} {b : ℕ} {t w : List ℕ} {v : Verdict} {t' w' : List ℕ} (p : HeadSearches c f b t w (Ok v) t' w') (s : served c (fault_at f 0) ≡ true) where
   -- the test buffer is written only for a test: the node with its trees set
   pub test_buffer : t' ≡ test_by v t (head_test (fault_at f 0) c (lines_of c))
   unfolding head_test_for
@@ -80,7 +80,7 @@ module _ {c f : List ℕ} {b : ℕ} {t w : List ℕ} {v : Verdict} {t' w' : List
 
 -- a larger budget never changes a verdict, nor the test
 module _ {c f : List ℕ} {b b₂ : ℕ} {t w t₂ w₂ : List ℕ} {v v₂ : Verdict} {t' w' t₂' w₂' : List ℕ} (more : b ≤ b₂)
-    (p : HeadSearches c f b t w (searched.Verdict v) t' w') (q : HeadSearches c f b₂ t₂ w₂ (searched.Verdict v₂) t₂' w₂') (d : Decided v) where
+    (p : HeadSearches c f b t w (Ok v) t' w') (q : HeadSearches c f b₂ t₂ w₂ (Ok v₂) t₂' w₂') (d : Decided v) where
   pub larger : v₂ ≡ v
   larger = go (served c (fault_at f 0)) refl
     where

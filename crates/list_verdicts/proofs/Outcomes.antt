@@ -7,7 +7,6 @@ use Prim.Native.Nat.{ℕ, ◌≤◌, ◌<◌}
 use native.Mathlib.Omega.{arith}
 use lib.ListN.{length, get_or}
 use Rattle.ground.proofs.Tests.{either}
-use Rattle.answers.specs.declared.Ruling.TheVariants.{Fine}
 use Rattle.circuit.specs.Record.{inputs_of}
 use Rattle.lists.specs.Faults.{fault_count, fault_at}
 use Rattle.lists.specs.Patterns.{pattern_at}
@@ -17,7 +16,6 @@ use Rattle.nodes.specs.Budget.{nodes_of, Decided}
 use Rattle.nodes.specs.Walk.{Ending, tested, finished, verdict_by}
 use Rattle.nodes.proofs.Walk.{only}
 use Rattle.standings.specs.Outcome.{outcome_of}
-use Rattle.search.specs.declared.Searched.TheVariants as searched
 use Rattle.search.specs.Promise.{Searches}
 use Rattle.search_all.specs.Promise.{SearchesAll}
 use Rattle.search_all.proofs.Each.{list_ready, outcome_at, count_at}
@@ -25,6 +23,7 @@ use Rattle.search_all.proofs.InTurn.{record_fault, single}
 use Rattle.verdicts.specs.Told.{all_nodes}
 use Rattle.verdicts.proofs.Verdicts as verdicts
 use Rattle.list_verdicts.specs.Outcomes.{OutcomeMeans}
+use Rattle.std.specs.Prelude.{Ok}
 
 -- ---- a verdict by its outcome
 
@@ -64,7 +63,7 @@ count_by finished k = refl
 
 -- ---- of a single search
 
-module _ {c f : List ℕ} {b : ℕ} {t w : List ℕ} {v : Verdict} {t' w' : List ℕ} (p : Searches c f b t w (searched.Verdict v) t' w') where
+module _ {c f : List ℕ} {b : ℕ} {t w : List ℕ} {v : Verdict} {t' w' : List ℕ} (p : Searches c f b t w (Ok v) t' w') where
   counted : (outcome_of v ≡ 2 → ⊥) → nodes_of v ≡ all_nodes c (fault_at f 0)
   counted n =
       let a = verdicts.in_words p in
@@ -88,7 +87,7 @@ module _ {c f : List ℕ} {b : ℕ} {t w : List ℕ} {v : Verdict} {t' w' : List
 -- ---- of each fault of an accepted list
 
 pub outcomes_mean : {c fs bs o k t w o' k' t' w' : List ℕ}
-    → SearchesAll c fs bs o k t w Fine o' k' t' w'
+    → SearchesAll c fs bs o k t w (Ok tt) o' k' t' w'
     → (i : ℕ) → i < fault_count fs
     → OutcomeMeans c (fault_at fs i) (get_or bs i 0) (get_or o' i 0) (get_or k' i 0) (pattern_at (inputs_of c) t' i)
 outcomes_mean {fs = fs} {w = w} p i h = rw (outcome_at p i h, count_at p i h) (rw (record_fault fs i) at (means (single p i h w (list_ready p).two)))

@@ -5,8 +5,7 @@ use mathlib.Core.List.{List, ◌++◌}
 use Prim.Native.Nat.{ℕ, ◌*◌, ◌≤◌}
 use native.Mathlib.Omega.{arith}
 use lib.ListN.{length}
-use Rattle.answers.specs.declared.Ruling.{Ruling}
-use Rattle.answers.specs.declared.Ruling.TheVariants.{Fine, Refused}
+use Rattle.answers.specs.Rules.{Ruling}
 use Rattle.answers.specs.Rules.{Rule, refusal, unless, AllHold}
 use Rattle.answers.specs.Lent.{lent_rules}
 use Rattle.answers.proofs.Rules.{after_refused, after_fine, same_after, both_fine, fine}
@@ -30,6 +29,7 @@ use Rattle.compact.specs.Promise.{Compacts}
 use Rattle.listing.specs.Promise.{program_rules, dictionary_of}
 use Rattle.listing.specs.Owed.{PutTableReady, PutMadeReady, MakeReady, MakeDone}
 use Rattle.listing.proofs.Small.{table_small}
+use Rattle.std.specs.Prelude.{Ok, Err}
 
 module _ (places : ℕ) (c fs ps t w : List ℕ) where
   -- where the lists are fine, so are the buffers
@@ -45,8 +45,8 @@ module _ (places : ℕ) (c fs ps t w : List ℕ) where
       buffers = lent_rules (fault_count fs * pattern_count (inputs_of c) ps) (length t) (places * lines_of c) (length w)
 
       go : (v : Ruling) → refusal lists ≡ v → refusal (lists ++ buffers) ≡ refusal lists
-      go (Refused x y) e = after_refused lists buffers e ∙ sym e
-      go Fine e =
+      go (Err why) e = after_refused lists buffers e ∙ sym e
+      go (Ok u) e =
           let few = lists_few c (inputs_of c) fs ps e in
           after_fine lists buffers e
           ∙ lent_fine (fault_count fs * pattern_count (inputs_of c) ps) (length t) (places * lines_of c) (length w) (s.entries few.0 few.1) (size ∙ ap (λ (x : ℕ). places * x) s.lines_are)
@@ -69,7 +69,7 @@ tabled {places} {c = c} {fs = fs} {ps = ps} {t = t} {w = w} s size d =
     }
 
 -- where nothing is refused, the dictionary is a table for the compactor
-pub fine_sized : (c fs ps : List ℕ) → refusal (program_rules c fs ps) ≡ Fine → Sized (fault_count fs) (pattern_count (inputs_of c) ps) (length (dictionary_of c fs ps))
+pub fine_sized : (c fs ps : List ℕ) → refusal (program_rules c fs ps) ≡ Ok tt → Sized (fault_count fs) (pattern_count (inputs_of c) ps) (length (dictionary_of c fs ps))
 fine_sized c fs ps e =
     let lists = good_lists c (inputs_of c) fs ps (both_fine (circuit_rules c) _ e).1 in
     let faults = lists.0.records in
@@ -82,8 +82,8 @@ fine_sized c fs ps e =
       product = (made stuck_at c (lines_of c) (inputs_of c) fs ps).size;
     }
 
-module _ {c fs ps t t' : List ℕ} {r : Ruling} (Made-so : MakeDone c fs ps t r t') (is-fine : r ≡ Fine) where
-  rules_fine : refusal (program_rules c fs ps) ≡ Fine
+module _ {c fs ps t t' : List ℕ} {r : Ruling} (Made-so : MakeDone c fs ps t r t') (is-fine : r ≡ Ok tt) where
+  rules_fine : refusal (program_rules c fs ps) ≡ Ok tt
   rules_fine = sym Made-so.answer ∙ is-fine
 
   pub table_is : t' ≡ dictionary_of c fs ps

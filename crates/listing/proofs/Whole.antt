@@ -8,8 +8,7 @@ use lib.ListN.{length, take, drop, take-append-drop}
 use lib.Seq.{length-take-le}
 use Rattle.ground.specs.Put.{Put}
 use Rattle.ground.proofs.Put.{put_long}
-use Rattle.answers.specs.declared.Ruling.{Ruling}
-use Rattle.answers.specs.declared.Ruling.TheVariants.{Fine, Refused}
+use Rattle.answers.specs.Rules.{Ruling}
 use Rattle.answers.specs.Rules.{refusal, unless}
 use Rattle.answers.proofs.Rules.{after_refused}
 use Rattle.circuit.specs.Promise.{circuit_rules}
@@ -26,11 +25,13 @@ use Rattle.listing.specs.Owed.{PutMadeReady, EntriesDone, MakeReady, MakeDone, P
 use Rattle.letters.proofs.Pieces.{refused_short}
 use Rattle.letters.proofs.Lines.{lines_short}
 use Rattle.listing.proofs.Made.{table_is, fine_sized, full}
+use Rattle.std.specs.Prelude.{Ok, Err}
+use Rattle.answers.specs.declared.Reason.{Reason}
 
 -- ---- from a table of its size
 
 module _ {c fs ps t w w' : List ℕ} {r : ℕ} (room : 71680 ≤ length w) where
-  pub refused_lists : {x y : ℕ} {t' : List ℕ} → MakeDone c fs ps t (Refused x y) t' → Put w w' 0 (refused_text x y) r → PutMadeDone c fs ps t w r t' w'
+  pub refused_lists : {x : Reason} {y : ℕ} {t' : List ℕ} → MakeDone c fs ps t (Err (x, y)) t' → Put w w' 0 (refused_text x y) r → PutMadeDone c fs ps t w r t' w'
   unfolding output_of
   refused_lists {x} {y} so p = record {
     written = rw (← so.answer) p;
@@ -38,7 +39,7 @@ module _ {c fs ps t w w' : List ℕ} {r : ℕ} (room : 71680 ≤ length w) where
     table = so.table;
   }
 
-  pub fine_lists : {t' : List ℕ} {f p : ℕ} → MakeDone c fs ps t Fine t' → PutMadeReady c fs ps f p → Put w w' 0 (table_text f p t') r → PutMadeDone c fs ps t w r t' w'
+  pub fine_lists : {t' : List ℕ} {f p : ℕ} → MakeDone c fs ps t (Ok tt) t' → PutMadeReady c fs ps f p → Put w w' 0 (table_text f p t') r → PutMadeDone c fs ps t w r t' w'
   unfolding output_of
   fine_lists {t'} {f} {p} so k put =
       let sized = (full so refl {out = 71680} k (omega arith)).sized in
@@ -50,7 +51,7 @@ module _ {c fs ps t w w' : List ℕ} {r : ℕ} (room : 71680 ≤ length w) where
 
   -- ---- the promise
 
-  pub circuit_listed : {x y : ℕ} → refusal (circuit_rules c) ≡ Refused x y → Put w w' 0 (refused_text x y) r → Listed c fs ps t w r t w'
+  pub circuit_listed : {x : Reason} {y : ℕ} → refusal (circuit_rules c) ≡ Err (x, y) → Put w w' 0 (refused_text x y) r → Listed c fs ps t w r t w'
   unfolding output_of
   circuit_listed {x} {y} e p =
       let q = after_refused (circuit_rules c) (list_rules c (inputs_of c) fs ps) e in
@@ -67,8 +68,8 @@ listed {c} {fs} {ps} t {t'} {size = size} k s l = record { written = l.written; 
     go : (v : Ruling) → refusal (program_rules c fs ps) ≡ v
         → t' ≡ unless v (take size t) (dictionary_of c fs ps)
         → t' ++ drop size t ≡ unless v t (dictionary_of c fs ps ++ drop (length (dictionary_of c fs ps)) t)
-    go (Refused x y) e q = ap (λ (u : List ℕ). u ++ drop size t) q ∙ take-append-drop size t
-    go Fine e q =
+    go (Err why) e q = ap (λ (u : List ℕ). u ++ drop size t) q ∙ take-append-drop size t
+    go (Ok u) e q =
         let z = fine_sized c fs ps e in
         let product : pattern_count (inputs_of c) ps ≤ 256 → size ≡ fault_count fs * pattern_count (inputs_of c) ps = rw (← k.inputs) (s.product z.few_faults) in
         let same : size ≡ length (dictionary_of c fs ps) = product z.few_patterns ∙ sym z.product in

@@ -1,9 +1,8 @@
 -- What the dictionary program prints for a circuit c, faults fs and patterns ps.
 -- Assumes nothing.
-use Rattle.std.specs.Prelude.{◌≡◌, List, ◌++◌, ℕ, ◌≤◌, length, drop}
+use Rattle.std.specs.Prelude.{◌≡◌, List, ◌++◌, ℕ, ◌≤◌, length, drop, Ok, Err}
 use Rattle.ground.specs.Put.{Put}
-use Rattle.answers.specs.declared.Ruling.{Ruling}
-use Rattle.answers.specs.declared.Ruling.TheVariants.{Fine, Refused}
+use Rattle.answers.specs.Rules.{Ruling}
 use Rattle.answers.specs.Rules.{Rule, refusal, unless}
 use Rattle.circuit.specs.Record.{lines_of, inputs_of}
 use Rattle.circuit.specs.Promise.{circuit_rules}
@@ -32,8 +31,8 @@ lines_of_all c fs ps = table_text (fault_count fs) (pattern_count (inputs_of c) 
 
 -- a refusal prints only its own line
 abbrev pub text_by : Ruling → List ℕ → List ℕ
-text_by Fine lines = lines
-text_by (Refused number place) lines = refused_text number place
+text_by (Ok u) lines = lines
+text_by (Err why) lines = refused_text why.0 why.1
 
 unfoldable pub output_of : List ℕ → List ℕ → List ℕ → List ℕ
 output_of c fs ps = text_by (refusal (program_rules c fs ps)) (lines_of_all c fs ps)

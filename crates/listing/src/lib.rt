@@ -7,8 +7,8 @@ ghost use Rattle.listing.specs.Promise.{table_text, Listed};
 ghost use Rattle.circuit.specs.Formed.{Known};
 ghost use Rattle.listing.specs.Owed.{PutTableReady, MakeReady, MakeDone, EntriesDone, PutMadeReady, PutMadeDone};
 
-use answers::Ruling;
-use circuit::{Checked, check};
+use answers::Refusal;
+use circuit::check;
 use compact::compact;
 use dictionary_lanes::dictionary_lanes;
 use letters::{put_lines, put_refused};
@@ -51,7 +51,7 @@ fn entries(faults: usize, patterns: usize) -> usize
 }
 
 // The dictionary of a circuit of n lines.
-fn make(circuit: &[u8], n: usize, faults: &[u8], patterns: &[u8], table: &mut [u8]) -> Ruling
+fn make(circuit: &[u8], n: usize, faults: &[u8], patterns: &[u8], table: &mut [u8]) -> Result<(), Refusal>
     requires { MakeReady circuit.now n faults.now patterns.now (length table.old) }
     ensures { MakeDone circuit.now faults.now patterns.now table.old result table.new }
 {
@@ -77,8 +77,8 @@ fn put_made(
 {
     let v = make(circuit, n, faults, patterns, table);
     match v {
-        Ruling::Refused(number, place) => put_refused(out, number, place),
-        Ruling::Fine => put_table(out, table, f, p),
+        Err(why) => put_refused(out, why.0.number(), why.1),
+        Ok(()) => put_table(out, table, f, p),
     }
 }
 
@@ -113,9 +113,9 @@ pub fn listing(
 {
     let v = check(circuit);
     match v {
-        Checked::Refused(number, place) => put_refused(out, number, place),
-        Checked::Accepted(n, inputs, _) => put_accepted(
-            circuit, n, inputs, faults, patterns, table, out,
+        Err(why) => put_refused(out, why.0.number(), why.1),
+        Ok(counts) => put_accepted(
+            circuit, counts.lines, counts.inputs, faults, patterns, table, out,
         ),
     }
 }

@@ -9,7 +9,7 @@ use lib.Dec.{eqb, leb, ltb}
 use lib.ListN.{length}
 use borrow.Author.Tests.{eqb-true, leb-true, ltb-true, eq-eqb, le-leb, lt-ltb}
 use Rattle.ground.proofs.Tests.{both, and_both}
-use Rattle.answers.specs.declared.Ruling.{Ruling}
+use Rattle.answers.specs.Rules.{Ruling}
 use Rattle.answers.specs.Rules.{refusal, Applies, Same, AllSay, AllHold}
 use Rattle.answers.proofs.Rules as rules
 use Rattle.answers.proofs.Rules.{all_hold}
@@ -18,6 +18,8 @@ use Rattle.gates.specs.Gate.{pins_of}
 use Rattle.little.specs.Little.{pair_at}
 use Rattle.circuit.specs.Record.{lines_of, kind_at}
 use Rattle.lists.specs.Faults.{fault_line, fault_site, fault_value, fault_ok, FaultLayout, fault_rules, GoodFaults}
+use Rattle.std.specs.Prelude.{Ok, Err}
+use Rattle.answers.specs.declared.Reason.{Reason}
 
 module _ (c fs : List ℕ) (j : ℕ) where
   fault_layout : fault_ok c fs j ≡ true → FaultLayout c fs j
@@ -49,14 +51,14 @@ module _ (most : ℕ) (c fs : List ℕ) where
   unfolding fault_rules AllSay
   faults_say = (records_same 8 most (length fs) (omega arith), ((λ j l. fault_same c fs j), tt))
 
-  pub good_faults : refusal (fault_rules most c fs) ≡ Ruling.Fine → GoodFaults most c fs
+  pub good_faults : refusal (fault_rules most c fs) ≡ Ok tt → GoodFaults most c fs
   unfolding fault_rules AllHold
   good_faults e = let a = all_hold (fault_rules most c fs) faults_say e in record { records = a.0; faults = a.1.0 }
 
 -- a refusal of the check is the first that applies, with the lowest place; and where one applies, it is given
-module _ (most : ℕ) (c fs : List ℕ) {r : Ruling} (is : r ≡ refusal (fault_rules most c fs)) (number place : ℕ) where
-  pub refused_applies : r ≡ Ruling.Refused number place → Applies (fault_rules most c fs) number place
-  refused_applies = rules.refused_applies (fault_rules most c fs) (faults_say most c fs) is number place
+module _ (most : ℕ) (c fs : List ℕ) {r : Ruling} (is : r ≡ refusal (fault_rules most c fs)) (reason : Reason) (place : ℕ) where
+  pub refused_applies : r ≡ Err (reason, place) → Applies (fault_rules most c fs) reason place
+  refused_applies = rules.refused_applies (fault_rules most c fs) (faults_say most c fs) is reason place
 
-  pub applies_refused : Applies (fault_rules most c fs) number place → r ≡ Ruling.Refused number place
-  applies_refused = rules.applies_refused (fault_rules most c fs) (faults_say most c fs) is number place
+  pub applies_refused : Applies (fault_rules most c fs) reason place → r ≡ Err (reason, place)
+  applies_refused = rules.applies_refused (fault_rules most c fs) (faults_say most c fs) is reason place

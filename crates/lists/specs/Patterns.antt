@@ -5,6 +5,7 @@ use Rattle.answers.specs.Rules.{Rule}
 use Rattle.answers.specs.Rules.Rule.{whole, each}
 use Rattle.answers.specs.Small.{small_ok, Small}
 use Rattle.answers.specs.Records.{records_ok, Records}
+use Rattle.answers.specs.declared.Reason.TheVariants.{PatternsSize, PatternByte}
 
 -- of patterns with m inputs: how many there are, and pattern i
 abbrev pub pattern_count : ℕ → List ℕ → ℕ
@@ -15,8 +16,8 @@ pattern_at m ps i = take m (drop (i * m) ps)
 
 unfoldable pub pattern_rules : ℕ → List ℕ → List Rule
 pattern_rules m ps =
-    whole 8 (records_ok m 256 (length ps)) (Records m 256 (length ps)) 0
-    ∷ each 9 (length ps) (small_ok ps) (Small ps)
+    whole PatternsSize (records_ok m 256 (length ps)) (Records m 256 (length ps)) 0
+    ∷ each PatternByte (length ps) (small_ok ps) (Small ps)
     ∷ []
 
 -- what a list is that is not refused

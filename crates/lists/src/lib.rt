@@ -9,7 +9,7 @@ ghost use Rattle.lists.specs.Faults.{fault_at, fault_ok, fault_rules};
 ghost use Rattle.lists.specs.Patterns.{pattern_rules};
 ghost use Rattle.lists.specs.Both.{list_rules};
 
-use answers::{Ruling, first_big, records_ok};
+use answers::{Reason, Refusal, first_big, records_ok};
 use gates::pins;
 use ground::wide;
 use little::pair_at;
@@ -74,43 +74,40 @@ fn first_bad_fault(circuit: &[u8], faults: &[u8], n: usize) -> usize
 }
 
 // Refusals 6 and 7, of at most so many faults.
-pub fn check_faults(circuit: &[u8], faults: &[u8], most: usize) -> Ruling
+pub fn check_faults(circuit: &[u8], faults: &[u8], most: usize) -> Result<(), Refusal>
     ensures { result ≡ refusal (fault_rules most circuit.now faults.now) }
 {
     if !records_ok(faults.len(), 8, most) {
-        return Ruling::Refused(6, 0);
+        return Err(Refusal(Reason::FaultsSize, 0));
     }
     let n = faults.len() / 8;
     let bad = first_bad_fault(circuit, faults, n);
     if bad < n {
-        return Ruling::Refused(7, bad);
+        return Err(Refusal(Reason::FaultLayout, bad));
     }
-    Ruling::Fine
+    Ok(())
 }
 
 // Refusals 8 and 9.
-pub fn check_patterns(patterns: &[u8], inputs: usize) -> Ruling
+pub fn check_patterns(patterns: &[u8], inputs: usize) -> Result<(), Refusal>
     requires { 0 < inputs }
     ensures { result ≡ refusal (pattern_rules inputs patterns.now) }
 {
     if !records_ok(patterns.len(), inputs, 256) {
-        return Ruling::Refused(8, 0);
+        return Err(Refusal(Reason::PatternsSize, 0));
     }
     let bad = first_big(patterns);
     if bad < patterns.len() {
-        return Ruling::Refused(9, bad);
+        return Err(Refusal(Reason::PatternByte, bad));
     }
-    Ruling::Fine
+    Ok(())
 }
 
 // Refusals 6 to 9: the faults, then the patterns.
-pub fn check_lists(circuit: &[u8], inputs: usize, faults: &[u8], patterns: &[u8]) -> Ruling
+pub fn check_lists(circuit: &[u8], inputs: usize, faults: &[u8], patterns: &[u8]) -> Result<(), Refusal>
     requires { 0 < inputs }
     ensures { result ≡ refusal (list_rules circuit.now inputs faults.now patterns.now) }
 {
-    let v = check_faults(circuit, faults, 256);
-    match v {
-        Ruling::Refused(number, place) => Ruling::Refused(number, place),
-        Ruling::Fine => check_patterns(patterns, inputs),
-    }
+    check_faults(circuit, faults, 256)?;
+    check_patterns(patterns, inputs)
 }

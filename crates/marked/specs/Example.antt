@@ -1,11 +1,11 @@
 -- What a marked example claims: for each kind of claim the inputs, the expected answer, and what the definitions of the promises must give.
 -- Assumes nothing.
-use Rattle.std.specs.Prelude.{◌≡◌, ◌↔◌, List, [], ◌∷◌, ℕ, suc, ◌*◌, replicate}
+use Rattle.std.specs.Prelude.{◌≡◌, ◌↔◌, List, [], ◌∷◌, ℕ, suc, ◌*◌, replicate, Ok, Result}
 use Rattle.ground.specs.Choose.{choose}
-use Rattle.answers.specs.declared.Ruling.{Ruling}
+use Rattle.answers.specs.Rules.{Ruling}
 use Rattle.answers.specs.Answer.{answered}
 use Rattle.answers.specs.Rules.{refusal, unless}
-use Rattle.circuit.specs.declared.Checked.{Checked}
+use Rattle.circuit.specs.declared.Counts.{Counts}
 use Rattle.circuit.specs.Record.{lines_of, inputs_of}
 use Rattle.circuit.specs.Promise.{check_of}
 use Rattle.lists.specs.Faults.{fault_at}
@@ -14,17 +14,17 @@ use Rattle.tables.specs.Marks.{kept_rules}
 use Rattle.needs.specs.Needs as needs
 use Rattle.listing.specs.Promise.{output_of}
 use Rattle.nodes.specs.declared.Verdict.{Verdict}
-use Rattle.search.specs.declared.Searched.TheVariants as searched
 use Rattle.search.specs.Promise.{search_rules, verdict_for, test_for}
 use Rattle.ground.specs.Lists.{gather}
 use Rattle.cnf.specs.Cnf.{Assignment, Clauses, Satisfies}
 use Rattle.clauses.specs.declared.Written.{Written}
 use Rattle.line_clauses.specs.Clauses.{variables_of}
 use Rattle.clauses.specs.Promise.{clauses_for, words_for, written_of}
+use Rattle.answers.specs.declared.Refusal.{Refusal}
 
 pub data Example : Type 0 where
   -- the check answers this of a circuit
-  check : List ℕ → Checked → Example
+  check : List ℕ → Result Counts Refusal → Example
   -- circuit, faults and patterns, and the whole text that the dictionary program prints
   prints : List ℕ → List ℕ → List ℕ → List ℕ → Example
   -- circuit, fault and budget; the verdict, and the test buffer afterwards
@@ -34,7 +34,7 @@ pub data Example : Type 0 where
   -- circuit and fault; the clauses
   clauses : List ℕ → List ℕ → Clauses → Example
   -- circuit, fault and the number of lent words; the writer's answer
-  write : List ℕ → List ℕ → ℕ → Written → Example
+  write : List ℕ → List ℕ → ℕ → Result Written Refusal → Example
   -- circuit and fault; an assignment satisfies the words exactly if these are its true variables
   solve : List ℕ → List ℕ → List ℕ → Example
 
@@ -69,7 +69,7 @@ abbrev pub Yields : Example → Type 0
 Yields (Example.check c r) = check_of c ≡ r
 Yields (Example.prints c fs ps text) = output_of c fs ps ≡ text
 Yields (Example.search c f b v t) =
-    (answered searched.Refused (search_ruling c f) (searched.Verdict (verdict_for c (fault_at f 0) b)) ≡ searched.Verdict v)
+    (answered (search_ruling c f) (verdict_for c (fault_at f 0) b) ≡ Ok v)
     × (unless (search_ruling c f) (lent (inputs_of c)) (test_for c (fault_at f 0) b (lent (inputs_of c))) ≡ t)
 Yields (Example.compact F P t m pairs) = (marks_of F P t ≡ m) × (pairs_of F P t ≡ pairs)
 Yields (Example.clauses c f cs) = clauses_for c (fault_at f 0) ≡ cs

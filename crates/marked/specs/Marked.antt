@@ -1,11 +1,12 @@
 -- The marked examples, in the paper's order and words: example A, then the further ones.
 -- Assumes nothing.
-use Rattle.std.specs.Prelude.{List, [], ◌∷◌, ◌++◌, ℕ, ℤ, pos, neg_ℤ, replicate}
-use Rattle.circuit.specs.declared.Checked.TheVariants as checked
+use Rattle.std.specs.Prelude.{List, [], ◌∷◌, ◌++◌, ℕ, ℤ, pos, neg_ℤ, replicate, Ok, Err}
 use Rattle.tables.specs.Entries.{pass, fail, unknown}
 use Rattle.nodes.specs.declared.Verdict.TheVariants.{Test, Redundant, GivenUp}
-use Rattle.clauses.specs.declared.Written.TheVariants as written
 use Rattle.marked.specs.Example.{Example, lent}
+use Rattle.circuit.specs.Promise.{counts_are}
+use Rattle.clauses.specs.Promise.{written_are}
+use Rattle.answers.specs.declared.Reason.TheVariants.{CircuitLayout, ManyInputs, NoRoom}
 
 -- ---- records: the laid_out of lines and faults, laid one after the other
 
@@ -131,14 +132,14 @@ marked =
     ∷ []
     )
     -- 12 clauses, 6 variables, 38 words
-    ∷ Example.write inverter (stuck 1 0) 38 (written.Success 38 12 6)
+    ∷ Example.write inverter (stuck 1 0) 38 (Ok (written_are 38 12 6))
     -- one satisfying assignment: only 3 and 6 are true
     ∷ Example.solve inverter (stuck 1 0) (3 ∷ 6 ∷ [])
     -- with 37 words: refusal 11, place 38
-    ∷ Example.write inverter (stuck 1 0) 37 (written.Refused 11 38)
+    ∷ Example.write inverter (stuck 1 0) 37 (Err (NoRoom, 38))
     -- 64 inputs pass; 65 give refusal 4
-    ∷ Example.check (inputs 64) (checked.Accepted 65 64 1)
-    ∷ Example.check (inputs 65) (checked.Refused 4 0)
+    ∷ Example.check (inputs 64) (Ok (counts_are 65 64 1))
+    ∷ Example.check (inputs 65) (Err (ManyInputs, 0))
     -- line 0 of kind 1: refusal 2, place 2
-    ∷ Example.check (1 ∷ 1 ∷ 0 ∷ 0 ∷ 0 ∷ 0 ∷ 0 ∷ 0 ∷ []) (checked.Refused 2 2)
+    ∷ Example.check (1 ∷ 1 ∷ 0 ∷ 0 ∷ 0 ∷ 0 ∷ 0 ∷ 0 ∷ []) (Err (CircuitLayout, 2))
     ∷ []

@@ -4,7 +4,6 @@ use mathlib.Core.Path.{◌≡◌, refl, sym}
 use mathlib.Core.List.{List}
 use Prim.Native.Nat.{ℕ}
 use lib.ListN.{length}
-use Rattle.answers.specs.declared.Ruling.TheVariants.{Fine}
 use Rattle.answers.proofs.Rules.{both_fine}
 use Rattle.circuit.specs.Record.{inputs_of}
 use Rattle.lists.specs.Faults.{fault_count}
@@ -19,15 +18,15 @@ use Rattle.compact.proofs.Promise.{marks_are}
 use Rattle.findings.specs.declared.Finding.TheVariants.{Sound}
 use Rattle.findings.proofs.Finds.{finding_words}
 use Rattle.findings.proofs.Sound.{compacted-found_sound}
-use Rattle.audit.specs.declared.Audited.{Audited}
-use Rattle.audit.specs.declared.Audited.TheVariants.{Found}
 use Rattle.audit.specs.Promise.{Audits}
 use Rattle.audit.proofs.Promise.{found_words, found_sound}
 use Rattle.meaning.specs.Kept.{Serves}
 use Rattle.meaning.proofs.Kept.{sound_serve}
+use Rattle.std.specs.Prelude.{Ok, Result}
+use Rattle.answers.specs.declared.Refusal.{Refusal}
 
 -- the marks that the compactor leaves for a table are found sound, whatever was lent to it for them
-pub compacted_audited : {F P : ℕ} {t m m' : List ℕ} {r : Audited} → Compacts F P t m Fine m' → Audits F P t m' r → r ≡ Found Sound
+pub compacted_audited : {F P : ℕ} {t m m' : List ℕ} {r : Result Finding Refusal} → Compacts F P t m (Ok tt) m' → Audits F P t m' r → r ≡ Ok Sound
 compacted_audited {F} {P} {t} {m} {m'} k a =
     let E = entries_of F t in
     let table = (both_fine (table_rules F P t) _ (sym k.answer)).0 in
@@ -36,7 +35,7 @@ compacted_audited {F} {P} {t} {m} {m'} k a =
 
 -- and marks that are found sound for the table of an engine of the dictionary maker serve, whoever made them
 pub found_serve : {places : ℕ} {left c fs ps t w t' w' m : List ℕ}
-    → Answered places left c fs ps t w Fine t' w'
-    → Audits (fault_count fs) (pattern_count (inputs_of c) ps) t' m (Found Sound)
+    → Answered places left c fs ps t w (Ok tt) t' w'
+    → Audits (fault_count fs) (pattern_count (inputs_of c) ps) t' m (Ok Sound)
     → Serves c fs ps m
 found_serve d a = sound_serve d ((found_sound a).0 refl).1.1

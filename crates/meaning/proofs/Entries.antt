@@ -8,7 +8,6 @@ use lib.Dec.{eqb}
 use lib.ListN.{length, get_or}
 use borrow.Author.Tests.{eq-eqb, eqb-true}
 use Rattle.ground.specs.Choose.{one}
-use Rattle.answers.specs.declared.Ruling.TheVariants.{Fine}
 use Rattle.answers.specs.Rules.{refusal}
 use Rattle.gates.specs.Gate.{Refines}
 use Rattle.circuit.specs.Record.{lines_of, inputs_of}
@@ -37,6 +36,7 @@ use Rattle.dictionary.specs.Promise.{Answered}
 use Rattle.dictionary.proofs.Checked.{taken}
 use Rattle.dictionary.proofs.Says.{made_so}
 use Rattle.meaning.specs.Entries.{Exposes, Clears, Means}
+use Rattle.std.specs.Prelude.{Ok}
 
 module _ (fault : Fault) (small : fault.value ≤ 1) (c p : List ℕ) (n : ℕ) (well : WellFormed c (length p) n) where
   exposes_is : entry_at fault c p n ≡ fail → Exposes c fault n p
@@ -84,7 +84,7 @@ module _ (fault : Fault) (small : fault.value ≤ 1) (c p : List ℕ) (n : ℕ) 
 
 -- of an accepted circuit, a fault in its layout, and any pattern of its inputs
 pub entry_means : (c fs p : List ℕ) (j : ℕ)
-    → refusal (circuit_rules c) ≡ Fine
+    → refusal (circuit_rules c) ≡ Ok tt
     → FaultLayout c fs j
     → length p ≡ inputs_of c
     → Means (entry_at (fault_at fs j) c p (lines_of c)) c (fault_at fs j) (lines_of c) p
@@ -92,8 +92,8 @@ entry_means c fs p j fine layout long = means (fault_at fs j) layout.value c p (
 
 -- of pattern i and fault j of accepted lists
 pub listed_means : (c fs ps : List ℕ)
-    → refusal (circuit_rules c) ≡ Fine
-    → refusal (list_rules c (inputs_of c) fs ps) ≡ Fine
+    → refusal (circuit_rules c) ≡ Ok tt
+    → refusal (list_rules c (inputs_of c) fs ps) ≡ Ok tt
     → (i j : ℕ)
     → i < pattern_count (inputs_of c) ps
     → j < fault_count fs
@@ -104,7 +104,7 @@ listed_means c fs ps fine listed i j a b =
 
 -- of the table that an engine of the dictionary maker leaves: the byte of pattern i and fault j
 pub dictionary_means : {places : ℕ} {left c fs ps t w t' w' : List ℕ}
-    → Answered places left c fs ps t w Fine t' w'
+    → Answered places left c fs ps t w (Ok tt) t' w'
     → (i j : ℕ)
     → i < pattern_count (inputs_of c) ps
     → j < fault_count fs

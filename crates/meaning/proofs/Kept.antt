@@ -5,7 +5,6 @@ use mathlib.Core.Logic.{◌⊎◌, inl, inr, ⊎_elim}
 use mathlib.Core.List.{List}
 use Prim.Native.Nat.{ℕ, ◌<◌}
 use lib.ListN.{length}
-use Rattle.answers.specs.declared.Ruling.TheVariants.{Fine}
 use Rattle.answers.specs.Rules.{refusal}
 use Rattle.circuit.specs.Record.{lines_of, inputs_of}
 use Rattle.circuit.specs.Promise.{circuit_rules}
@@ -28,9 +27,10 @@ use Rattle.compact.proofs.Promise.{fine_sound}
 use Rattle.meaning.specs.Entries.{Means}
 use Rattle.meaning.specs.Kept.{entries_for, ExposesAt, ClearsAt, Serves}
 use Rattle.meaning.proofs.Entries.{listed_means}
+use Rattle.std.specs.Prelude.{Ok}
 
 -- sound marks of the table as it is defined serve, in an accepted circuit with accepted lists
-module _ (c fs ps m : List ℕ) (fine : refusal (circuit_rules c) ≡ Fine) (listed : refusal (list_rules c (inputs_of c) fs ps) ≡ Fine) where
+module _ (c fs ps m : List ℕ) (fine : refusal (circuit_rules c) ≡ Ok tt) (listed : refusal (list_rules c (inputs_of c) fs ps) ≡ Ok tt) where
   at : (i j : ℕ) → i < pattern_count (inputs_of c) ps → j < fault_count fs → Means (entries_for c fs ps i j) c (fault_at fs j) (lines_of c) (pattern_at (inputs_of c) ps i)
   at = listed_means c fs ps fine listed
 
@@ -58,14 +58,14 @@ module _ (c fs ps m : List ℕ) (fine : refusal (circuit_rules c) ≡ Fine) (lis
 
 -- the compacted marks of that table; the text of the dictionary program is defined by them
 pub table_serves : (c fs ps : List ℕ)
-    → refusal (circuit_rules c) ≡ Fine
-    → refusal (list_rules c (inputs_of c) fs ps) ≡ Fine
+    → refusal (circuit_rules c) ≡ Ok tt
+    → refusal (list_rules c (inputs_of c) fs ps) ≡ Ok tt
     → Serves c fs ps (compacted (entries_of (fault_count fs) (table_of c (lines_of c) (inputs_of c) fs ps)) (fault_count fs) (pattern_count (inputs_of c) ps))
 table_serves c fs ps fine listed = serves c fs ps _ fine listed (compacted_sound _ (fault_count fs) (pattern_count (inputs_of c) ps))
 
 -- ---- of the parts' results
 
-module _ {places : ℕ} {left c fs ps t w t' w' : List ℕ} (made_by : Answered places left c fs ps t w Fine t' w') where
+module _ {places : ℕ} {left c fs ps t w t' w' : List ℕ} (made_by : Answered places left c fs ps t w (Ok tt) t' w') where
   -- any sound marks of the table of an engine of the dictionary maker, another tool's too
   pub sound_serve : {m : List ℕ} → Sound (entries_of (fault_count fs) t') (fault_count fs) (pattern_count (inputs_of c) ps) m → Serves c fs ps m
   sound_serve {m} s =
@@ -73,5 +73,5 @@ module _ {places : ℕ} {left c fs ps t w t' w' : List ℕ} (made_by : Answered 
       serves c fs ps m so.circuit_fine so.lists_fine (rw (made_so made_by).0 at s)
 
   -- so those that the compactor leaves for it
-  pub kept_serve : {m m' : List ℕ} → Compacts (fault_count fs) (pattern_count (inputs_of c) ps) t' m Fine m' → Serves c fs ps m'
+  pub kept_serve : {m m' : List ℕ} → Compacts (fault_count fs) (pattern_count (inputs_of c) ps) t' m (Ok tt) m' → Serves c fs ps m'
   kept_serve k = sound_serve (fine_sound k)

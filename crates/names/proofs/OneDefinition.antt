@@ -11,7 +11,6 @@ use Rattle.ground.specs.Lists.{elem}
 use Rattle.ground.proofs.Elem.{elem_at}
 use Rattle.ground.proofs.Tests.{either}
 use Rattle.answers.specs.Rules.{refusal, AllHold}
-use Rattle.answers.specs.declared.Ruling.TheVariants.{Fine}
 use Rattle.answers.proofs.Rules.{all_hold}
 use Rattle.words.specs.Words.{word_at}
 use Rattle.words.proofs.Same.{same_eq, same_refl}
@@ -19,8 +18,9 @@ use Rattle.names.specs.Names.{named, definition, name_number, Names, NameOk, nam
 use Rattle.names.specs.Owed.{Within}
 use Rattle.names.proofs.Last.{last_only}
 use Rattle.names.proofs.Says.{names_say}
+use Rattle.std.specs.Prelude.{Ok}
 
-module _ (t defs uses : List ℕ) (fine : refusal (name_rules t defs uses) ≡ Fine) where
+module _ (t defs uses : List ℕ) (fine : refusal (name_rules t defs uses) ≡ Ok tt) where
   names_ok : (i : ℕ) → i < length t → NameOk t defs uses i
   unfolding name_rules AllHold
   names_ok = (all_hold (name_rules t defs uses) (names_say t defs uses) fine).0

@@ -9,12 +9,13 @@ use lib.Dec.{ltb}
 use lib.ListN.{length}
 use Rattle.ground.specs.Choose.{choose}
 use Rattle.answers.specs.Rules.{refusal}
-use Rattle.answers.specs.declared.Ruling.TheVariants.{Fine, Refused}
 use Rattle.answers.proofs.Rules.{or_fine}
 use Rattle.names.specs.Names.{once, defined, NameOk, name_rules}
 use Rattle.names.specs.Owed.{lowest, again, undefined, ResolveReady}
 use Rattle.names.proofs.LowestNot.{LowestNot, lowest-same, lowest_and, lowest_ruled}
 use Rattle.names.proofs.Wrong.{lowest_twice, lowest-nowhere, defined_append}
+use Rattle.std.specs.Prelude.{Ok, Err}
+use Rattle.answers.specs.declared.Reason.TheVariants.{BenchName}
 
 module _ {t defs outs firsts seconds o a b : List ℕ} (u : ResolveReady t defs outs firsts seconds o a b) where
   -- the lowest byte of one of these names that is defined nowhere, or 65,535
@@ -36,7 +37,7 @@ module _ {t defs outs firsts seconds o a b : List ℕ} (u : ResolveReady t defs 
       → out ≡ min twice (nowhere outs)
       → first ≡ min out (nowhere firsts)
       → second ≡ min first (nowhere seconds)
-      → choose (ltb second 65535) (Refused 15 second) Fine ≡ refusal (name_rules t defs uses)
+      → choose (ltb second 65535) (Err (BenchName, second)) (Ok tt) ≡ refusal (name_rules t defs uses)
   unfolding refusal name_rules
   ruled twice out first second e f g h =
       let low : second ≡ min (lowest (again t defs) defs (length defs)) (min (nowhere outs) (min (nowhere firsts) (nowhere seconds))) = omega arith in

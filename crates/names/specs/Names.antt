@@ -7,6 +7,7 @@ use Rattle.ground.specs.Below.{any_below}
 use Rattle.ground.specs.Lists.{elem}
 use Rattle.answers.specs.Rules.{Rule, each}
 use Rattle.words.specs.Words.{word_at, same}
+use Rattle.answers.specs.declared.Reason.TheVariants.{BenchName}
 
 -- definition d is of the name w
 abbrev pub named : List ℕ → List ℕ → List ℕ → ℕ → Bool
@@ -33,7 +34,7 @@ pub record NameOk (t defs uses : List ℕ) (i : ℕ) : Type 0 where
   pub known : elem uses i ≡ true → (d : ℕ) × (d < length defs) × Names t defs i d
 
 unfoldable pub name_rules : List ℕ → List ℕ → List ℕ → List Rule
-name_rules t defs uses = each 15 (length t) (λ i. once t defs i && defined t defs uses i) (NameOk t defs uses) ∷ []
+name_rules t defs uses = each BenchName (length t) (λ i. once t defs i && defined t defs uses i) (NameOk t defs uses) ∷ []
 
 -- ---- the number of a name, where `numbers` has that of each definition
 

@@ -8,7 +8,7 @@ ghost use Rattle.words.specs.Words.{word_at};
 ghost use Rattle.names.specs.Names.{definition};
 ghost use Rattle.names.specs.Owed.{Hash, Table, EnterReady, EnterDone, LookUpReady, LookUpDone, ResolveReady, ResolveDone};
 
-use answers::Ruling;
+use answers::{Reason, Refusal};
 use ground::{narrow, wide, wide16};
 use words::{byte, is_word, same_word};
 
@@ -147,13 +147,13 @@ fn look_up(
 }
 
 // Refusal 15, by the lowest byte of a wrong name.
-fn rule_names(low: usize) -> Ruling
-    ensures { result ≡ choose (ltb low 65535) (Refused 15 low) Fine }
+fn rule_names(low: usize) -> Result<(), Refusal>
+    ensures { result ≡ choose (ltb low 65535) (Err (BenchName, low)) (Ok tt) }
 {
     if low < 65535 {
-        return Ruling::Refused(15, low);
+        return Err(Refusal(Reason::BenchName, low));
     }
-    Ruling::Fine
+    Ok(())
 }
 
 // The numbers of all names that are used, and what refusal 15 says, by an empty table that is lent.
@@ -169,7 +169,7 @@ fn resolve_by(
     b: &mut [u16],
     head: &mut [u16],
     next: &mut [u16],
-) -> Ruling
+) -> Result<(), Refusal>
     requires { ResolveReady text.now defs.now outs.now firsts.now seconds.now o.old a.old b.old × EnterReady text.now defs.now head.old next.old }
     ensures { ResolveDone text.now defs.now numbers.now outs.now firsts.now seconds.now
         o.new a.new b.new result }
@@ -192,7 +192,7 @@ pub fn resolve(
     o: &mut [u16],
     a: &mut [u16],
     b: &mut [u16],
-) -> Ruling
+) -> Result<(), Refusal>
     requires { ResolveReady text.now defs.now outs.now firsts.now seconds.now o.old a.old b.old }
     ensures { ResolveDone text.now defs.now numbers.now outs.now firsts.now seconds.now
         o.new a.new b.new result }

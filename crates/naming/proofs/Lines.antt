@@ -8,7 +8,6 @@ use lib.ListN.{length, get_or}
 use Rattle.ground.specs.Lists.{index_in}
 use Rattle.ground.proofs.Lists.{At}
 use Rattle.ground.proofs.Elem.{index_of}
-use Rattle.answers.specs.declared.Ruling.TheVariants.{Fine}
 use Rattle.answers.specs.Rules.{refusal}
 use Rattle.words.specs.Words.{words_in, ends_in}
 use Rattle.forms.specs.Forms.{defines, inputs_in, gates_in}
@@ -27,6 +26,7 @@ use Rattle.equations.specs.Computes.{size_in}
 use Rattle.equations.proofs.Tables.{NthLine, get, number_get}
 use Rattle.equations.proofs.Names.{number_of_name}
 use Rattle.equations.proofs.Uses.{def_line}
+use Rattle.std.specs.Prelude.{Ok}
 
 -- where a number is defined first
 first_definition : (fs : List ℕ) (x : ℕ) → x < inputs_in fs + gates_in fs → At (def_numbers_of fs) (length (def_numbers_of fs)) x
@@ -38,7 +38,7 @@ pub record NamesLine (t : List ℕ) (k j : ℕ) : Type 0 where
   pub stands : place_on t k ≡ defined_at (words_in t) (ends_in t) (forms_in t) j
   pub own : line_for t (name_on t j) ≡ k
 
-module _ (t : List ℕ) (none : refusal (name_rules t (defs_in t) (uses_in t)) ≡ Fine) (r : Right (net_in t)) (k : ℕ) (l : k < size_in t) where
+module _ (t : List ℕ) (none : refusal (name_rules t (defs_in t) (uses_in t)) ≡ Ok tt) (r : Right (net_in t)) (k : ℕ) (l : k < size_in t) where
   in_net : k < net_size (net_in t)
   in_net = rw (size_is t) l
 

@@ -7,8 +7,7 @@ use native.Mathlib.Omega.{arith}
 use lib.ListN.{length, get_or, take, drop, get_or-append}
 use Rattle.ground.specs.Put.{laid_on}
 use Rattle.ground.proofs.Grow.{table-length, table_at}
-use Rattle.answers.specs.declared.Ruling.{Ruling}
-use Rattle.answers.specs.declared.Ruling.TheVariants.{Fine}
+use Rattle.answers.specs.Rules.{Ruling}
 use Rattle.answers.specs.Answer.{answered}
 use Rattle.answers.specs.Rules.{refusal, unless}
 use Rattle.answers.proofs.Rules.{both_fine}
@@ -17,7 +16,6 @@ use Rattle.circuit.specs.Record.{lines_of}
 use Rattle.simulate.specs.Work.{good_of}
 use Rattle.simulate.specs.Boolean.{good, truth_at}
 use Rattle.records.specs.Net.{net_size}
-use Rattle.nets.specs.declared.Read.TheVariants.{Records, Refused}
 use Rattle.nets.specs.Rules.{buffer_bytes}
 use Rattle.words.specs.Words.{word_at, words_in, ends_in}
 use Rattle.statements.specs.Tables.{defined_at}
@@ -36,6 +34,7 @@ use Rattle.equations.proofs.Read.{lines_are, read_computes}
 use Rattle.bench_names.specs.Promise.{place_rules, names_answer, TellsNames}
 use Rattle.naming.specs.Named.{FollowsText, OwnName}
 use Rattle.naming.proofs.Lines.{NamesLine, names_line}
+use Rattle.std.specs.Prelude.{Ok}
 
 -- what solves the text's equations has on each line the value of its name's
 follows : {A : Type 0} {gate : ℕ → (ℕ → A) → A} {t : List ℕ} {inputs : ℕ → A} (value : ℕ → A) {j k : ℕ}
@@ -46,7 +45,7 @@ follows value s n = record {
 }
 
 -- the records of an accepted text
-module _ {t c : List ℕ} (d : Computes t c) (fine : refusal (bench_rules t buffer_bytes) ≡ Fine) (k : ℕ) (l : k < size_in t) where
+module _ {t c : List ℕ} (d : Computes t c) (fine : refusal (bench_rules t buffer_bytes) ≡ Ok tt) (k : ℕ) (l : k < size_in t) where
   own_name : OwnName t c k (place_on t k)
   own_name =
       let p = parts t buffer_bytes fine in
@@ -77,18 +76,18 @@ module _ {t c : List ℕ} (d : Computes t c) (right : NamesRight t) {k a b : ℕ
 
 -- ---- of what is written
 
-module _ {t p p' : List ℕ} {n : ℕ} (names : TellsNames t p p' (Records n)) where
-  all_fine : refusal (place_rules t (length p)) ≡ Fine
+module _ {t p p' : List ℕ} {n : ℕ} (names : TellsNames t p p' (Ok n)) where
+  all_fine : refusal (place_rules t (length p)) ≡ Ok tt
   unfolding names_answer
   all_fine = was_ruled (ruled _) names.answer refl
 
-  text_fine : refusal (bench_rules t buffer_bytes) ≡ Fine
+  text_fine : refusal (bench_rules t buffer_bytes) ≡ Ok tt
   text_fine = (both_fine (bench_rules t buffer_bytes) _ all_fine).0
 
   count_is : n ≡ size_in t
   unfolding names_answer
   count_is =
-      let a = names.answer ∙ ap (λ (v : Ruling). answered Refused v (Records (lines_of (records_in t)))) all_fine in
+      let a = names.answer ∙ ap (λ (v : Ruling). answered v (lines_of (records_in t))) all_fine in
       let m : n ≡ lines_of (records_in t) = cc a in
       m ∙ lines_are t
 
@@ -114,7 +113,7 @@ module _ {t p p' : List ℕ} {n : ℕ} (names : TellsNames t p p' (Records n)) w
       one_place (computes t buffer_bytes text_fine) (names_right t (parts t buffer_bytes text_fine).names) o (names_own.1 k l)
 
   -- and in those that the reader wrote of the same text
-  pub names_read : {c c' : List ℕ} {m : ℕ} → Reads t c c' (Records m) → (m ≡ n) × ((k : ℕ) → k < n → OwnName t (take (8 * n) c') k (get_or p' k 0))
+  pub names_read : {c c' : List ℕ} {m : ℕ} → Reads t c c' (Ok m) → (m ≡ n) × ((k : ℕ) → k < n → OwnName t (take (8 * n) c') k (get_or p' k 0))
   names_read {c} {c'} {m} reads =
       let r = read_computes reads in
       let same : m ≡ n = r.0 ∙ sym count_is in (

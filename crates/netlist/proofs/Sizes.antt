@@ -8,10 +8,9 @@ use borrow.Author.Tests.{leb-true, le-leb}
 use Rattle.ground.proofs.Tests.{some, same_test}
 use Rattle.answers.specs.Rules.{refusal}
 use Rattle.answers.specs.Answer.{answered}
-use Rattle.answers.specs.declared.Ruling.{Ruling}
-use Rattle.circuit.specs.declared.Checked.TheVariants.{Accepted, Refused}
+use Rattle.answers.specs.Rules.{Ruling}
 use Rattle.circuit.specs.Record.{outputs_of}
-use Rattle.circuit.specs.Promise.{circuit_rules, check_of}
+use Rattle.circuit.specs.Promise.{circuit_rules, check_of, counts_are}
 use Rattle.circuit.specs.Sizes.{SizesHold}
 use Rattle.circuit.proofs.Sizes.{sizes_fine, fine_sizes, sizes_decide, same_sizes}
 use Rattle.records.specs.Net.{Net, net_size, records_of}
@@ -20,6 +19,7 @@ use Rattle.netlist.specs.Sizes.{net_sizes}
 use Rattle.netlist.proofs.Fields.{net_long, net_lines}
 use Rattle.netlist.proofs.KeepsLayout.{net_layout}
 use Rattle.netlist.proofs.Counts.{net_inputs, some_output_lem, no_output}
+use Rattle.std.specs.Prelude.{Ok}
 
 module _ (net : Net) (r : Right net) where
   outputs_ok : leb 1 (outputs_of (records_of net)) ≡ leb 1 (length net.outputs)
@@ -34,16 +34,16 @@ module _ (net : Net) (r : Right net) where
       ∙ rw (net_inputs net r) (same_sizes (net_size net) net.inputs (outputs_of (records_of net)) (length net.outputs) outputs_ok)
 
   -- the answer of the check
-  pub net_check : check_of (records_of net) ≡ answered Refused (refusal (net_sizes net)) (Accepted (net_size net) net.inputs (outputs_of (records_of net)))
+  pub net_check : check_of (records_of net) ≡ answered (refusal (net_sizes net)) (counts_are (net_size net) net.inputs (outputs_of (records_of net)))
   unfolding check_of
   net_check = rw (net_refusal, net_inputs net r, net_lines net)
 
   module _ (hold : SizesHold (net_size net) net.inputs (length net.outputs)) where
-    pub net_fine : refusal (circuit_rules (records_of net)) ≡ Ruling.Fine
+    pub net_fine : refusal (circuit_rules (records_of net)) ≡ Ok tt
     net_fine = net_refusal ∙ sizes_fine hold
 
-    pub net_accepted : check_of (records_of net) ≡ Accepted (net_size net) net.inputs (outputs_of (records_of net))
+    pub net_accepted : check_of (records_of net) ≡ Ok (counts_are (net_size net) net.inputs (outputs_of (records_of net)))
     net_accepted = rw (sizes_fine hold) at net_check
 
-  pub net_sizes_lem : refusal (circuit_rules (records_of net)) ≡ Ruling.Fine → SizesHold (net_size net) net.inputs (length net.outputs)
+  pub net_sizes_lem : refusal (circuit_rules (records_of net)) ≡ Ok tt → SizesHold (net_size net) net.inputs (length net.outputs)
   net_sizes_lem e = fine_sizes _ _ _ (sym net_refusal ∙ e)

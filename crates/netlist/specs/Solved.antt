@@ -1,9 +1,8 @@
 -- What a net's equations say, over any values; and what is asked of a net so that its records are a circuit.
 -- Assumes nothing.
-use Rattle.std.specs.Prelude.{◌≡◌, ℕ, ◌+◌, ◌≤◌, ◌<◌, length, get_or}
+use Rattle.std.specs.Prelude.{◌≡◌, ℕ, ◌+◌, ◌≤◌, ◌<◌, length, get_or, Ok}
 use Rattle.gates.specs.Gate.{selector}
 use Rattle.answers.specs.Rules.{refusal}
-use Rattle.answers.specs.declared.Ruling.TheVariants.{Fine}
 use Rattle.order.specs.Order.{cycle_rules}
 use Rattle.records.specs.Net.{Net, gates_of, net_size, pin_of}
 
@@ -21,4 +20,4 @@ pub record Right (net : Net) : Type 0 where
   pub firsts_inside : (g : ℕ) → g < gates_of net → get_or net.firsts g 0 < net_size net
   pub seconds_inside : (g : ℕ) → g < gates_of net → get_or net.seconds g 0 < net_size net
   pub outputs_inside : (i : ℕ) → i < length net.outputs → get_or net.outputs i 0 < net_size net
-  pub placed : refusal (cycle_rules net.firsts net.seconds) ≡ Fine
+  pub placed : refusal (cycle_rules net.firsts net.seconds) ≡ Ok tt

@@ -9,8 +9,7 @@ use lib.ListN.{length, get_or, length-map, length-append, get_or-append}
 use lib.Seq.{get_or-append-add}
 use Rattle.ground.proofs.Tests.{either}
 use Rattle.ground.proofs.Map.{map_at}
-use Rattle.answers.specs.declared.Ruling.{Ruling}
-use Rattle.answers.specs.declared.Ruling.TheVariants.{Fine}
+use Rattle.answers.specs.Rules.{Ruling}
 use Rattle.answers.specs.Rules.{refusal}
 use Rattle.words.specs.Words.{word_at}
 use Rattle.names.specs.Names.{named, name_rules, definition, name_number}
@@ -19,11 +18,12 @@ use Rattle.names.proofs.Last.{last_most}
 use Rattle.names.proofs.OneDefinition.{used-defined}
 use Rattle.records.specs.Net.{Net}
 use Rattle.records.specs.Owed.{net_of, NumbersBelow}
-use Rattle.nets.specs.declared.Read.{Read}
-use Rattle.nets.specs.declared.Read.TheVariants.{Refused}
 use Rattle.nets.specs.Owed.{NetDone, ReadNetReady, NamedNet, uses_of, numbered, NamesDone, ReadNamesReady}
 use Rattle.answers.proofs.Rules.{both_fine, not_fine}
 use Rattle.answers.proofs.Answer.{first_refused, first_fine}
+use Rattle.std.specs.Prelude.{Ok, Err, Result}
+use Rattle.answers.specs.declared.Refusal.{Refusal}
+use Rattle.answers.specs.declared.Reason.{Reason}
 
 within_both : (t l m : List ℕ) → Within t l → Within t m → Within t (l ++ m)
 within_both t l m p q k h = ⊎_elim first second (either k (length l))
@@ -62,7 +62,7 @@ module _ {t : List ℕ} {n : NamedNet} (p : ReadNamesReady t n) where
   uses-within : Within t (uses_of n)
   uses-within = within_both t n.outs (n.firsts ++ n.seconds) p.outs_inside (within_both t n.firsts n.seconds p.firsts_inside p.seconds_inside)
 
-  module _ (fine : refusal (name_rules t n.defs (uses_of n)) ≡ Fine) where
+  module _ (fine : refusal (name_rules t n.defs (uses_of n)) ≡ Ok tt) where
     -- where a name is used, some name is defined
     outs_below : NumbersBelow (numbered t n) (numbered t n).outputs
     outs_below i h =
@@ -91,21 +91,21 @@ module _ {t : List ℕ} {n : NamedNet} (p : ReadNamesReady t n) where
     firsts_long = ap length q.firsts_are ∙ length-map n.firsts (name_number t n.defs n.numbers)
 
     -- one is wrong, and nothing finds its order
-    pub unnamed : {order c : List ℕ} {number place : ℕ} → v ≡ Ruling.Refused number place → NamesDone t n order c c (Refused number place)
+    pub unnamed : {order c : List ℕ} {reason : Reason} {place : ℕ} → v ≡ Err (reason, place) → NamesDone t n order c c (Err (reason, place))
     unnamed e =
         let names = name_rules t n.defs (uses_of n) in
         let refused = sym q.ruling ∙ e in
         record { done = first_refused names _ refused; order_is = λ f. absurd (not_fine (sym (both_fine names _ f).0 ∙ refused)) }
 
     -- none is
-    module _ (fine : v ≡ Fine) where
+    module _ (fine : v ≡ Ok tt) where
       numbers_are : net_of n.inputs n.kinds a b o ≡ numbered t n
       numbers_are = rw (q.firsts_are, q.seconds_are, q.outs_are)
 
       pub resolved : ReadNetReady (net_of n.inputs n.kinds a b o)
       resolved = rw numbers_are (numbers-ready (sym q.ruling ∙ fine))
 
-      pub read_numbers_lem : {order c c' : List ℕ} {r : Read} → NetDone (net_of n.inputs n.kinds a b o) order c c' r → NamesDone t n order c c' r
+      pub read_numbers_lem : {order c c' : List ℕ} {r : Result ℕ Refusal} → NetDone (net_of n.inputs n.kinds a b o) order c c' r → NamesDone t n order c c' r
       read_numbers_lem {order} {c} {c'} {r} d =
           let names = name_rules t n.defs (uses_of n) in
           let net = subst (λ (m : Net). NetDone m order c c' r) numbers_are d in

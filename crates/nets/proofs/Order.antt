@@ -7,8 +7,7 @@ use Prim.Native.Nat.{ℕ, ◌*◌, ◌≤◌, ◌<◌}
 use native.Mathlib.Omega.{arith}
 use lib.ListN.{length}
 use Rattle.ground.proofs.Tests.{either}
-use Rattle.answers.specs.declared.Ruling.{Ruling}
-use Rattle.answers.specs.declared.Ruling.TheVariants.{Fine}
+use Rattle.answers.specs.Rules.{Ruling}
 use Rattle.answers.specs.Rules.{refusal}
 use Rattle.circuit.specs.Promise.{circuit_rules}
 use Rattle.circuit.proofs.Sizes as sealed
@@ -18,14 +17,16 @@ use Rattle.order.proofs.Says.{full_order}
 use Rattle.records.specs.Net.{Net, net_size, placed_of, records_of}
 use Rattle.records.specs.Owed.{PutRecordsReady}
 use Rattle.records.proofs.Size.{records_length}
-use Rattle.nets.specs.declared.Read.{Read}
-use Rattle.nets.specs.declared.Read.TheVariants.{Refused}
 use Rattle.nets.specs.Rules.{buffer_rules, record_rules, net_rules}
 use Rattle.nets.specs.Owed.{ReadDone, RecordsDone, NetDone, ReadNetReady, ReadOrderReady}
 use Rattle.answers.proofs.Rules.{both_fine, not_fine}
 use Rattle.answers.proofs.Answer.{first_refused, first_fine}
+use Rattle.std.specs.Prelude.{Ok, Err, Result}
+use Rattle.answers.specs.declared.Refusal.{Refusal}
+use Rattle.answers.specs.declared.Reason.{Reason}
+use Rattle.answers.specs.declared.Reason.TheVariants.{CircuitSize}
 
-pub ordered : {net : Net} {order : List ℕ} {r : Ruling} → ReadNetReady net → ArrangeDone net.firsts net.seconds order r → r ≡ Fine → ReadOrderReady net order
+pub ordered : {net : Net} {order : List ℕ} {r : Ruling} → ReadNetReady net → ArrangeDone net.firsts net.seconds order r → r ≡ Ok tt → ReadOrderReady net order
 ordered {net} p q e =
     let o = q.order_is e in
     record { resolved = p; order_is = o; placed = ap length o ∙ full_order net.firsts net.seconds (sym q.ruling ∙ e) }
@@ -44,28 +45,28 @@ fits o few room = record {
 -- ---- what an arranged net comes to
 
 in_order : (net : Net) {order : List ℕ} {v : Ruling} → ArrangeDone net.firsts net.seconds order v
-    → (room : ℕ) → refusal (net_rules net room) ≡ Fine → order ≡ placed_of net
+    → (room : ℕ) → refusal (net_rules net room) ≡ Ok tt → order ≡ placed_of net
 in_order net q room e = q.order_is (q.ruling ∙ (both_fine (cycle_rules net.firsts net.seconds) _ e).0)
 
 module _ {net : Net} {order : List ℕ} {v : Ruling} (q : ArrangeDone net.firsts net.seconds order v) where
   -- where some gate can't be placed
-  pub unordered : {c : List ℕ} {number place : ℕ} → v ≡ Ruling.Refused number place → NetDone net order c c (Refused number place)
+  pub unordered : {c : List ℕ} {reason : Reason} {place : ℕ} → v ≡ Err (reason, place) → NetDone net order c c (Err (reason, place))
   unordered e = record { done = first_refused _ _ (sym q.ruling ∙ e); order_is = in_order net q _ }
 
   -- and where all are
-  pub read_ordered : {c c' : List ℕ} {r : Read} → v ≡ Fine → RecordsDone (records_of net) c c' r → NetDone net order c c' r
+  pub read_ordered : {c c' : List ℕ} {r : Result ℕ Refusal} → v ≡ Ok tt → RecordsDone (records_of net) c c' r → NetDone net order c c' r
   read_ordered e d = record { done = first_fine _ _ (sym q.ruling ∙ e) d; order_is = in_order net q _ }
 
 -- ---- more lines than a circuit may have
 
-refused_lines : (net : Net) → 2048 < net_size net → refusal (circuit_rules (records_of net)) ≡ Ruling.Refused 1 0
+refused_lines : (net : Net) → 2048 < net_size net → refusal (circuit_rules (records_of net)) ≡ Err (CircuitSize, 0)
 refused_lines net l = sealed.too_many (records_of net) (omega (arith, records_length net (net_size net)))
 
-pub too_many : (net : Net) {c : List ℕ} → 2048 < net_size net → ReadDone (record_rules (records_of net) (length c)) (records_of net) c c (Refused 1 0)
+pub too_many : (net : Net) {c : List ℕ} → 2048 < net_size net → ReadDone (record_rules (records_of net) (length c)) (records_of net) c c (Err (CircuitSize, 0))
 too_many net {c} l = first_refused (circuit_rules (records_of net)) (buffer_rules (length c)) (refused_lines net l)
 
 -- so what is not refused has no more
-pub few_lines : (net : Net) (room : ℕ) → refusal (net_rules net room) ≡ Fine → net_size net ≤ 2048
+pub few_lines : (net : Net) (room : ℕ) → refusal (net_rules net room) ≡ Ok tt → net_size net ≤ 2048
 few_lines net room e =
     let checked = (both_fine (circuit_rules (records_of net)) _ (both_fine (cycle_rules net.firsts net.seconds) _ e).1).0 in
     ⊎_elim (λ l. absurd (not_fine (sym checked ∙ refused_lines net l))) (λ l. l) (either 2048 (net_size net))

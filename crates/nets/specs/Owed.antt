@@ -1,33 +1,31 @@
 -- What the functions of nets owe each other and their callers; no reader of the promises needs it.
 -- Assumes nothing.
-use Rattle.std.specs.Prelude.{◌≡◌, List, ◌++◌, map, ℕ, ◌+◌, ◌≤◌, length}
+use Rattle.std.specs.Prelude.{◌≡◌, List, ◌++◌, map, ℕ, ◌+◌, ◌≤◌, length, Ok, Result}
 use Rattle.ground.specs.Put.{laid_on}
 use Rattle.answers.specs.Owed.{RulesDone}
-use Rattle.answers.specs.declared.Ruling.TheVariants.{Fine}
 use Rattle.answers.specs.Rules.{Rule, refusal}
 use Rattle.circuit.specs.Record.{lines_of}
 use Rattle.names.specs.Names.{name_rules, name_number}
 use Rattle.names.specs.Owed.{Within}
 use Rattle.records.specs.Net.{Net, gates_of, placed_of, records_of}
 use Rattle.records.specs.Owed.{net_of, Below, NumbersBelow}
-use Rattle.nets.specs.declared.Read.{Read}
-use Rattle.nets.specs.declared.Read.TheVariants.{Records, Refused}
 use Rattle.nets.specs.Rules.{record_rules, net_rules}
+use Rattle.answers.specs.declared.Refusal.{Refusal}
 
 -- the answer and the buffer afterwards, where these are the rules and the records
-abbrev pub ReadDone : List Rule → List ℕ → List ℕ → List ℕ → Read → Type 0
-ReadDone rules records c c' r = RulesDone Refused rules (Records (lines_of records)) c (laid_on c records) r c'
+abbrev pub ReadDone : List Rule → List ℕ → List ℕ → List ℕ → Result ℕ Refusal → Type 0
+ReadDone rules records c c' r = RulesDone rules (lines_of records) c (laid_on c records) r c'
 
 -- of records
-abbrev pub RecordsDone : List ℕ → List ℕ → List ℕ → Read → Type 0
+abbrev pub RecordsDone : List ℕ → List ℕ → List ℕ → Result ℕ Refusal → Type 0
 RecordsDone records c c' r = ReadDone (record_rules records (length c)) records c c' r
 
 -- and of a net whose gates find their order: where none of the rules refuses, it is the order
-pub record OrderDone (rules : List Rule) (net : Net) (order c c' : List ℕ) (r : Read) : Type 0 where
+pub record OrderDone (rules : List Rule) (net : Net) (order c c' : List ℕ) (r : Result ℕ Refusal) : Type 0 where
   pub done : ReadDone rules (records_of net) c c' r
-  pub order_is : refusal rules ≡ Fine → order ≡ placed_of net
+  pub order_is : refusal rules ≡ Ok tt → order ≡ placed_of net
 
-abbrev pub NetDone : Net → List ℕ → List ℕ → List ℕ → Read → Type 0
+abbrev pub NetDone : Net → List ℕ → List ℕ → List ℕ → Result ℕ Refusal → Type 0
 NetDone net order c c' r = OrderDone (net_rules net (length c)) net order c c' r
 
 -- so many records, no more than a circuit may have
@@ -83,7 +81,7 @@ numbered t n =
     let number = name_number t n.defs n.numbers in
     net_of n.inputs n.kinds (map number n.firsts) (map number n.seconds) (map number n.outs)
 
-abbrev pub NamesDone : List ℕ → NamedNet → List ℕ → List ℕ → List ℕ → Read → Type 0
+abbrev pub NamesDone : List ℕ → NamedNet → List ℕ → List ℕ → List ℕ → Result ℕ Refusal → Type 0
 NamesDone t n order c c' r = OrderDone (name_rules t n.defs (uses_of n) ++ net_rules (numbered t n) (length c)) (numbered t n) order c c' r
 
 -- few of each, names in the text, tables of one length, and numbers that are those of gates and inputs

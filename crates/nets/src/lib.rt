@@ -7,8 +7,8 @@ ghost use Rattle.records.specs.Owed.{net_of, PutRecordsReady};
 ghost use Rattle.nets.specs.Rules.{buffer_rules};
 ghost use Rattle.nets.specs.Owed.{ReadDone, RecordsDone, NetDone, NamesDone, LayRoom, ReadOrderReady, ReadNetReady, ReadNamesReady, named_of};
 
-use answers::Ruling;
-use circuit::{Checked, check};
+use answers::{Reason, Refusal};
+use circuit::{Counts, check};
 use names::resolve;
 use order::arrange;
 use records::put_records;
@@ -19,38 +19,26 @@ const MOST_LINES: usize = 2048;
 // The size of the lent buffer, which has room for the largest circuit.
 const LENT: usize = 16384;
 
-// What the reader answers, and the reader of names.
-#[derive(Drop)]
-pub enum Read {
-    // how many
-    Records(usize),
-    // number, place
-    Refused(u32, usize),
-}
-
 // ---- from the records to the lent buffer
 
 // Refusal 10, or the records in the buffer.
-fn lay(records: &[u8], n: usize, circuit: &mut [u8]) -> Read
+fn lay(records: &[u8], n: usize, circuit: &mut [u8]) -> Result<usize, Refusal>
     requires { LayRoom records.now n }
     ensures { ReadDone (buffer_rules (length circuit.old)) records.now circuit.old circuit.new result }
 {
     if circuit.len() != LENT {
-        return Read::Refused(10, 0);
+        return Err(Refusal(Reason::BufferSize, 0));
     }
     circuit[..records.len()].copy_from_slice(records);
-    Read::Records(n)
+    Ok(n)
 }
 
 // The circuit check on the records.
-fn hand_over(records: &[u8], circuit: &mut [u8]) -> Read
+fn hand_over(records: &[u8], circuit: &mut [u8]) -> Result<usize, Refusal>
     ensures { RecordsDone records.now circuit.old circuit.new result }
 {
-    let v = check(records);
-    match v {
-        Checked::Refused(number, place) => Read::Refused(number, place),
-        Checked::Accepted(n, inputs, outputs) => lay(records, n, circuit),
-    }
+    let counts = check(records)?;
+    lay(records, counts.lines, circuit)
 }
 
 // ---- from the net to its records
@@ -65,7 +53,7 @@ fn read_order_in(
     order: &[u16],
     records: &mut [u8],
     circuit: &mut [u8],
-) -> Read
+) -> Result<usize, Refusal>
     requires { PutRecordsReady (net_of inputs kinds.now firsts.now seconds.now outs.now) order.now records.old }
     ensures { RecordsDone (records_of (net_of inputs kinds.now firsts.now seconds.now outs.now)) circuit.old circuit.new result }
 {
@@ -82,13 +70,13 @@ fn read_order(
     outs: &[u16],
     order: &[u16],
     circuit: &mut [u8],
-) -> Read
+) -> Result<usize, Refusal>
     requires { ReadOrderReady (net_of inputs kinds.now firsts.now seconds.now outs.now) order.now }
     ensures { RecordsDone (records_of (net_of inputs kinds.now firsts.now seconds.now outs.now)) circuit.old circuit.new result }
 {
     let n = inputs + firsts.len();
     if MOST_LINES < n {
-        return Read::Refused(1, 0);
+        return Err(Refusal(Reason::CircuitSize, 0));
     }
     let mut records = [0u8; 16384];
     read_order_in(
@@ -112,15 +100,12 @@ fn read_net(
     outs: &[u16],
     order: &mut [u16],
     circuit: &mut [u8],
-) -> Read
+) -> Result<usize, Refusal>
     requires { ReadNetReady (net_of inputs kinds.now firsts.now seconds.now outs.now) × (length order.old ≡ length firsts.now) }
     ensures { NetDone (net_of inputs kinds.now firsts.now seconds.now outs.now) order.new circuit.old circuit.new result }
 {
-    let v = arrange(firsts, seconds, order);
-    match v {
-        Ruling::Refused(number, place) => Read::Refused(number, place),
-        Ruling::Fine => read_order(inputs, kinds, firsts, seconds, outs, order, circuit),
-    }
+    arrange(firsts, seconds, order)?;
+    read_order(inputs, kinds, firsts, seconds, outs, order, circuit)
 }
 
 // ---- from names to numbers
@@ -140,18 +125,15 @@ fn read_names_in(
     o: &mut [u16],
     order: &mut [u16],
     circuit: &mut [u8],
-) -> Read
+) -> Result<usize, Refusal>
     requires read_names_ready { ReadNamesReady text.now (named_of defs.now numbers.now inputs kinds.now firsts.now seconds.now outs.now) }
     requires a_len { (length a.old ≡ length firsts.now) × (length b.old ≡ length seconds.now) × (length o.old ≡ length outs.now) × (length order.old ≡ length firsts.now) }
     ensures { NamesDone text.now
         (named_of defs.now numbers.now inputs kinds.now firsts.now seconds.now outs.now)
         order.new circuit.old circuit.new result }
 {
-    let v = resolve(text, defs, numbers, outs, firsts, seconds, o, a, b);
-    match v {
-        Ruling::Refused(number, place) => Read::Refused(number, place),
-        Ruling::Fine => read_net(inputs, kinds, a, b, o, order, circuit),
-    }
+    resolve(text, defs, numbers, outs, firsts, seconds, o, a, b)?;
+    read_net(inputs, kinds, a, b, o, order, circuit)
 }
 
 // A net whose sources and outputs are names.
@@ -166,7 +148,7 @@ pub fn read_names(
     outs: &[u16],
     order: &mut [u16],
     circuit: &mut [u8],
-) -> Read
+) -> Result<usize, Refusal>
     requires read_names_ready { ReadNamesReady text.now (named_of defs.now numbers.now inputs kinds.now firsts.now seconds.now outs.now) }
     requires order_len { length order.old ≡ length firsts.now }
     ensures { NamesDone text.now

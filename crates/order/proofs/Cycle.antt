@@ -17,12 +17,14 @@ use Rattle.ground.proofs.Lists.{At, index_in_lem, elem_other}
 use Rattle.ground.proofs.Elem.{index_of}
 use Rattle.ground.proofs.Tests.{neither}
 use Rattle.answers.specs.Rules.{refusal}
-use Rattle.answers.specs.declared.Ruling.{Ruling}
-use Rattle.answers.specs.declared.Ruling.TheVariants.{Fine, Refused}
+use Rattle.answers.specs.Rules.{Ruling}
 use Rattle.order.specs.Order.{there, ready, order_of, Order, Placed, Source, Way, last, then, Cycle, cycle_rules}
 use Rattle.order.proofs.Gates.{count_snoc, sources_placed}
 use Rattle.order.proofs.Unique.{order_placed}
 use Rattle.order.proofs.Says.{LowestLeft, gate_says, all_placed, refused_left}
+use Rattle.std.specs.Prelude.{Ok, Err}
+use Rattle.answers.specs.declared.Reason.{Reason}
+use Rattle.answers.specs.declared.Reason.TheVariants.{BenchCycle}
 
 -- ---- from a gate that is placed every way leads to gates placed before it
 
@@ -106,16 +108,16 @@ module _ (a b p : List ℕ) (d : Placed a b p) where
 -- ---- both ways
 
 module _ (a b : List ℕ) where
-  pub cycle_refused : Cycle a b → (k : ℕ) × (refusal (cycle_rules a b) ≡ Refused 16 k)
+  pub cycle_refused : Cycle a b → (k : ℕ) × (refusal (cycle_rules a b) ≡ Err (BenchCycle, k))
   cycle_refused c = go (refusal (cycle_rules a b)) refl
     where
-      go : (r : Ruling) → refusal (cycle_rules a b) ≡ r → (k : ℕ) × (r ≡ Refused 16 k)
-      go Fine e =
+      go : (r : Ruling) → refusal (cycle_rules a b) ≡ r → (k : ℕ) × (r ≡ Err (BenchCycle, k))
+      go (Ok u) e =
           absurd (false≢true (sym (cycle_left (order_placed a b).steps c.0 c.2) ∙ all_placed a b e c.0 c.1))
-      go (Refused m k) e = (k, ap (λ (n : ℕ). Refused n k) (refused_left a b e).number)
+      go (Err why) e = (why.1, ap (λ (n : ℕ). Err (n, why.1)) (refused_left a b e).number)
 
   -- and nothing else is refused
-  pub refused_cycle : {m k : ℕ} → refusal (cycle_rules a b) ≡ Refused m k → Cycle a b
+  pub refused_cycle : {m : Reason} {k : ℕ} → refusal (cycle_rules a b) ≡ Err (m, k) → Cycle a b
   refused_cycle {m} {k} e = left_cycle a b (order_of a b) (order_placed a b) k w.inside (go (elem (order_of a b) k) refl)
     where
       w : LowestLeft a b m k

@@ -10,11 +10,13 @@ use lib.ListN.{length, get_or, take}
 use Rattle.ground.specs.Lists.{elem, index_in}
 use Rattle.ground.proofs.Tests.{either}
 use Rattle.answers.specs.Rules.{refusal, Applies, AllHold, Same, AllSay}
-use Rattle.answers.specs.declared.Ruling.TheVariants.{Fine, Refused}
 use Rattle.answers.proofs.Rules.{applies, refused, all_hold}
 use Rattle.order.specs.Order.{order_of, Order, Places, Source, cycle_rules}
 use Rattle.order.proofs.Gates.{order_full, gate_inside, sources_placed, gate_index}
 use Rattle.order.proofs.Unique.{order_placed, placed_in}
+use Rattle.std.specs.Prelude.{Ok, Err}
+use Rattle.answers.specs.declared.Reason.{Reason}
+use Rattle.answers.specs.declared.Reason.TheVariants.{BenchCycle}
 
 -- refusal m at gate k: 16, and k is the first gate that can't be placed
 pub record LowestLeft (a b : List ℕ) (m k : ℕ) : Type 0 where
@@ -52,7 +54,7 @@ module _ (a b : List ℕ) where
 
   -- ---- where nothing is refused
 
-  module _ (e : refusal (cycle_rules a b) ≡ Fine) where
+  module _ (e : refusal (cycle_rules a b) ≡ Ok tt) where
     pub all_placed : (g : ℕ) → g < length a → elem (order_of a b) g ≡ true
     unfolding AllHold cycle_rules
     all_placed g l = (gate_says g).tests ((all_hold (cycle_rules a b) cycle_says e).0 g l)
@@ -62,7 +64,7 @@ module _ (a b : List ℕ) where
 
   -- ---- where something is
 
-  pub refused_left : {m k : ℕ} → refusal (cycle_rules a b) ≡ Refused m k → LowestLeft a b m k
+  pub refused_left : {m : Reason} {k : ℕ} → refusal (cycle_rules a b) ≡ Err (m, k) → LowestLeft a b m k
   unfolding Applies cycle_rules
   refused_left {m} {k} e =
       ⊎_elim
@@ -81,7 +83,7 @@ module _ (a b : List ℕ) where
           absurd (omega (arith, low j (omega arith, λ p. false≢true (sym q ∙ (gate_says j).tests p))))
 
   -- and the first gate that is left is refused
-  pub left_refused : {k : ℕ} → LowestLeft a b 16 k → refusal (cycle_rules a b) ≡ Refused 16 k
+  pub left_refused : {k : ℕ} → LowestLeft a b 16 k → refusal (cycle_rules a b) ≡ Err (BenchCycle, k)
   unfolding Applies cycle_rules
   left_refused {k} w =
       refused (cycle_rules a b) cycle_says 16 k

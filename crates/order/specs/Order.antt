@@ -7,6 +7,7 @@ use Rattle.ground.specs.Choose.{choose}
 use Rattle.ground.specs.Below.{first_not}
 use Rattle.ground.specs.Lists.{elem}
 use Rattle.answers.specs.Rules.{Rule, each}
+use Rattle.answers.specs.declared.Reason.TheVariants.{BenchCycle}
 
 -- a source is there: an input, or a gate that is placed
 unfoldable pub there : ℕ → List ℕ → ℕ → Bool
@@ -54,7 +55,7 @@ pub record Places (a b : List ℕ) (g : ℕ) : Type 0 where
   pub placed : elem order g ≡ true
 
 unfoldable pub cycle_rules : List ℕ → List ℕ → List Rule
-cycle_rules a b = each 16 (length a) (elem (order_of a b)) (Places a b) ∷ []
+cycle_rules a b = each BenchCycle (length a) (elem (order_of a b)) (Places a b) ∷ []
 
 -- ---- cycles
 

@@ -1,11 +1,10 @@
 -- What the functions of the order owe each other and their callers; no reader of the promises needs it.
 -- Assumes nothing.
-use Rattle.std.specs.Prelude.{◌≡◌, ◌⊎◌, Bool, ◌&&◌, ◌||◌, List, ℕ, ◌≤◌, ◌<◌, eqb, leb, length, get_or, take, replicate}
+use Rattle.std.specs.Prelude.{◌≡◌, ◌⊎◌, Bool, ◌&&◌, ◌||◌, List, ℕ, ◌≤◌, ◌<◌, eqb, leb, length, get_or, take, replicate, Ok}
 use Rattle.ground.specs.Choose.{one}
 use Rattle.ground.specs.Lists.{elem}
 use Rattle.answers.specs.Rules.{refusal}
-use Rattle.answers.specs.declared.Ruling.{Ruling}
-use Rattle.answers.specs.declared.Ruling.TheVariants.{Fine}
+use Rattle.answers.specs.Rules.{Ruling}
 use Rattle.order.specs.Order.{Placed, order_of, cycle_rules}
 
 -- by marks at the gates that are placed
@@ -50,4 +49,4 @@ pub record ArrangeInReady (a b reader placed order : List ℕ) : Type 0 where
 -- what refusal 16 says, and the order where all gates are placed
 pub record ArrangeDone (a b order : List ℕ) (r : Ruling) : Type 0 where
   pub ruling : r ≡ refusal (cycle_rules a b)
-  pub order_is : r ≡ Fine → order ≡ order_of a b
+  pub order_is : r ≡ Ok tt → order ≡ order_of a b

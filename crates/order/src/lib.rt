@@ -6,7 +6,7 @@ ghost use Rattle.ground.specs.Below.{first_not};
 ghost use Rattle.answers.specs.Rules.{each, said};
 ghost use Rattle.order.specs.Owed.{there_by, ready_by, Back, PlaceReady, PlaceDone, ArrangeRoom, ArrangeInReady, ArrangeDone};
 
-use answers::Ruling;
+use answers::{Reason, Refusal};
 use ground::{narrow, wide16};
 
 // A source is an input, or a gate that is placed.
@@ -102,14 +102,14 @@ fn first_left(placed: &[u8]) -> usize
 }
 
 // Refusal 16, where the gates that are placed are marked.
-fn rule_placed(placed: &[u8]) -> Ruling
-    ensures { result ≡ said (each 16 (length placed.now) (λ g. eqb (get_or placed.now g 0) 1) (λ g. Unit)) }
+fn rule_placed(placed: &[u8]) -> Result<(), Refusal>
+    ensures { result ≡ said (each BenchCycle (length placed.now) (λ g. eqb (get_or placed.now g 0) 1) (λ g. Unit)) }
 {
     let left = first_left(placed);
     if left < placed.len() {
-        return Ruling::Refused(16, left);
+        return Err(Refusal(Reason::BenchCycle, left));
     }
-    Ruling::Fine
+    Ok(())
 }
 
 // In memory for the first readers and for the marks.
@@ -119,7 +119,7 @@ fn arrange_in(
     reader: &mut [u16],
     placed: &mut [u8],
     order: &mut [u16],
-) -> Ruling
+) -> Result<(), Refusal>
     requires { ArrangeInReady a.now b.now reader.old placed.old order.old }
     ensures { ArrangeDone a.now b.now order.new result }
 {
@@ -129,7 +129,7 @@ fn arrange_in(
 }
 
 // The order of all gates, or the first in the text that can't be placed.
-pub fn arrange(a: &[u16], b: &[u16], order: &mut [u16]) -> Ruling
+pub fn arrange(a: &[u16], b: &[u16], order: &mut [u16]) -> Result<(), Refusal>
     requires { ArrangeRoom a.now b.now order.old }
     ensures { ArrangeDone a.now b.now order.new result }
 {

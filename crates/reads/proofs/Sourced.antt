@@ -6,7 +6,7 @@ use mathlib.Core.List.{List}
 use Prim.Native.Nat.{ℕ}
 use native.Mathlib.Omega.{arith}
 use Rattle.ground.proofs.Tests.{either}
-use Rattle.answers.specs.declared.Ruling.{Ruling}
+use Rattle.answers.specs.Rules.{Ruling}
 use Rattle.answers.specs.Rules.{refusal, AllHold}
 use Rattle.answers.proofs.Rules.{all_hold}
 use Rattle.gates.specs.Gate.{pins_of}
@@ -14,8 +14,9 @@ use Rattle.circuit.specs.Record.{kind_at, lines_of}
 use Rattle.circuit.specs.Promise.{layout_rules, count_rules, circuit_rules}
 use Rattle.circuit.proofs.Says.{circuit_says}
 use Rattle.reads.specs.Owed.{Sourced}
+use Rattle.std.specs.Prelude.{Ok}
 
-pub sourced : (c : List ℕ) → refusal (circuit_rules c) ≡ Ruling.Fine → Sourced c (lines_of c)
+pub sourced : (c : List ℕ) → refusal (circuit_rules c) ≡ Ok tt → Sourced c (lines_of c)
 unfolding layout_rules count_rules AllHold
 sourced c e =
     let all = all_hold (circuit_rules c) (circuit_says c) e in

@@ -2,7 +2,7 @@
 #![tactic(auto)]
 
 ghost use Rattle.std.specs.Prelude.{◌≡◌};
-ghost use Rattle.answers.specs.Area.{refused_at, told, done, Entered};
+ghost use Rattle.answers.specs.Area.{number_of, refused_at, told, done, Entered};
 ghost use Rattle.answers.specs.Area as answering;
 ghost use Rattle.circuit.specs.Promise.{checked_numbers};
 ghost use Rattle.findings.specs.Findings.{finding_numbers};
@@ -15,17 +15,12 @@ ghost use Rattle.bench.specs.Promise.{read_numbers};
 ghost use Rattle.unfold.specs.Promise.{unfolding_numbers};
 ghost use Rattle.replies.specs.Replies.{numbers_in};
 
-use answers::{Ruling, put_numbers};
-use audit::Audited;
-use circuit::Checked;
+use answers::{Refusal, put_numbers};
+use circuit::Counts;
 use clauses::Written;
 use findings::Finding;
-use nets::Read;
 use nodes::Verdict;
-use search::Searched;
 use suspect_areas::Marked;
-use suspects::Narrowed;
-use unfold::Unfolding;
 
 // The size of the answer area, and the refusal of any other.
 pub const AREA: usize = 32;
@@ -54,32 +49,36 @@ fn success(first: u64, second: u64, third: u64) -> Reply
     }
 }
 
-fn refused(number: u32, place: usize) -> Reply
-    ensures { numbers_in result ≡ refused_at number place }
+fn refused(why: Refusal) -> Reply
+    ensures { numbers_in result ≡ refused_at (number_of why.0) why.1 }
 {
     Reply {
-        number,
-        first: place as u64,
+        number: why.0.number(),
+        first: why.1 as u64,
         second: 0,
         third: 0,
     }
 }
 
-pub fn of_ruling(v: Ruling) -> Reply
+pub fn of_ruling(v: Result<(), Refusal>) -> Reply
     ensures { numbers_in result ≡ told v done }
 {
     match v {
-        Ruling::Fine => success(0, 0, 0),
-        Ruling::Refused(number, place) => refused(number, place),
+        Ok(()) => success(0, 0, 0),
+        Err(why) => refused(why),
     }
 }
 
-pub fn of_checked(v: Checked) -> Reply
+pub fn of_checked(v: Result<Counts, Refusal>) -> Reply
     ensures { numbers_in result ≡ checked_numbers v }
 {
     match v {
-        Checked::Accepted(n, inputs, outputs) => success(n as u64, inputs as u64, outputs as u64),
-        Checked::Refused(number, place) => refused(number, place),
+        Ok(counts) => success(
+            counts.lines as u64,
+            counts.inputs as u64,
+            counts.outputs as u64,
+        ),
+        Err(why) => refused(why),
     }
 }
 
@@ -95,12 +94,12 @@ fn of_finding(v: Finding) -> Reply
     }
 }
 
-pub fn of_audited(v: Audited) -> Reply
+pub fn of_audited(v: Result<Finding, Refusal>) -> Reply
     ensures { numbers_in result ≡ audited_numbers v }
 {
     match v {
-        Audited::Found(finding) => of_finding(finding),
-        Audited::Refused(number, place) => refused(number, place),
+        Ok(finding) => of_finding(finding),
+        Err(why) => refused(why),
     }
 }
 
@@ -114,61 +113,61 @@ fn of_verdict(v: Verdict) -> Reply
     }
 }
 
-pub fn of_searched(v: Searched) -> Reply
+pub fn of_searched(v: Result<Verdict, Refusal>) -> Reply
     ensures { numbers_in result ≡ searched_numbers v }
 {
     match v {
-        Searched::Verdict(found) => of_verdict(found),
-        Searched::Refused(number, place) => refused(number, place),
+        Ok(found) => of_verdict(found),
+        Err(why) => refused(why),
     }
 }
 
-pub fn of_narrowed(v: Narrowed) -> Reply
+pub fn of_narrowed(v: Result<u64, Refusal>) -> Reply
     ensures { numbers_in result ≡ narrowed_numbers v }
 {
     match v {
-        Narrowed::Remaining(faults) => success(faults, 0, 0),
-        Narrowed::Refused(number, place) => refused(number, place),
+        Ok(faults) => success(faults, 0, 0),
+        Err(why) => refused(why),
     }
 }
 
-pub fn of_marked(v: Marked) -> Reply
+pub fn of_marked(v: Result<Marked, Refusal>) -> Reply
     ensures { numbers_in result ≡ marked_numbers v }
 {
     match v {
-        Marked::Marks(remaining, faults, patterns) => success(remaining, faults, patterns),
-        Marked::Refused(number, place) => refused(number, place),
+        Ok(marked) => success(marked.remaining, marked.faults, marked.patterns),
+        Err(why) => refused(why),
     }
 }
 
-pub fn of_written(v: Written) -> Reply
+pub fn of_written(v: Result<Written, Refusal>) -> Reply
     ensures { numbers_in result ≡ written_numbers v }
 {
     match v {
-        Written::Success(words, clauses, variables) => success(
-            words as u64,
-            clauses as u64,
-            variables as u64,
+        Ok(written) => success(
+            written.words as u64,
+            written.clauses as u64,
+            written.variables as u64,
         ),
-        Written::Refused(number, place) => refused(number, place),
+        Err(why) => refused(why),
     }
 }
 
-pub fn of_read(v: Read) -> Reply
+pub fn of_read(v: Result<usize, Refusal>) -> Reply
     ensures { numbers_in result ≡ read_numbers v }
 {
     match v {
-        Read::Records(n) => success(n as u64, 0, 0),
-        Read::Refused(number, place) => refused(number, place),
+        Ok(n) => success(n as u64, 0, 0),
+        Err(why) => refused(why),
     }
 }
 
-pub fn of_unfolding(v: Unfolding) -> Reply
+pub fn of_unfolding(v: Result<usize, Refusal>) -> Reply
     ensures { numbers_in result ≡ unfolding_numbers v }
 {
     match v {
-        Unfolding::Lines(n) => success(n as u64, 0, 0),
-        Unfolding::Refused(number, place) => refused(number, place),
+        Ok(n) => success(n as u64, 0, 0),
+        Err(why) => refused(why),
     }
 }
 

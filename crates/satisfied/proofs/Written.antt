@@ -6,7 +6,7 @@ use Prim.Native.Nat.{ℕ}
 use lib.IntN.{ℤ}
 use lib.ListN.{length, take, drop}
 use lib.Seq.{take_at}
-use Rattle.answers.specs.declared.Ruling.{Ruling}
+use Rattle.answers.specs.Rules.{Ruling}
 use Rattle.answers.specs.Rules.{refusal}
 use Rattle.answers.proofs.Rules.{both_fine}
 use Rattle.answers.proofs.Answer.{was_ruled}
@@ -17,17 +17,17 @@ use Rattle.circuit.proofs.Accepted as Accepted
 use Rattle.lists.specs.declared.Fault.{Fault}
 use Rattle.lists.specs.Faults.{fault_at}
 use Rattle.simulate.specs.Boolean.{Vector, Detects}
-use Rattle.clauses.specs.declared.Written.TheVariants.{Success}
 use Rattle.line_clauses.specs.Clauses.{variables_of}
-use Rattle.clauses.specs.Promise.{clauses_for, words_for, clause_rules, written_of, Writes}
+use Rattle.clauses.specs.Promise.{clauses_for, words_for, clause_rules, written_of, Writes, written_are}
 use Rattle.clauses.proofs.Says.{ruled}
 use Rattle.satisfied.specs.Satisfied.{FaithfulWords}
 use Rattle.satisfied.proofs.Faithful.{faithful}
+use Rattle.std.specs.Prelude.{Ok}
 
-module _ {c fs : List ℕ} {w w' : List ℤ} {a b v : ℕ} (p : Writes c fs w w' (Success a b v)) where
+module _ {c fs : List ℕ} {w w' : List ℤ} {a b v : ℕ} (p : Writes c fs w w' (Ok (written_are a b v))) where
   -- after success nothing was refused, the first words are the list, and the numbers are its own
   record Succeeded : Type 0 where
-    fine : refusal (clause_rules c fs (length w)) ≡ Ruling.Fine
+    fine : refusal (clause_rules c fs (length w)) ≡ Ok tt
     words : take a w' ≡ words_for c (fault_at fs 0)
     clauses : b ≡ length (clauses_for c (fault_at fs 0))
     variables : v ≡ variables_of c (lines_of c)
@@ -35,8 +35,8 @@ module _ {c fs : List ℕ} {w w' : List ℤ} {a b v : ℕ} (p : Writes c fs w w'
   succeeded : Succeeded
   unfolding written_of
   succeeded =
-      let q : refusal (clause_rules c fs (length w)) ≡ Ruling.Fine = was_ruled (ruled _ _ _) p.answer refl in
-      let e : Success a b v ≡ Success (length (words_for c (fault_at fs 0))) (length (clauses_for c (fault_at fs 0))) (variables_of c (lines_of c)) = p.answer ∙ rw q in
+      let q : refusal (clause_rules c fs (length w)) ≡ Ok tt = was_ruled (ruled _ _ _) p.answer refl in
+      let e : Ok (written_are a b v) ≡ Ok (written_are (length (words_for c (fault_at fs 0))) (length (clauses_for c (fault_at fs 0))) (variables_of c (lines_of c))) = p.answer ∙ rw q in
       let l : w' ≡ laid_on w (words_for c (fault_at fs 0)) = p.words ∙ rw q in
       let n : a ≡ length (words_for c (fault_at fs 0)) = cc in
       record { fine = q; words = rw l (take_at (words_for c (fault_at fs 0)) (drop (length (words_for c (fault_at fs 0))) w) a (sym n)); clauses = cc; variables = cc }

@@ -5,7 +5,7 @@ use mathlib.Core.List.{List}
 use Prim.Native.Nat.{ℕ, ◌*◌, ◌≤◌}
 use native.Mathlib.Omega.{arith}
 use lib.ListN.{length, length-replicate}
-use Rattle.answers.specs.declared.Ruling.{Ruling}
+use Rattle.answers.specs.Rules.{Ruling}
 use Rattle.answers.specs.Rules.{Rule, refusal}
 use Rattle.answers.proofs.Rules.{both_fine}
 use Rattle.answers.proofs.Lent.{lent_sizes}
@@ -18,16 +18,16 @@ use Rattle.lists.proofs.Faults.{good_faults}
 use Rattle.nodes.specs.declared.Verdict.{Verdict}
 use Rattle.nodes.specs.Node.{start}
 use Rattle.nodes.proofs.Node.{start_is}
-use Rattle.search.specs.declared.Searched.{Searched}
-use Rattle.search.specs.declared.Searched.TheVariants as searched
 use Rattle.sides.specs.Look.{look_of, look_work}
 use Rattle.sides.proofs.Look.{prepared}
 use Rattle.search.specs.Promise.{search_rest_rules, search_rules, verdict_for, test_for, work_for, searched_numbers, Searches}
 use Rattle.search.specs.Owed.{RunReady, RunDone, SearchedBy}
+use Rattle.std.specs.Prelude.{Ok, Result}
+use Rattle.answers.specs.declared.Refusal.{Refusal}
 
 -- ---- what is not refused can be searched
 
-module _ (c f : List ℕ) (n inputs test work : ℕ) (fine : refusal (search_rest_rules c f inputs n test work) ≡ Ruling.Fine) where
+module _ (c f : List ℕ) (n inputs test work : ℕ) (fine : refusal (search_rest_rules c f inputs n test work) ≡ Ok tt) where
   pub fault_inside : Inside f 0
   fault_inside =
       let g = good_faults 1 c f (both_fine (fault_rules 1 c f) _ fine).0 in
@@ -53,11 +53,11 @@ module _ (c f : List ℕ) (n inputs test work : ℕ) (fine : refusal (search_res
 -- ---- where nothing is refused, what the run leaves is owed
 
 pub rest_fine : {rules : List Rule} {c : List ℕ} {inputs n b : ℕ} {t w : List ℕ} {at fault : Fault} {r : Verdict} {t' w' : List ℕ}
-    → refusal rules ≡ Ruling.Fine
+    → refusal rules ≡ Ok tt
     → at ≡ fault
     → Known c n inputs
     → RunDone (look_of at c n) (look_work at c n) (start inputs) b t w r t' w'
-    → SearchedBy rules c fault b t w (searched.Verdict r) t' w'
+    → SearchedBy rules c fault b t w (Ok r) t' w'
 unfolding verdict_for test_for work_for
 rest_fine e at_is known p =
     fine_done e
@@ -67,7 +67,7 @@ rest_fine e at_is known p =
 -- ---- the promise
 
 module _ {c f : List ℕ} {b : ℕ} {t w : List ℕ} where
-  pub searches : {r : Searched} {t' w' : List ℕ} → SearchedBy (search_rules c f (length t) (length w)) c (fault_at f 0) b t w r t' w' → Searches c f b t w r t' w'
+  pub searches : {r : Result Verdict Refusal} {t' w' : List ℕ} → SearchedBy (search_rules c f (length t) (length w)) c (fault_at f 0) b t w r t' w' → Searches c f b t w r t' w'
   unfolding searched_numbers
   searches p = record {
     answer = p.answer;
@@ -77,5 +77,5 @@ module _ {c f : List ℕ} {b : ℕ} {t w : List ℕ} where
   }
 
   -- two allowed results are equal
-  pub one_result : {r s : Searched} {t' t'' w' w'' : List ℕ} → Searches c f b t w r t' w' → Searches c f b t w s t'' w'' → (r ≡ s) × (t' ≡ t'') × (w' ≡ w'')
+  pub one_result : {r s : Result Verdict Refusal} {t' t'' w' w'' : List ℕ} → Searches c f b t w r t' w' → Searches c f b t w s t'' w'' → (r ≡ s) × (t' ≡ t'') × (w' ≡ w'')
   one_result p q = (cc, cc, cc)

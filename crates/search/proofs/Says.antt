@@ -4,7 +4,7 @@ use mathlib.Core.Path.{◌≡◌, refl, ◌∙◌}
 use mathlib.Core.List.{List}
 use Prim.Native.Nat.{ℕ, ◌*◌}
 use lib.ListN.{length}
-use Rattle.answers.specs.declared.Ruling.{Ruling}
+use Rattle.answers.specs.Rules.{Ruling}
 use Rattle.answers.specs.Rules.{Applies, AllSay}
 use Rattle.answers.specs.Answer.{answered}
 use Rattle.answers.proofs.Rules.{refused, both_say}
@@ -17,9 +17,10 @@ use Rattle.circuit.proofs.Says.{circuit_says}
 use Rattle.lists.specs.Faults.{fault_at, fault_rules}
 use Rattle.lists.proofs.Faults.{faults_say}
 use Rattle.nodes.specs.declared.Verdict.{Verdict}
-use Rattle.search.specs.declared.Searched.{Searched}
-use Rattle.search.specs.declared.Searched.TheVariants as searched
 use Rattle.search.specs.Promise.{search_rest_rules, search_rules, verdict_for, Searches}
+use Rattle.std.specs.Prelude.{Ok, Err, Result}
+use Rattle.answers.specs.declared.Refusal.{Refusal}
+use Rattle.answers.specs.declared.Reason.{Reason}
 
 -- ---- the rules in words
 
@@ -32,27 +33,27 @@ search_says c f test work = both_say (circuit_rules c) _ (circuit_says c) (rest_
 -- ---- the refusals in the paper's words
 
 -- what was ruled, by the answer
-abbrev pub ruling_of : Searched → Ruling
-ruling_of (searched.Verdict v) = Ruling.Fine
-ruling_of (searched.Refused number place) = Ruling.Refused number place
+abbrev pub ruling_of : Result Verdict Refusal → Ruling
+ruling_of (Ok v) = Ok tt
+ruling_of (Err why) = Err why
 
-pub ruled : (v : Verdict) → Ruled searched.Refused ruling_of (searched.Verdict v)
+pub ruled : (v : Verdict) → Ruled ruling_of (Ok v)
 ruled v = record { refuses = λ x y. refl; accepts = refl }
 
 -- where a verdict is answered, nothing was refused, and it is the one that is due
-pub was_found : {r : Ruling} {v due : Verdict} → searched.Verdict v ≡ answered searched.Refused r (searched.Verdict due) → (r ≡ Ruling.Fine) × (v ≡ due)
+pub was_found : {r : Ruling} {v due : Verdict} → Ok v ≡ answered r due → (r ≡ Ok tt) × (v ≡ due)
 was_found {r} {v} {due} e =
-    let fine : r ≡ Ruling.Fine = answer.was_ruled (ruled due) e refl in
-    let same : searched.Verdict v ≡ searched.Verdict due = e ∙ rw fine in
+    let fine : r ≡ Ok tt = answer.was_ruled (ruled due) e refl in
+    let same : Ok v ≡ Ok due = e ∙ rw fine in
     (fine, cc)
 
-module _ {c f : List ℕ} {b : ℕ} {t w : List ℕ} {r : Searched} {t' w' : List ℕ} (p : Searches c f b t w r t' w') (number place : ℕ) where
+module _ {c f : List ℕ} {b : ℕ} {t w : List ℕ} {r : Result Verdict Refusal} {t' w' : List ℕ} (p : Searches c f b t w r t' w') (reason : Reason) (place : ℕ) where
   -- a refusal is the first that applies, with the lowest place
-  pub refused_applies : r ≡ searched.Refused number place → Applies (search_rules c f (length t) (length w)) number place
-  refused_applies = answer.refused_applies (ruled (verdict_for c (fault_at f 0) b)) (search_rules c f (length t) (length w)) (search_says c f (length t) (length w)) p.answer number place
+  pub refused_applies : r ≡ Err (reason, place) → Applies (search_rules c f (length t) (length w)) reason place
+  refused_applies = answer.refused_applies (ruled (verdict_for c (fault_at f 0) b)) (search_rules c f (length t) (length w)) (search_says c f (length t) (length w)) p.answer reason place
 
   -- and where one applies, it is given, and nothing is written
-  pub applies_refused : Applies (search_rules c f (length t) (length w)) number place → (r ≡ searched.Refused number place) × (t' ≡ t) × (w' ≡ w)
+  pub applies_refused : Applies (search_rules c f (length t) (length w)) reason place → (r ≡ Err (reason, place)) × (t' ≡ t) × (w' ≡ w)
   applies_refused a =
-      let e = refused (search_rules c f (length t) (length w)) (search_says c f (length t) (length w)) number place a in
+      let e = refused (search_rules c f (length t) (length w)) (search_says c f (length t) (length w)) reason place a in
       (p.answer ∙ rw e, p.test ∙ rw e, p.work ∙ rw e)

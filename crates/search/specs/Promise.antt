@@ -1,6 +1,6 @@
 -- Part 4, the test search: its refusals, what it answers, and what it promises.
 -- Assumes nothing.
-use Rattle.std.specs.Prelude.{◌≡◌, List, ◌++◌, ℕ, ◌*◌, length}
+use Rattle.std.specs.Prelude.{◌≡◌, List, ◌++◌, ℕ, ◌*◌, length, Ok, Err, Result}
 use Rattle.answers.specs.Rules.{Rule, refusal, unless}
 use Rattle.answers.specs.Lent.{lent_rules}
 use Rattle.answers.specs.Answer.{answered}
@@ -14,9 +14,8 @@ use Rattle.nodes.specs.declared.Verdict.TheVariants as verdict
 use Rattle.nodes.specs.Node.{start}
 use Rattle.nodes.specs.Order.{Look, test_of}
 use Rattle.nodes.specs.Budget.{verdict_of, test_by, memory_of}
-use Rattle.search.specs.declared.Searched.{Searched}
-use Rattle.search.specs.declared.Searched.TheVariants as searched
 use Rattle.sides.specs.Look.{look_of, look_work}
+use Rattle.answers.specs.declared.Refusal.{Refusal}
 
 -- ---- the refusals
 
@@ -51,13 +50,13 @@ verdict_numbers (verdict.Test k) = success 0 k 0
 verdict_numbers (verdict.Redundant k) = success 1 k 0
 verdict_numbers (verdict.GivenUp k) = success 2 k 0
 
-unfoldable pub searched_numbers : Searched → Numbers
-searched_numbers (searched.Verdict v) = verdict_numbers v
-searched_numbers (searched.Refused number place) = refused_at number place
+unfoldable pub searched_numbers : Result Verdict Refusal → Numbers
+searched_numbers (Ok v) = verdict_numbers v
+searched_numbers (Err why) = refused_at why.0 why.1
 
 -- the promise, whatever the bytes, where t and w were lent, and t' and w' come back
-pub record Searches (c f : List ℕ) (b : ℕ) (t w : List ℕ) (r : Searched) (t' w' : List ℕ) : Type 0 where
-  pub answer : r ≡ answered searched.Refused (refusal (search_rules c f (length t) (length w))) (searched.Verdict (verdict_for c (fault_at f 0) b))
+pub record Searches (c f : List ℕ) (b : ℕ) (t w : List ℕ) (r : Result Verdict Refusal) (t' w' : List ℕ) : Type 0 where
+  pub answer : r ≡ answered (refusal (search_rules c f (length t) (length w))) (verdict_for c (fault_at f 0) b)
   pub numbers : searched_numbers r ≡ told (refusal (search_rules c f (length t) (length w))) (verdict_numbers (verdict_for c (fault_at f 0) b))
   pub test : t' ≡ unless (refusal (search_rules c f (length t) (length w))) t (test_for c (fault_at f 0) b t)
   pub work : w' ≡ unless (refusal (search_rules c f (length t) (length w))) w (work_for c (fault_at f 0) b w)

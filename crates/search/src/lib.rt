@@ -10,18 +10,11 @@ ghost use Rattle.sides.specs.Look.{look_of, look_work};
 ghost use Rattle.search.specs.Promise.{search_rest_rules, Searches};
 ghost use Rattle.search.specs.Owed.{RunReady, RunDone, SearchDone};
 
-use answers::{Ruling, check_lent};
-use circuit::{Checked, check};
+use answers::{Refusal, check_lent};
+use circuit::{Counts, check};
 use lists::{Fault, check_faults, read_fault};
 use nodes::Verdict;
 use sides::side;
-
-// What the search answers: a verdict, or the number of a refusal and its place.
-#[derive(Drop)]
-pub enum Searched {
-    Verdict(Verdict),
-    Refused(u32, usize),
-}
 
 // The test buffer gets the node, if it is a test.
 fn put_test(found: Verdict, node: &[u8], test: &mut [u8])
@@ -109,15 +102,12 @@ pub fn check_rest(
     n: usize,
     test: usize,
     work: usize,
-) -> Ruling
+) -> Result<(), Refusal>
     requires { n ≤ 2048 }
     ensures { result ≡ refusal (search_rest_rules circuit.now fault.now inputs n test work) }
 {
-    let v = check_faults(circuit, fault, 1);
-    match v {
-        Ruling::Refused(number, place) => Ruling::Refused(number, place),
-        Ruling::Fine => check_lent(inputs, test, 2 * n, work),
-    }
+    check_faults(circuit, fault, 1)?;
+    check_lent(inputs, test, 2 * n, work)
 }
 
 // The search of an accepted circuit.
@@ -129,19 +119,14 @@ fn accepted(
     budget: u64,
     test: &mut [u8],
     work: &mut [u8],
-) -> Searched
+) -> Result<Verdict, Refusal>
     requires { Known circuit.now n inputs }
     ensures { SearchDone circuit.now fault.now inputs n budget test.old work.old result test.new work.new }
 {
-    let v = check_rest(circuit, fault, inputs, n, test.len(), work.len());
-    match v {
-        Ruling::Refused(number, place) => Searched::Refused(number, place),
-        Ruling::Fine => {
-            let at = read_fault(fault, 0);
-            let found = run_all_x(circuit, at, n, inputs, budget, test, work);
-            Searched::Verdict(found)
-        }
-    }
+    check_rest(circuit, fault, inputs, n, test.len(), work.len())?;
+    let at = read_fault(fault, 0);
+    let found = run_all_x(circuit, at, n, inputs, budget, test, work);
+    Ok(found)
 }
 
 // Part 4: a test, redundant or given up, each with its number of nodes; or the first refusal, and nothing is written.
@@ -151,12 +136,9 @@ pub fn search(
     budget: u64,
     test: &mut [u8],
     work: &mut [u8],
-) -> Searched
+) -> Result<Verdict, Refusal>
     ensures { Searches circuit.now fault.now budget test.old work.old result test.new work.new }
 {
-    let v = check(circuit);
-    match v {
-        Checked::Refused(number, place) => Searched::Refused(number, place),
-        Checked::Accepted(n, inputs, _) => accepted(circuit, fault, n, inputs, budget, test, work),
-    }
+    let Counts { lines: n, inputs, .. } = check(circuit)?;
+    accepted(circuit, fault, n, inputs, budget, test, work)
 }

@@ -5,8 +5,7 @@ use mathlib.Core.List.{List}
 use Prim.Native.Nat.{ℕ, ◌*◌}
 use native.Mathlib.Omega.{arith}
 use lib.ListN.{length}
-use Rattle.answers.specs.declared.Ruling.{Ruling}
-use Rattle.answers.specs.declared.Ruling.TheVariants.{Fine}
+use Rattle.answers.specs.Rules.{Ruling}
 use Rattle.answers.specs.Rules.{Rule, refusal, AllSay, AllHold}
 use Rattle.answers.proofs.Rules.{all_hold, both_fine, both_say}
 use Rattle.answers.proofs.Same.{eq_same}
@@ -18,6 +17,8 @@ use Rattle.search_all.specs.Promise.{list_lent_rules, search_all_rest_rules, sea
 use Rattle.list_search.specs.Owed.{SearchesReady, AllEnded}
 use Rattle.search_all.specs.Owed.{Memories, SearchedAllBy}
 use Rattle.search_all.proofs.Results.{results}
+use Rattle.std.specs.Prelude.{Ok}
+use Rattle.circuit.specs.Promise.{counts_are}
 
 -- ---- tests and words of the rules agree
 
@@ -33,7 +34,7 @@ module _ (c fs : List ℕ) (inputs lines budgets outcomes counts tests work : �
 
   -- what is not refused is ready
   pub ready : Known c lines inputs
-      → refusal (search_all_rest_rules c fs inputs lines budgets outcomes counts tests work) ≡ Fine
+      → refusal (search_all_rest_rules c fs inputs lines budgets outcomes counts tests work) ≡ Ok tt
       → SearchesReady c fs lines inputs budgets outcomes counts tests work
   unfolding list_lent_rules AllHold
   ready known e =
@@ -54,13 +55,13 @@ module _ (c fs : List ℕ) (inputs lines budgets outcomes counts tests work : �
 -- ---- where nothing is refused, what the list leaves is owed
 
 pub list_searched : {rules : List Rule} {c fs bs : List ℕ} {n inputs : ℕ} {os ks ts w os' ks' ts' w' : List ℕ}
-    → refusal rules ≡ Fine
+    → refusal rules ≡ Ok tt
     → SearchesReady c fs n inputs (length bs) (length os) (length ks) (length ts) (length w)
     → length os' ≡ length os
     → length ks' ≡ length ks
     → length ts' ≡ length ts
     → AllEnded c fs bs n inputs (os, ks, ts) w (os', ks', ts') w'
-    → SearchedAllBy rules c fs bs (os, ks, ts, w) Fine (os', ks', ts', w')
+    → SearchedAllBy rules c fs bs (os, ks, ts, w) (Ok tt) (os', ks', ts', w')
 list_searched e r o k t p = fine_done e refl (results r.known p (o ∙ r.outcomes_are) (k ∙ r.counts_are) (t ∙ r.tests_are))
 
 -- ---- the promise

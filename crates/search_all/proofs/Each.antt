@@ -6,7 +6,6 @@ use Prim.Native.Nat.{ℕ, ◌<◌}
 use native.Mathlib.Omega.{arith}
 use lib.ListN.{length, get_or, length-take, length-drop, length-set, length-replicate}
 use Rattle.ground.proofs.Grow.{table_at}
-use Rattle.answers.specs.declared.Ruling.TheVariants.{Fine}
 use Rattle.answers.specs.Rules.{refusal}
 use Rattle.answers.proofs.Rules.{both_fine}
 use Rattle.circuit.specs.Record.{lines_of, inputs_of}
@@ -32,6 +31,7 @@ use Rattle.list_search.specs.Owed.{SearchesReady}
 use Rattle.list_search.proofs.Pieces.{gathered_part}
 use Rattle.list_search.proofs.Parts.{part_inside, one-ready}
 use Rattle.search_all.proofs.Answer.{ready}
+use Rattle.std.specs.Prelude.{Ok}
 
 -- ---- a test has a byte an input
 
@@ -54,13 +54,13 @@ test_for_long c fault b t L e = go (verdict_for c fault b) refl
 
 -- ---- a call that refuses nothing
 
-module _ {c fs bs o k t w o' k' t' w' : List ℕ} (p : SearchesAll c fs bs o k t w Fine o' k' t' w') where
-  both : (refusal (circuit_rules c) ≡ Fine)
-      × (refusal (search_all_rest_rules c fs (inputs_of c) (lines_of c) (length bs) (length o) (length k) (length t) (length w)) ≡ Fine)
+module _ {c fs bs o k t w o' k' t' w' : List ℕ} (p : SearchesAll c fs bs o k t w (Ok tt) o' k' t' w') where
+  both : (refusal (circuit_rules c) ≡ Ok tt)
+      × (refusal (search_all_rest_rules c fs (inputs_of c) (lines_of c) (length bs) (length o) (length k) (length t) (length w)) ≡ Ok tt)
   both = both_fine (circuit_rules c) _ (sym p.answer)
 
   -- its circuit and its list are fine
-  pub circuit_fine : refusal (circuit_rules c) ≡ Fine
+  pub circuit_fine : refusal (circuit_rules c) ≡ Ok tt
   circuit_fine = both.0
 
   pub list_ready : SearchesReady c fs (lines_of c) (inputs_of c) (length bs) (length o) (length k) (length t) (length w)

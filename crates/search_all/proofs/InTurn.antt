@@ -8,7 +8,6 @@ use native.Mathlib.Omega.{arith}
 use lib.ListN.{length, get_or, drop, length-take, length-drop}
 use lib.Seq.{get_or-take, get_or-drop}
 use Rattle.ground.proofs.Tests.{either}
-use Rattle.answers.specs.declared.Ruling.TheVariants.{Fine}
 use Rattle.answers.specs.Rules.{refusal, AllHold}
 use Rattle.answers.specs.Area.{success}
 use Rattle.answers.proofs.Rules.{fine, after_fine}
@@ -30,8 +29,6 @@ use Rattle.nodes.specs.Budget.{nodes_of}
 use Rattle.nodes.proofs.Budget.{of_b_th, of_last}
 use Rattle.standings.specs.Outcome.{outcome_of}
 use Rattle.sides.specs.Look.{look_work}
-use Rattle.search.specs.declared.Searched.{Searched}
-use Rattle.search.specs.declared.Searched.TheVariants as searched
 use Rattle.search.specs.Promise.{search_rules, look, work_for, verdict_numbers, searched_numbers, Searches}
 use Rattle.search.proofs.Answer.{one_result}
 use Rattle.list_search.specs.Works.{works_to}
@@ -39,6 +36,8 @@ use Rattle.search_all.specs.Promise.{verdict_at, SearchesAll}
 use Rattle.search_all.specs.InTurn.{record_at, CallsInTurn, SameAsAll}
 use Rattle.list_search.proofs.Works.{work_none}
 use Rattle.search_all.proofs.Each.{circuit_fine, list_ready, part_long, outcome_at, count_at, test_at, work_all}
+use Rattle.std.specs.Prelude.{Ok, Result}
+use Rattle.answers.specs.declared.Refusal.{Refusal}
 
 -- ---- a record on its own
 
@@ -67,7 +66,7 @@ module _ (fs : List ℕ) (i : ℕ) where
     high = record_pair 6 (omega arith) ∙ l.high;
   }
 
-  record_fine : (c : List ℕ) → 8 * i + 8 ≤ length fs → FaultLayout c fs i → refusal (fault_rules 1 c (record_at fs i)) ≡ Fine
+  record_fine : (c : List ℕ) → 8 * i + 8 ≤ length fs → FaultLayout c fs i → refusal (fault_rules 1 c (record_at fs i)) ≡ Ok tt
   unfolding fault_rules AllHold
   record_fine c h l =
       let long : length (record_at fs i) ≡ 8 = simp (length-take, length-drop) (omega arith) in
@@ -99,9 +98,9 @@ numbers_are (GivenUp k) = refl
 
 -- ---- the calls
 
-module _ {c fs bs o k t w o' k' t' w' : List ℕ} (p : SearchesAll c fs bs o k t w Fine o' k' t' w') where
+module _ {c fs bs o k t w o' k' t' w' : List ℕ} (p : SearchesAll c fs bs o k t w (Ok tt) o' k' t' w') where
   -- the search for the record of fault i refuses nothing, where the work memory v has its size
-  single_fine : (i : ℕ) → i < fault_count fs → (v : List ℕ) → length v ≡ lines_of c + lines_of c → refusal (search_rules c (record_at fs i) (length (pattern_at (inputs_of c) t i)) (length v)) ≡ Fine
+  single_fine : (i : ℕ) → i < fault_count fs → (v : List ℕ) → length v ≡ lines_of c + lines_of c → refusal (search_rules c (record_at fs i) (length (pattern_at (inputs_of c) t i)) (length v)) ≡ Ok tt
   single_fine i h v e =
       let r = list_ready p in
       after_fine (circuit_rules c) _ (circuit_fine p)
@@ -110,7 +109,7 @@ module _ {c fs bs o k t w o' k' t' w' : List ℕ} (p : SearchesAll c fs bs o k t
 
   -- so what the one call leaves for fault i is what that search promises
   pub single : (i : ℕ) → i < fault_count fs → (v : List ℕ) → length v ≡ lines_of c + lines_of c → Searches c (record_at fs i) (get_or bs i 0) (pattern_at (inputs_of c) t i) v
-      (searched.Verdict (verdict_at c fs bs i)) (pattern_at (inputs_of c) t' i) (work_for c (fault_at fs i) (get_or bs i 0) v)
+      (Ok (verdict_at c fs bs i)) (pattern_at (inputs_of c) t' i) (work_for c (fault_at fs i) (get_or bs i 0) v)
   unfolding searched_numbers
   single i h v e =
       let fine-is = single_fine i h v e in
@@ -127,14 +126,14 @@ module _ {c fs bs o k t w o' k' t' w' : List ℕ} (p : SearchesAll c fs bs o k t
   works_long (suc i) = work_long c (fault_at fs i) (get_or bs i 0) (works_to c fs bs w i) (works_long i)
 
   -- there are such calls, one after the other
-  pub in_turn : CallsInTurn c fs bs t w (λ i. searched.Verdict (verdict_at c fs bs i)) (pattern_at (inputs_of c) t') (works_to c fs bs w)
+  pub in_turn : CallsInTurn c fs bs t w (λ i. Ok (verdict_at c fs bs i)) (pattern_at (inputs_of c) t') (works_to c fs bs w)
   unfolding works_to
   in_turn = record { first = refl; call = λ i h. single i h (works_to c fs bs w i) (works_long i) }
 
-  module _ {a : ℕ → Searched} {u v : ℕ → List ℕ} (calls : CallsInTurn c fs bs t w a u v) where
+  module _ {a : ℕ → Result Verdict Refusal} {u v : ℕ → List ℕ} (calls : CallsInTurn c fs bs t w a u v) where
     -- and they are the only ones
     equal : (i : ℕ) → i < fault_count fs → v i ≡ works_to c fs bs w i
-        → (a i ≡ searched.Verdict (verdict_at c fs bs i)) × (u i ≡ pattern_at (inputs_of c) t' i) × (v (suc i) ≡ works_to c fs bs w (suc i))
+        → (a i ≡ Ok (verdict_at c fs bs i)) × (u i ≡ pattern_at (inputs_of c) t' i) × (v (suc i) ≡ works_to c fs bs w (suc i))
     equal i h e = one_result (rw e at (calls.call i h)) (in_turn.call i h)
 
     before : (i : ℕ) → i ≤ fault_count fs → v i ≡ works_to c fs bs w i

@@ -4,8 +4,7 @@ use mathlib.Core.Path.{◌≡◌, ◌∙◌}
 use mathlib.Core.List.{List}
 use Prim.Native.Nat.{ℕ}
 use lib.ListN.{length}
-use Rattle.answers.specs.declared.Ruling.{Ruling}
-use Rattle.answers.specs.declared.Ruling.TheVariants.{Refused}
+use Rattle.answers.specs.Rules.{Ruling}
 use Rattle.answers.specs.Rules.{Applies, AllSay}
 use Rattle.answers.proofs.Rules as rules
 use Rattle.answers.proofs.Rules.{refused, both_say}
@@ -14,6 +13,8 @@ use Rattle.circuit.specs.Promise.{circuit_rules}
 use Rattle.circuit.proofs.Says.{circuit_says}
 use Rattle.search_all.specs.Promise.{search_all_rules, SearchesAll}
 use Rattle.search_all.proofs.Answer.{rest_say}
+use Rattle.std.specs.Prelude.{Err}
+use Rattle.answers.specs.declared.Reason.{Reason}
 
 -- ---- the rules in words
 
@@ -23,13 +24,13 @@ search_all_says c fs bs o k t w =
 
 -- ---- the refusals in the paper's words
 
-module _ {c fs bs o k t w : List ℕ} {r : Ruling} {o' k' t' w' : List ℕ} (p : SearchesAll c fs bs o k t w r o' k' t' w') (number place : ℕ) where
+module _ {c fs bs o k t w : List ℕ} {r : Ruling} {o' k' t' w' : List ℕ} (p : SearchesAll c fs bs o k t w r o' k' t' w') (reason : Reason) (place : ℕ) where
   -- a refusal is the first that applies, with the lowest place
-  pub refused_applies : r ≡ Refused number place → Applies (search_all_rules c fs bs o k t w) number place
-  refused_applies = rules.refused_applies (search_all_rules c fs bs o k t w) (search_all_says c fs bs o k t w) p.answer number place
+  pub refused_applies : r ≡ Err (reason, place) → Applies (search_all_rules c fs bs o k t w) reason place
+  refused_applies = rules.refused_applies (search_all_rules c fs bs o k t w) (search_all_says c fs bs o k t w) p.answer reason place
 
   -- and where one applies, it is given, and nothing is written
-  pub applies_refused : Applies (search_all_rules c fs bs o k t w) number place → (r ≡ Refused number place) × (o' ≡ o) × (k' ≡ k) × (t' ≡ t) × (w' ≡ w)
+  pub applies_refused : Applies (search_all_rules c fs bs o k t w) reason place → (r ≡ Err (reason, place)) × (o' ≡ o) × (k' ≡ k) × (t' ≡ t) × (w' ≡ w)
   applies_refused a =
-      let e = refused (search_all_rules c fs bs o k t w) (search_all_says c fs bs o k t w) number place a in
+      let e = refused (search_all_rules c fs bs o k t w) (search_all_says c fs bs o k t w) reason place a in
       (p.answer ∙ e, p.outcomes ∙ rw e, p.counts ∙ rw e, p.tests ∙ rw e, p.work ∙ rw e)

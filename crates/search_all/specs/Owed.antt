@@ -1,8 +1,7 @@
 -- What the functions of the search for a list owe each other; no reader of the promises needs it.
 -- Assumes nothing.
 use Rattle.std.specs.Prelude.{List, ℕ, length}
-use Rattle.answers.specs.declared.Ruling.{Ruling}
-use Rattle.answers.specs.declared.Ruling.TheVariants.{Fine, Refused}
+use Rattle.answers.specs.Rules.{Ruling}
 use Rattle.answers.specs.Rules.{Rule}
 use Rattle.answers.specs.Owed.{RulesDone}
 use Rattle.list_search.specs.Works.{works_for}
@@ -14,7 +13,7 @@ Memories = List ℕ × List ℕ × List ℕ × List ℕ
 
 abbrev pub SearchedAllBy : List Rule → List ℕ → List ℕ → List ℕ → Memories → Ruling → Memories → Type 0
 SearchedAllBy rules c fs bs m r m' =
-    RulesDone {M = Memories} Refused rules Fine m (outcomes_for c fs bs, counts_for c fs bs, tests_for c fs bs m.2, works_for c fs bs m.3) r m'
+    RulesDone {M = Memories} rules tt m (outcomes_for c fs bs, counts_for c fs bs, tests_for c fs bs m.2, works_for c fs bs m.3) r m'
 
 -- for an accepted circuit
 abbrev pub SearchAllDone : List ℕ → List ℕ → List ℕ → ℕ → ℕ → Memories → Ruling → Memories → Type 0

@@ -8,17 +8,17 @@ ghost use Rattle.circuit.specs.Formed.{Known};
 ghost use Rattle.search_all.specs.Promise.{list_lent_rules, search_all_rest_rules, SearchesAll};
 ghost use Rattle.search_all.specs.Owed.{SearchAllDone};
 
-use answers::Ruling;
-use circuit::{Checked, check};
+use answers::{Reason, Refusal};
+use circuit::{Counts, check};
 use list_search::search_list;
 use lists::check_faults;
 
 // Refusal 10 for one lent buffer, and otherwise what the buffers after it say.
-fn exact_or(size: usize, lent: usize, rest: Ruling) -> Ruling
+fn exact_or(size: usize, lent: usize, rest: Result<(), Refusal>) -> Result<(), Refusal>
     ensures { result ≡ or_else (said (exact size lent)) rest }
 {
     if lent != size {
-        return Ruling::Refused(10, 0);
+        return Err(Refusal(Reason::BufferSize, 0));
     }
     rest
 }
@@ -33,11 +33,11 @@ fn check_sizes(
     counts: usize,
     tests: usize,
     work: usize,
-) -> Ruling
+) -> Result<(), Refusal>
     requires { (faults ≤ 256) × (inputs ≤ 64) × (n ≤ 2048) }
     ensures { result ≡ refusal (list_lent_rules faults inputs n budgets outcomes counts tests work) }
 {
-    let fifth = exact_or(2 * n, work, Ruling::Fine);
+    let fifth = exact_or(2 * n, work, Ok(()));
     let fourth = exact_or(faults * inputs, tests, fifth);
     let third = exact_or(faults, counts, fourth);
     let second = exact_or(faults, outcomes, third);
@@ -55,24 +55,21 @@ fn check_rest(
     counts: usize,
     tests: usize,
     work: usize,
-) -> Ruling
+) -> Result<(), Refusal>
     requires { Known circuit.now n inputs }
     ensures { result ≡ refusal (search_all_rest_rules circuit.now faults.now inputs n budgets outcomes counts tests work) }
 {
-    let v = check_faults(circuit, faults, 256);
-    match v {
-        Ruling::Refused(number, place) => Ruling::Refused(number, place),
-        Ruling::Fine => check_sizes(
-            faults.len() / 8,
-            inputs,
-            n,
-            budgets,
-            outcomes,
-            counts,
-            tests,
-            work,
-        ),
-    }
+    check_faults(circuit, faults, 256)?;
+    check_sizes(
+        faults.len() / 8,
+        inputs,
+        n,
+        budgets,
+        outcomes,
+        counts,
+        tests,
+        work,
+    )
 }
 
 // The search of an accepted circuit for a list.
@@ -86,13 +83,13 @@ fn accepted(
     counts: &mut [u64],
     tests: &mut [u8],
     work: &mut [u8],
-) -> Ruling
+) -> Result<(), Refusal>
     requires { Known circuit.now n inputs }
     ensures { SearchAllDone circuit.now faults.now budgets.now inputs n
         (outcomes.old, counts.old, tests.old, work.old)
         result (outcomes.new, counts.new, tests.new, work.new) }
 {
-    let v = check_rest(
+    check_rest(
         circuit,
         faults,
         n,
@@ -102,16 +99,11 @@ fn accepted(
         counts.len(),
         tests.len(),
         work.len(),
+    )?;
+    search_list(
+        circuit, faults, budgets, n, inputs, outcomes, counts, tests, work,
     );
-    match v {
-        Ruling::Refused(number, place) => Ruling::Refused(number, place),
-        Ruling::Fine => {
-            search_list(
-                circuit, faults, budgets, n, inputs, outcomes, counts, tests, work,
-            );
-            Ruling::Fine
-        }
-    }
+    Ok(())
 }
 
 // The search for all faults of a list: outcome, count and test of each, as single calls one after the other give them; or the first refusal, and
@@ -124,16 +116,13 @@ pub fn search_all(
     counts: &mut [u64],
     tests: &mut [u8],
     work: &mut [u8],
-) -> Ruling
+) -> Result<(), Refusal>
     ensures { SearchesAll circuit.now faults.now budgets.now
         outcomes.old counts.old tests.old work.old
         result outcomes.new counts.new tests.new work.new }
 {
-    let v = check(circuit);
-    match v {
-        Checked::Refused(number, place) => Ruling::Refused(number, place),
-        Checked::Accepted(n, inputs, _) => accepted(
-            circuit, faults, budgets, n, inputs, outcomes, counts, tests, work,
-        ),
-    }
+    let Counts { lines: n, inputs, .. } = check(circuit)?;
+    accepted(
+        circuit, faults, budgets, n, inputs, outcomes, counts, tests, work,
+    )
 }

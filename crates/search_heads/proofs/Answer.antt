@@ -5,7 +5,7 @@ use mathlib.Core.Bool.{Bool, true, false}
 use mathlib.Core.List.{List}
 use Prim.Native.Nat.{ℕ, ◌*◌, ◌≤◌}
 use lib.ListN.{length, get_or, take, replicate}
-use Rattle.answers.specs.declared.Ruling.{Ruling}
+use Rattle.answers.specs.Rules.{Ruling}
 use Rattle.answers.specs.Rules.{Rule, refusal}
 use Rattle.answers.proofs.Answer.{numbers-told, fine_done, memory_part}
 use Rattle.ground.proofs.Filled.{take-replicate, front_length}
@@ -14,8 +14,6 @@ use Rattle.lists.specs.Faults.{fault_at}
 use Rattle.nodes.specs.declared.Verdict.{Verdict}
 use Rattle.nodes.specs.Node.{start}
 use Rattle.sides.specs.Look.{look_of, look_work}
-use Rattle.search.specs.declared.Searched.{Searched}
-use Rattle.search.specs.declared.Searched.TheVariants as searched
 use Rattle.search.specs.Promise.{search_rules, verdict_for, test_for, work_for, searched_numbers}
 use Rattle.search.specs.Owed.{RunDone}
 use Rattle.heads.specs.Heads.{heads_of}
@@ -28,6 +26,8 @@ use Rattle.search_heads.specs.Promise.{head_verdict_for, head_test_for, head_wor
 use Rattle.cut_search.specs.Owed.{RunHeadsReady, HeadRunDone}
 use Rattle.cut_search.proofs.Cut.{well, sourced}
 use Rattle.search_heads.specs.Owed.{served_by, EitherReady, EitherDone, HeadsReady, RoomReady, HeadSearchedBy}
+use Rattle.std.specs.Prelude.{Ok, Result}
+use Rattle.answers.specs.declared.Refusal.{Refusal}
 
 -- ---- the one search or the other
 
@@ -91,14 +91,14 @@ room_ready most {n = n} l size p =
 -- ---- the promise
 
 pub rest_fine : {rules : List Rule} {c : List ℕ} {b : ℕ} {t w : List ℕ} {at fault : Fault} {r : Verdict} {t' w' : List ℕ}
-    → refusal rules ≡ Ruling.Fine
+    → refusal rules ≡ Ok tt
     → at ≡ fault
     → EitherDone c at b t w r t' w'
-    → HeadSearchedBy rules c fault b t w (searched.Verdict r) t' w'
+    → HeadSearchedBy rules c fault b t w (Ok r) t' w'
 rest_fine e at_is p = fine_done e (rw (← at_is, p.verdict)) (rw (← at_is, p.test, p.work))
 
 module _ {c f : List ℕ} {b : ℕ} {t w : List ℕ} where
-  pub searches : {r : Searched} {t' w' : List ℕ} → HeadSearchedBy (search_rules c f (length t) (length w)) c (fault_at f 0) b t w r t' w' → HeadSearches c f b t w r t' w'
+  pub searches : {r : Result Verdict Refusal} {t' w' : List ℕ} → HeadSearchedBy (search_rules c f (length t) (length w)) c (fault_at f 0) b t w r t' w' → HeadSearches c f b t w r t' w'
   unfolding searched_numbers
   searches p = record {
     answer = p.answer;
@@ -108,5 +108,5 @@ module _ {c f : List ℕ} {b : ℕ} {t w : List ℕ} where
   }
 
   -- two allowed results are equal
-  pub one_result : {r s : Searched} {t' t'' w' w'' : List ℕ} → HeadSearches c f b t w r t' w' → HeadSearches c f b t w s t'' w'' → (r ≡ s) × (t' ≡ t'') × (w' ≡ w'')
+  pub one_result : {r s : Result Verdict Refusal} {t' t'' w' w'' : List ℕ} → HeadSearches c f b t w r t' w' → HeadSearches c f b t w s t'' w'' → (r ≡ s) × (t' ≡ t'') × (w' ≡ w'')
   one_result p q = (cc, cc, cc)

@@ -1,6 +1,6 @@
 -- What the functions of the search over head lines owe each other; no reader of the promises needs it.
 -- Assumes nothing.
-use Rattle.std.specs.Prelude.{◌≡◌, Bool, ◌&&◌, ◌||◌, List, ℕ, ◌*◌, eqb, length, replicate}
+use Rattle.std.specs.Prelude.{◌≡◌, Bool, ◌&&◌, ◌||◌, List, ℕ, ◌*◌, eqb, length, replicate, Result}
 use Rattle.answers.specs.Rules.{Rule}
 use Rattle.answers.specs.Owed.{RulesDone}
 use Rattle.circuit.specs.Formed.{Known}
@@ -8,12 +8,11 @@ use Rattle.lists.specs.declared.Fault.{Fault}
 use Rattle.lists.specs.Faults.{fault_at}
 use Rattle.nodes.specs.declared.Verdict.{Verdict}
 use Rattle.nodes.specs.Node.{start}
-use Rattle.search.specs.declared.Searched.{Searched}
-use Rattle.search.specs.declared.Searched.TheVariants as searched
 use Rattle.search.specs.Promise.{search_rest_rules}
 use Rattle.search.specs.Owed.{RunReady}
 use Rattle.heads.specs.Marks.{Marked}
 use Rattle.search_heads.specs.Promise.{head_verdict_for, head_test_for, head_work_for}
+use Rattle.answers.specs.declared.Refusal.{Refusal}
 
 -- ---- the one search or the other
 
@@ -46,10 +45,10 @@ pub record RoomReady (c reads marks : List ℕ) (lines : ℕ) (fault : Fault) (i
   pub lines_size : lines ≡ 8 * length marks
 
 -- the answer and both memories afterwards, where these are the rules
-abbrev pub HeadSearchedBy : List Rule → List ℕ → Fault → ℕ → List ℕ → List ℕ → Searched → List ℕ → List ℕ → Type 0
+abbrev pub HeadSearchedBy : List Rule → List ℕ → Fault → ℕ → List ℕ → List ℕ → Result Verdict Refusal → List ℕ → List ℕ → Type 0
 HeadSearchedBy rules c fault b t w r t' w' =
-    RulesDone {M = List ℕ × List ℕ} searched.Refused rules (searched.Verdict (head_verdict_for c fault b)) (t, w) (head_test_for c fault b t, head_work_for c fault b w) r (t', w')
+    RulesDone {M = List ℕ × List ℕ} rules (head_verdict_for c fault b) (t, w) (head_test_for c fault b t, head_work_for c fault b w) r (t', w')
 
 -- for an accepted circuit
-abbrev pub HeadSearchDone : List ℕ → List ℕ → ℕ → ℕ → ℕ → List ℕ → List ℕ → Searched → List ℕ → List ℕ → Type 0
+abbrev pub HeadSearchDone : List ℕ → List ℕ → ℕ → ℕ → ℕ → List ℕ → List ℕ → Result Verdict Refusal → List ℕ → List ℕ → Type 0
 HeadSearchDone c f inputs n b t w r t' w' = HeadSearchedBy (search_rest_rules c f inputs n (length t) (length w)) c (fault_at f 0) b t w r t' w'

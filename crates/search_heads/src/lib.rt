@@ -6,13 +6,13 @@ ghost use Rattle.circuit.specs.Formed.{Known};
 ghost use Rattle.search_heads.specs.Promise.{HeadSearches};
 ghost use Rattle.search_heads.specs.Owed.{served_by, EitherReady, EitherDone, RoomReady, HeadsReady, HeadSearchDone};
 
-use answers::Ruling;
-use circuit::{Checked, check};
+use answers::Refusal;
+use circuit::{Counts, check};
 use cut_search::run_heads;
 use head_marks::mark_lines;
 use lists::{Fault, read_fault};
 use nodes::Verdict;
-use search::{Searched, check_rest, run_all_x};
+use search::{check_rest, run_all_x};
 
 // The mark of a bound line.
 const BOUND: u8 = 2;
@@ -163,19 +163,14 @@ fn accepted(
     budget: u64,
     test: &mut [u8],
     work: &mut [u8],
-) -> Searched
+) -> Result<Verdict, Refusal>
     requires { Known circuit.now n inputs }
     ensures { HeadSearchDone circuit.now fault.now inputs n budget test.old work.old result test.new work.new }
 {
-    let v = check_rest(circuit, fault, inputs, n, test.len(), work.len());
-    match v {
-        Ruling::Refused(number, place) => Searched::Refused(number, place),
-        Ruling::Fine => {
-            let at = read_fault(fault, 0);
-            let found = run_sized(circuit, at, n, inputs, budget, test, work);
-            Searched::Verdict(found)
-        }
-    }
+    check_rest(circuit, fault, inputs, n, test.len(), work.len())?;
+    let at = read_fault(fault, 0);
+    let found = run_sized(circuit, at, n, inputs, budget, test, work);
+    Ok(found)
 }
 
 // #110: a test, redundant or given up, each with its number of nodes, over head lines where these serve the fault; or the first refusal, and nothing is
@@ -186,12 +181,9 @@ pub fn search_heads(
     budget: u64,
     test: &mut [u8],
     work: &mut [u8],
-) -> Searched
+) -> Result<Verdict, Refusal>
     ensures { HeadSearches circuit.now fault.now budget test.old work.old result test.new work.new }
 {
-    let v = check(circuit);
-    match v {
-        Checked::Refused(number, place) => Searched::Refused(number, place),
-        Checked::Accepted(n, inputs, _) => accepted(circuit, fault, n, inputs, budget, test, work),
-    }
+    let Counts { lines: n, inputs, .. } = check(circuit)?;
+    accepted(circuit, fault, n, inputs, budget, test, work)
 }

@@ -8,7 +8,7 @@ use lib.Dec.{eqb}
 use lib.ListN.{length}
 use borrow.Author.Tests.{eqb-true, eq-eqb}
 use Rattle.ground.specs.Below.{any_below}
-use Rattle.answers.specs.declared.Ruling.{Ruling}
+use Rattle.answers.specs.Rules.{Ruling}
 use Rattle.answers.specs.Rules.{refusal, Same, AllSay, AllHold}
 use Rattle.answers.proofs.Rules.{all_hold, both_say}
 use Rattle.answers.proofs.Same.{le_same, lt_same, eq_same, and_same, some_same, never_same}
@@ -17,6 +17,7 @@ use Rattle.circuit.specs.Promise.{circuit_rules}
 use Rattle.circuit.proofs.Says.{circuit_says}
 use Rattle.states.specs.States.{state_count, data_line, state_line}
 use Rattle.states.specs.Rules.{state_ok, StateLayout, lines_after, inputs_after, state_rules, after_rules, step_rules, clocked_rules, GoodSteps}
+use Rattle.std.specs.Prelude.{Ok}
 
 module _ (c st : List ℕ) where
   -- a record keeps its layout exactly if the test holds
@@ -54,7 +55,7 @@ module _ (c st : List ℕ) where
     pub clocked_says : AllSay (clocked_rules c st k)
     clocked_says = both_say (circuit_rules c) (step_rules c st k) (circuit_says c) steps_say
 
-    pub good_steps : refusal (step_rules c st k) ≡ Ruling.Fine → GoodSteps c st k
+    pub good_steps : refusal (step_rules c st k) ≡ Ok tt → GoodSteps c st k
     unfolding step_rules state_rules after_rules AllHold
     good_steps e =
         let a = all_hold (step_rules c st k) steps_say e in

@@ -9,7 +9,7 @@ use native.Mathlib.Omega.{arith}
 use lib.Dec.{leb}
 use borrow.Author.Tests.{leb-true}
 use Rattle.ground.proofs.Tests.{both}
-use Rattle.answers.specs.declared.Ruling.{Ruling}
+use Rattle.answers.specs.Rules.{Ruling}
 use Rattle.answers.specs.Rules.{Rule, said, refusal, Applies}
 use Rattle.answers.specs.Rules.Rule.{whole}
 use Rattle.answers.proofs.Rules.{after_refused, after_fine, both_fine}
@@ -19,13 +19,16 @@ use Rattle.circuit.specs.Record.{lines_of}
 use Rattle.circuit.specs.Promise.{circuit_rules}
 use Rattle.circuit.specs.Formed.{Good, Accepts, Known}
 use Rattle.states.specs.declared.Clocked.{Clocked}
-use Rattle.states.specs.declared.Clocked.TheVariants.{Accepted, Refused}
 use Rattle.states.specs.States.{free_before}
-use Rattle.states.specs.Rules.{lines_after, inputs_after, step_rules, clocked_rules, GoodSteps}
+use Rattle.states.specs.Rules.{lines_after, inputs_after, step_rules, clocked_rules, GoodSteps, clocked_are}
 use Rattle.states.specs.Owed.{steps_ok, clocked_by, ClockedChecked}
 use Rattle.states.specs.Rules.{state_rules, after_rules}
 use Rattle.circuit.proofs.Accepted.{good}
 use Rattle.states.proofs.Says.{clocked_says, good_steps}
+use Rattle.std.specs.Prelude.{Ok, Err, Result}
+use Rattle.answers.specs.declared.Refusal.{Refusal}
+use Rattle.answers.specs.declared.Reason.{Reason}
+use Rattle.answers.specs.declared.Reason.TheVariants.{StepCount}
 
 -- ---- the steps, the records, the sizes
 
@@ -40,9 +43,9 @@ pub small_inputs : (k free : ℕ) → k ≤ 8 → free ≤ 2048 → (k - 1) * fr
 small_inputs k free a b = small_lines (k - 1) free (omega arith) b
 
 -- a rule that is kept leaves the ruling to those after it
-after_kept : {test : Bool} (asked : Type 0) (number place : ℕ) (rules : List Rule) → test ≡ true → refusal (whole number test asked place ∷ rules) ≡ refusal rules
+after_kept : {test : Bool} (asked : Type 0) (reason : Reason) (place : ℕ) (rules : List Rule) → test ≡ true → refusal (whole number test asked place ∷ rules) ≡ refusal rules
 unfolding refusal said
-after_kept asked number place rules e = rw e
+after_kept asked reason place rules e = rw e
 
 module _ (c st : List ℕ) (k : ℕ) where
   -- the rules of the steps are those of the records, then those of the sizes, behind the first
@@ -54,16 +57,16 @@ module _ (c st : List ℕ) (k : ℕ) where
   later_decide some = after_kept ((1 ≤ k) × (k ≤ 8)) 21 0 (state_rules c st ++ after_rules (lines_after c k) (inputs_after c st k)) some
 
   module _ (n m : ℕ) where
-    pub steps_refused : steps_ok k ≡ false → Refused 21 0 ≡ clocked_by (step_rules c st k) n m
+    pub steps_refused : steps_ok k ≡ false → Err (StepCount, 0) ≡ clocked_by (step_rules c st k) n m
     unfolding step_rules refusal said
     steps_refused e = rw e
 
     module _ (some : steps_ok k ≡ true) where
-      pub states_refused : {x y : ℕ} → refusal (state_rules c st) ≡ Ruling.Refused x y → Refused x y ≡ clocked_by (step_rules c st k) n m
+      pub states_refused : {x : Reason} {y : ℕ} → refusal (state_rules c st) ≡ Err (x, y) → Err (x, y) ≡ clocked_by (step_rules c st k) n m
       states_refused e = rw (later_decide some ∙ after_refused (state_rules c st) (after_rules (lines_after c k) (inputs_after c st k)) e)
 
       -- where n lines have m inputs, and so many of them are free
-      pub sizes_decide : {free : ℕ} {r : Clocked} → Known c n m → free ≡ free_before c st n → refusal (state_rules c st) ≡ Ruling.Fine
+      pub sizes_decide : {free : ℕ} {r : Result Clocked Refusal} → Known c n m → free ≡ free_before c st n → refusal (state_rules c st) ≡ Ok tt
           → r ≡ clocked_by (after_rules (k * n) (m + (k - 1) * free)) n (m + (k - 1) * free)
           → r ≡ clocked_by (step_rules c st k) n (inputs_after c st k)
       sizes_decide {free} known is e answer =
@@ -74,50 +77,50 @@ module _ (c st : List ℕ) (k : ℕ) where
 -- ---- the circuit before them
 
 module _ {c st : List ℕ} {k : ℕ} where
-  pub circuit_refused : {x y : ℕ} → refusal (circuit_rules c) ≡ Ruling.Refused x y → ClockedChecked c st k (Refused x y)
+  pub circuit_refused : {x : Reason} {y : ℕ} → refusal (circuit_rules c) ≡ Err (x, y) → ClockedChecked c st k (Err (x, y))
   circuit_refused e = record { answer = rw (after_refused (circuit_rules c) (step_rules c st k) e) }
 
-  pub steps_decide : {n m o : ℕ} {r : Clocked} → Accepts c n m o → r ≡ clocked_by (step_rules c st k) n (inputs_after c st k) → ClockedChecked c st k r
+  pub steps_decide : {n m o : ℕ} {r : Result Clocked Refusal} → Accepts c n m o → r ≡ clocked_by (step_rules c st k) n (inputs_after c st k) → ClockedChecked c st k r
   steps_decide a e = record { answer = e ∙ rw (after_fine (circuit_rules c) (step_rules c st k) a.fine, a.lines) }
 
 -- ---- what the answer says
 
-abbrev pub ruling_of : Clocked → Ruling
-ruling_of (Accepted n m) = Ruling.Fine
-ruling_of (Refused number place) = Ruling.Refused number place
+abbrev pub ruling_of : Result Clocked Refusal → Ruling
+ruling_of (Ok (clocked_are n m)) = Ok tt
+ruling_of (Err why) = Err why
 
-pub ruled : (n m : ℕ) → Ruled Refused ruling_of (Accepted n m)
+pub ruled : (n m : ℕ) → Ruled ruling_of (Ok (clocked_are n m))
 ruled n m = record { refuses = λ x y. refl; accepts = refl }
 
 -- what is not refused
 pub record ClockedTaken (c st : List ℕ) (k : ℕ) : Type 0 where
-  pub fine : refusal (clocked_rules c st k) ≡ Ruling.Fine
-  pub circuit_fine : refusal (circuit_rules c) ≡ Ruling.Fine
+  pub fine : refusal (clocked_rules c st k) ≡ Ok tt
+  pub circuit_fine : refusal (circuit_rules c) ≡ Ok tt
   pub good : Good c
   pub steps : GoodSteps c st k
 
-pub clocked_taken : (c st : List ℕ) (k : ℕ) → refusal (clocked_rules c st k) ≡ Ruling.Fine → ClockedTaken c st k
+pub clocked_taken : (c st : List ℕ) (k : ℕ) → refusal (clocked_rules c st k) ≡ Ok tt → ClockedTaken c st k
 clocked_taken c st k e =
     let b = both_fine (circuit_rules c) (step_rules c st k) e in
     record { fine = e; circuit_fine = b.0; good = good c b.0; steps = good_steps c st k b.1 }
 
-module _ {c st : List ℕ} {k : ℕ} {r : Clocked} (p : ClockedChecked c st k r) where
+module _ {c st : List ℕ} {k : ℕ} {r : Result Clocked Refusal} (p : ClockedChecked c st k r) where
   was : refusal (clocked_rules c st k) ≡ ruling_of r
   was = was_ruled (ruled (lines_of c) (inputs_after c st k)) p.answer refl
 
-  pub clocked_refuses : {x y : ℕ} → r ≡ Refused x y → refusal (clocked_rules c st k) ≡ Ruling.Refused x y
+  pub clocked_refuses : {x : Reason} {y : ℕ} → r ≡ Err (x, y) → refusal (clocked_rules c st k) ≡ Err (x, y)
   clocked_refuses told = was ∙ ap ruling_of told
 
-  pub clocked_accepts : {n m : ℕ} → r ≡ Accepted n m → ClockedTaken c st k × (n ≡ lines_of c) × (m ≡ inputs_after c st k)
+  pub clocked_accepts : {n m : ℕ} → r ≡ Ok (clocked_are n m) → ClockedTaken c st k × (n ≡ lines_of c) × (m ≡ inputs_after c st k)
   clocked_accepts {n} {m} told =
-      let q : refusal (clocked_rules c st k) ≡ Ruling.Fine = was ∙ ap ruling_of told in
-      let so : Accepted n m ≡ Accepted (lines_of c) (inputs_after c st k) = sym told ∙ p.answer ∙ rw q in
+      let q : refusal (clocked_rules c st k) ≡ Ok tt = was ∙ ap ruling_of told in
+      let so : Ok (clocked_are n m) ≡ Ok (clocked_are (lines_of c) (inputs_after c st k)) = sym told ∙ p.answer ∙ rw q in
       (clocked_taken c st k q, cc, cc)
 
   -- a refusal is the first that applies, with the lowest place; and where one applies, it is given
-  module _ (number place : ℕ) where
-    pub refused_applies : r ≡ Refused number place → Applies (clocked_rules c st k) number place
-    refused_applies = answer.refused_applies (ruled (lines_of c) (inputs_after c st k)) (clocked_rules c st k) (clocked_says c st k) p.answer number place
+  module _ (reason : Reason) (place : ℕ) where
+    pub refused_applies : r ≡ Err (reason, place) → Applies (clocked_rules c st k) reason place
+    refused_applies = answer.refused_applies (ruled (lines_of c) (inputs_after c st k)) (clocked_rules c st k) (clocked_says c st k) p.answer reason place
 
-    pub applies_refused : Applies (clocked_rules c st k) number place → r ≡ Refused number place
-    applies_refused = answer.applies_refused (ruled (lines_of c) (inputs_after c st k)) (clocked_rules c st k) (clocked_says c st k) p.answer number place
+    pub applies_refused : Applies (clocked_rules c st k) reason place → r ≡ Err (reason, place)
+    applies_refused = answer.applies_refused (ruled (lines_of c) (inputs_after c st k)) (clocked_rules c st k) (clocked_says c st k) p.answer reason place

@@ -7,6 +7,7 @@ use Rattle.answers.specs.Rules.Rule.{whole, each}
 use Rattle.circuit.specs.Record.{kind_at, is_input, lines_of, inputs_of}
 use Rattle.circuit.specs.Promise.{circuit_rules}
 use Rattle.states.specs.States.{state_count, data_line, state_line, free_of}
+use Rattle.answers.specs.declared.Reason.TheVariants.{StateRecords, UnfoldedSize, StepCount}
 
 -- a record as a test
 unfoldable pub state_ok : List ℕ → List ℕ → ℕ → Bool
@@ -32,17 +33,17 @@ inputs_after c st k = inputs_of c + (k - 1) * free_of c st
 -- whole records, each of which keeps its layout
 unfoldable pub state_rules : List ℕ → List ℕ → List Rule
 state_rules c st =
-    whole 18 (eqb (length st % 4) 0) (length st ≡ 4 * state_count st) 0
-    ∷ each 18 (state_count st) (state_ok c st) (StateLayout c st)
+    whole StateRecords (eqb (length st % 4) 0) (length st ≡ 4 * state_count st) 0
+    ∷ each StateRecords (state_count st) (state_ok c st) (StateLayout c st)
     ∷ []
 
 -- not more than 2,048 lines and 64 inputs
 unfoldable pub after_rules : ℕ → ℕ → List Rule
-after_rules lines inputs = whole 19 (leb lines 2048 && leb inputs 64) ((lines ≤ 2048) × (inputs ≤ 64)) 0 ∷ []
+after_rules lines inputs = whole UnfoldedSize (leb lines 2048 && leb inputs 64) ((lines ≤ 2048) × (inputs ≤ 64)) 0 ∷ []
 
 -- 1 to 8 steps; the records; the sizes after unfolding
 unfoldable pub step_rules : List ℕ → List ℕ → ℕ → List Rule
-step_rules c st k = whole 21 (leb 1 k && leb k 8) ((1 ≤ k) × (k ≤ 8)) 0 ∷ (state_rules c st ++ after_rules (lines_after c k) (inputs_after c st k))
+step_rules c st k = whole StepCount (leb 1 k && leb k 8) ((1 ≤ k) × (k ≤ 8)) 0 ∷ (state_rules c st ++ after_rules (lines_after c k) (inputs_after c st k))
 
 -- all that is checked of a clocked circuit
 abbrev pub clocked_rules : List ℕ → List ℕ → ℕ → List Rule

@@ -12,17 +12,15 @@ ghost use Rattle.states.specs.Rules.{state_ok, inputs_after, step_rules};
 ghost use Rattle.states.specs.Owed.{StateInside, first_with, steps_ok, clocked_by, ClockedChecked};
 ghost use Rattle.states.specs.Rules.{state_rules, after_rules};
 
-use answers::Ruling;
-use circuit::{Checked, check};
+use answers::{Reason, Refusal};
+use circuit::{Counts, check};
 use little::pair_at;
 
-// What the check of a clocked circuit answers.
-#[derive(Drop)]
-pub enum Clocked {
-    // lines of a step, inputs after unfolding
-    Accepted(usize, usize),
-    // number, place
-    Refused(u32, usize),
+// How many lines a step of an accepted clocked circuit has, and how many inputs it has after unfolding.
+#[derive(Clone, Copy, Debug, PartialEq, Eq)]
+pub struct Clocked {
+    pub lines: usize,
+    pub inputs: usize,
 }
 
 // ---- what a record says
@@ -102,18 +100,18 @@ fn first_bad_state(circuit: &[u8], states: &[u8], n: usize) -> usize
 }
 
 // Whole records, each of which keeps its layout.
-fn check_states(circuit: &[u8], states: &[u8]) -> Ruling
+fn check_states(circuit: &[u8], states: &[u8]) -> Result<(), Refusal>
     ensures { result ≡ refusal (state_rules circuit.now states.now) }
 {
     if states.len() % 4 != 0 {
-        return Ruling::Refused(18, 0);
+        return Err(Refusal(Reason::StateRecords, 0));
     }
     let n = states.len() / 4;
     let bad = first_bad_state(circuit, states, n);
     if bad < n {
-        return Ruling::Refused(18, bad);
+        return Err(Refusal(Reason::StateRecords, bad));
     }
-    Ruling::Fine
+    Ok(())
 }
 
 // ---- refusal 19: the sizes after unfolding
@@ -148,16 +146,16 @@ fn free_inputs(circuit: &[u8], states: &[u8], n: usize) -> usize
 }
 
 // The answer where the records are fine, by the sizes: n lines in a step.
-fn sized(n: usize, lines: usize, inputs: usize) -> Clocked
+fn sized(n: usize, lines: usize, inputs: usize) -> Result<Clocked, Refusal>
     ensures { result ≡ clocked_by (after_rules lines inputs) n inputs }
 {
     if 2048 < lines {
-        return Clocked::Refused(19, 0);
+        return Err(Refusal(Reason::UnfoldedSize, 0));
     }
     if 64 < inputs {
-        return Clocked::Refused(19, 0);
+        return Err(Refusal(Reason::UnfoldedSize, 0));
     }
-    Clocked::Accepted(n, inputs)
+    Ok(Clocked { lines: n, inputs })
 }
 
 // ---- all of it
@@ -173,30 +171,22 @@ fn steps_ok(steps: usize) -> bool
 }
 
 // Refusals 21, 18 and 19, of an accepted circuit.
-fn check_steps(circuit: &[u8], n: usize, inputs: usize, states: &[u8], steps: usize) -> Clocked
+fn check_steps(circuit: &[u8], n: usize, inputs: usize, states: &[u8], steps: usize) -> Result<Clocked, Refusal>
     requires { Known circuit.now n inputs }
     ensures { result ≡ clocked_by (step_rules circuit.now states.now steps) n (inputs_after circuit.now states.now steps) }
 {
     if !steps_ok(steps) {
-        return Clocked::Refused(21, 0);
+        return Err(Refusal(Reason::StepCount, 0));
     }
-    let v = check_states(circuit, states);
-    match v {
-        Ruling::Refused(number, place) => Clocked::Refused(number, place),
-        Ruling::Fine => {
-            let free = free_inputs(circuit, states, n);
-            sized(n, steps * n, inputs + (steps - 1) * free)
-        }
-    }
+    check_states(circuit, states)?;
+    let free = free_inputs(circuit, states, n);
+    sized(n, steps * n, inputs + (steps - 1) * free)
 }
 
 // All that is checked of a clocked circuit: the lines of a step and the inputs after unfolding, or the first refusal.
-pub fn check_clocked(circuit: &[u8], states: &[u8], steps: usize) -> Clocked
+pub fn check_clocked(circuit: &[u8], states: &[u8], steps: usize) -> Result<Clocked, Refusal>
     ensures { ClockedChecked circuit.now states.now steps result }
 {
-    let v = check(circuit);
-    match v {
-        Checked::Refused(number, place) => Clocked::Refused(number, place),
-        Checked::Accepted(n, inputs, _) => check_steps(circuit, n, inputs, states, steps),
-    }
+    let Counts { lines: n, inputs, .. } = check(circuit)?;
+    check_steps(circuit, n, inputs, states, steps)
 }

@@ -9,7 +9,6 @@ use Rattle.tables.specs.Table.{table_rules}
 use Rattle.reports.specs.Reports.{Report, remains}
 use Rattle.reports.proofs.Marks.{marks_length}
 use Rattle.suspects.specs.declared.Suspects.{Suspects}
-use Rattle.suspects.specs.declared.Narrowed.TheVariants.{Remaining}
 use Rattle.suspects.specs.Sessions.{Session}
 use Rattle.suspects.specs.Sessions.Course.{begun, took, refused}
 use Rattle.suspects.proofs.Promise.{is_taken}
@@ -20,6 +19,7 @@ use Rattle.suspect_areas.specs.Promise.{size_rules, OpensArea, AreaSession}
 use Rattle.suspect_areas.proofs.Read.{read_bytes, bytes-length}
 use Rattle.suspect_areas.proofs.Says.{size_fine, held_fine}
 use Rattle.suspect_areas.proofs.Promise.{area_reported}
+use Rattle.std.specs.Prelude.{Ok}
 
 marks_256 : {F P : ℕ} {rs : List Report} {s : Suspects} → Session F P rs s → length s.marks ≡ 256
 marks_256 {F} {P} {rs} so = ap (λ (x : Suspects). length x.marks) (session_state so) ∙ marks_length F (remains rs) (session_sized so).1
@@ -32,9 +32,9 @@ pub in_area : (F P : ℕ) {rs : List Report} {s : Suspects} → Session F P rs s
 in_area F P {s = s} (begun b) =
     let opened = was_taken b.opens b.not_refused in
     let size = size_fine (bytes_of s) (bytes-length s (marks_256 (begun b))) in
-    let opens : OpensArea F P b.table (bytes_of s) (Remaining F) (bytes_of s) =
+    let opens : OpensArea F P b.table (bytes_of s) (Ok F) (bytes_of s) =
     is_taken (after_fine (size_rules (bytes_of s)) (table_rules F P b.table) size ∙ opened.0) refl (ap bytes_of opened.1) in
-    begun (record { table = b.table; before = bytes_of s; answer = Remaining F; remaining = F; opens = opens; not_refused = refl })
+    begun (record { table = b.table; before = bytes_of s; answer = Ok F; remaining = F; opens = opens; not_refused = refl })
 in_area F P (took {m = s} q so p e) =
     took q (in_area F P so) (area_reported (bytes_of s) q (held_fine (bytes_of s) (held so)) (sym (read_bytes s (session_opened so))) p refl) e
 in_area F P (refused {m = s} q so p e) =

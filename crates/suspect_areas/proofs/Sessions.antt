@@ -8,7 +8,7 @@ use Prim.Native.Nat.{ℕ, ◌<◌}
 use lib.ListN.{get_or, take}
 use lib.Seq.{get_or-take}
 use Rattle.ground.specs.Below.{count_below}
-use Rattle.answers.specs.declared.Ruling.{Ruling}
+use Rattle.answers.specs.Rules.{Ruling}
 use Rattle.answers.specs.Rules.{refusal, unless}
 use Rattle.answers.specs.Answer.{answered}
 use Rattle.answers.proofs.Answer.{was_ruled}
@@ -24,12 +24,13 @@ use Rattle.suspects.specs.Sessions.Course.{begun, took, refused}
 use Rattle.suspects.proofs.State.{state_opened, same_state}
 use Rattle.suspects.proofs.Sessions.{was_taken, was_refused, more}
 use Rattle.suspect_areas.specs.declared.Marked.{Marked}
-use Rattle.suspect_areas.specs.declared.Marked.TheVariants.{Marks, Refused}
 use Rattle.suspect_areas.specs.Bytes.{bytes_of, state_in, Held}
-use Rattle.suspect_areas.specs.Promise.{AreaSession, marks_area_rules, ReadsMarks}
+use Rattle.suspect_areas.specs.Promise.{AreaSession, marks_area_rules, ReadsMarks, marked_are}
 use Rattle.suspect_areas.proofs.Read.{read_bytes}
 use Rattle.suspect_areas.proofs.Says.{fine_open}
 use Rattle.suspect_areas.proofs.Promise.{marks_ruled, marked_ruling}
+use Rattle.std.specs.Prelude.{Ok, Result}
+use Rattle.answers.specs.declared.Refusal.{Refusal}
 
 -- its counts are in range, so what it holds is opened
 area_opened : (F P : ℕ) {rs : List Report} {a : List ℕ} → AreaSession F P rs a → (K : ℕ → Bool) → Opened (state_of F P K)
@@ -72,8 +73,8 @@ module _ (F P : ℕ) {rs : List Report} {a : List ℕ} (so : AreaSession F P rs 
 
   -- what is read of it: a mark is set exactly if no pattern reported failed has the fault's entry pass and none reported passed has it fail; and how
   -- many these are, with both counts
-  module _ {m m' : List ℕ} {r : Marked} {x y z : ℕ} (p : ReadsMarks a m r m') (e : r ≡ Marks x y z) where
-    fine : refusal (marks_area_rules a m) ≡ Ruling.Fine
+  module _ {m m' : List ℕ} {r : Result Marked Refusal} {x y z : ℕ} (p : ReadsMarks a m r m') (e : r ≡ Ok (marked_are x y z)) where
+    fine : refusal (marks_area_rules a m) ≡ Ok tt
     fine = was_ruled (marks_ruled _ _ _) p.answer (ap marked_ruling e)
 
     pub read_words : (f : ℕ) → f < F → (get_or m' f 0 ≡ 1) ↔ Remains rs f
@@ -85,8 +86,8 @@ module _ (F P : ℕ) {rs : List Report} {a : List ℕ} (so : AreaSession F P rs 
         let at : get_or m' f 0 ≡ get_or (marks_of F (remains rs)) f 0 = ap (λ (v : List ℕ). get_or v f 0) marks ∙ get_or-take F _ f 0 l in
         subst (λ (n : ℕ). (n ≡ 1) ↔ Remains rs f) (sym at) (marks_words F rs f l)
 
-    pub read_numbers_lem : r ≡ Marks (count_below F (remains rs)) F P
+    pub read_numbers_lem : r ≡ Ok (marked_are (count_below F (remains rs)) F P)
     read_numbers_lem =
         p.answer
-        ∙ ap (λ (v : Ruling). answered Refused v (Marks (state_in a).remaining (state_in a).faults (state_in a).patterns)) fine
-        ∙ ap (λ (s : Suspects). Marks s.remaining s.faults s.patterns) area_state
+        ∙ ap (λ (v : Ruling). answered v (marked_are (state_in a).remaining (state_in a).faults (state_in a).patterns)) fine
+        ∙ ap (λ (s : Suspects). Ok (marked_are s.remaining s.faults s.patterns)) area_state

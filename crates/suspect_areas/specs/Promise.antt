@@ -1,7 +1,7 @@
 -- The state in an area that is lent: opening it, reporting to it, and reading its marks. The refusals are 10 for an area that is not of 288
 -- bytes, then 22 for one that holds no opened state, and then those of the state.
 -- Assumes nothing.
-use Rattle.std.specs.Prelude.{◌≡◌, List, [], ◌∷◌, ◌++◌, ℕ, length, take}
+use Rattle.std.specs.Prelude.{◌≡◌, List, [], ◌∷◌, ◌++◌, ℕ, length, take, Ok, Err, Result}
 use Rattle.answers.specs.Rules.{Rule, refusal, unless}
 use Rattle.answers.specs.Rules.Rule.{whole}
 use Rattle.answers.specs.Lent.{exact}
@@ -10,18 +10,18 @@ use Rattle.answers.specs.Area.{Numbers, success, refused_at, told}
 use Rattle.tables.specs.Table.{table_rules}
 use Rattle.reports.specs.Reports.{Report}
 use Rattle.suspects.specs.declared.Suspects.{Suspects}
-use Rattle.suspects.specs.declared.Narrowed.{Narrowed}
 use Rattle.suspects.specs.Promise.{Becomes, open_state, narrowed_state, report_rules}
 use Rattle.suspects.specs.Sessions.{Course, Begun}
 use Rattle.suspect_areas.specs.declared.Marked.{Marked}
-use Rattle.suspect_areas.specs.declared.Marked.TheVariants.{Marks, Refused}
 use Rattle.suspect_areas.specs.Bytes.{bytes_of, state_in, held_ok, Held}
+use Rattle.answers.specs.declared.Refusal.{Refusal}
+use Rattle.answers.specs.declared.Reason.TheVariants.{NotOpened}
 
 unfoldable pub size_rules : List ℕ → List Rule
 size_rules a = exact 288 (length a) ∷ []
 
 unfoldable pub held_area_rules : List ℕ → List Rule
-held_area_rules a = whole 22 (held_ok a) (Held a) 0 ∷ []
+held_area_rules a = whole NotOpened (held_ok a) (Held a) 0 ∷ []
 
 abbrev pub area_rules : List ℕ → List Rule
 area_rules a = size_rules a ++ held_area_rules a
@@ -31,7 +31,7 @@ area_rules a = size_rules a ++ held_area_rules a
 abbrev pub open_area_rules : List ℕ → ℕ → ℕ → List ℕ → List Rule
 open_area_rules a F P t = size_rules a ++ table_rules F P t
 
-abbrev pub OpensArea : ℕ → ℕ → List ℕ → List ℕ → Narrowed → List ℕ → Type 0
+abbrev pub OpensArea : ℕ → ℕ → List ℕ → List ℕ → Result ℕ Refusal → List ℕ → Type 0
 OpensArea F P t a = Becomes (open_area_rules a F P t) a (bytes_of (open_state F P)) F
 
 -- ---- a report
@@ -40,7 +40,7 @@ OpensArea F P t a = Becomes (open_area_rules a F P t) a (bytes_of (open_state F 
 abbrev pub report_area_rules : List ℕ → Report → List Rule
 report_area_rules a q = area_rules a ++ report_rules (state_in a) q.faults q.patterns q.table q.pattern
 
-abbrev pub ReportsArea : List ℕ → Report → Narrowed → List ℕ → Type 0
+abbrev pub ReportsArea : List ℕ → Report → Result ℕ Refusal → List ℕ → Type 0
 ReportsArea a q = Becomes (report_area_rules a q) a (bytes_of (narrowed_state (state_in a) q)) (narrowed_state (state_in a) q).remaining
 
 -- ---- reading the marks
@@ -53,13 +53,13 @@ abbrev pub marks_area_rules : List ℕ → List ℕ → List Rule
 marks_area_rules a m = area_rules a ++ room_rules (state_in a) m
 
 -- the paper's number and values for each case
-unfoldable pub marked_numbers : Marked → Numbers
-marked_numbers (Marks remaining faults patterns) = success remaining faults patterns
-marked_numbers (Refused number place) = refused_at number place
+unfoldable pub marked_numbers : Result Marked Refusal → Numbers
+marked_numbers (Ok (marked_are remaining faults patterns)) = success remaining faults patterns
+marked_numbers (Err why) = refused_at why.0 why.1
 
 -- the marks m become m': those of the faults that there are
-pub record ReadsMarks (a m : List ℕ) (r : Marked) (m' : List ℕ) : Type 0 where
-  pub answer : r ≡ answered Refused (refusal (marks_area_rules a m)) (Marks (state_in a).remaining (state_in a).faults (state_in a).patterns)
+pub record ReadsMarks (a m : List ℕ) (r : Result Marked Refusal) (m' : List ℕ) : Type 0 where
+  pub answer : r ≡ answered (refusal (marks_area_rules a m)) (marked_are (state_in a).remaining (state_in a).faults (state_in a).patterns)
   pub numbers : marked_numbers r ≡ told (refusal (marks_area_rules a m)) (success (state_in a).remaining (state_in a).faults (state_in a).patterns)
   pub marks : m' ≡ unless (refusal (marks_area_rules a m)) m (take (state_in a).faults (state_in a).marks)
 

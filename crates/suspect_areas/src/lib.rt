@@ -9,21 +9,20 @@ ghost use Rattle.suspects.specs.State.{Opened};
 ghost use Rattle.suspect_areas.specs.Bytes.{numbers_of, bytes_of, state_in, begins_with, held_ok};
 ghost use Rattle.suspect_areas.specs.Promise.{size_rules, held_area_rules, area_rules, open_area_rules, room_rules, marks_area_rules, OpensArea, ReportsArea, ReadsMarks};
 
-use answers::{Ruling, put_numbers};
+use answers::{Reason, Refusal, put_numbers};
 use little::pair_at;
-use suspects::{Narrowed, Suspects, all_remain, is_opened, reported_to};
+use suspects::{Suspects, all_remain, is_opened, reported_to};
 use tables::check_table;
 
 // How many bytes a state has.
 pub const SIZE: usize = 288;
 
-// What reading the marks answers.
-#[derive(Drop)]
-pub enum Marked {
-    // how many remain, faults, patterns
-    Marks(u64, u64, u64),
-    // number, place
-    Refused(u32, usize),
+// How many faults remain by the marks that were read, and how many faults and patterns there are.
+#[derive(Clone, Copy, Debug, PartialEq, Eq)]
+pub struct Marked {
+    pub remaining: u64,
+    pub faults: u64,
+    pub patterns: u64,
 }
 
 // ---- a state and its bytes
@@ -99,69 +98,61 @@ fn holds_state(area: &[u8]) -> bool
 // ---- what is asked of the area
 
 // Refusal 10: its size.
-fn check_size(area: &[u8]) -> Ruling
+fn check_size(area: &[u8]) -> Result<(), Refusal>
     ensures { result ≡ refusal (size_rules area.now) }
 {
     if area.len() != SIZE {
-        return Ruling::Refused(10, 0);
+        return Err(Refusal(Reason::BufferSize, 0));
     }
-    Ruling::Fine
+    Ok(())
 }
 
 // All refusals of an opening: 10, then those of the table.
-fn check_opening(fault_count: u64, pattern_count: u64, table: &[u8], area: &[u8]) -> Ruling
+fn check_opening(fault_count: u64, pattern_count: u64, table: &[u8], area: &[u8]) -> Result<(), Refusal>
     ensures { result ≡ refusal (open_area_rules area.now fault_count pattern_count table.now) }
 {
-    match check_size(area) {
-        Ruling::Refused(number, place) => Ruling::Refused(number, place),
-        Ruling::Fine => check_table(fault_count, pattern_count, table),
-    }
+    check_size(area)?;
+    check_table(fault_count, pattern_count, table)
 }
 
 // Refusal 22, of an area of its size: it holds an opened state.
-fn check_held(area: &[u8]) -> Ruling
+fn check_held(area: &[u8]) -> Result<(), Refusal>
     requires { length area.now ≡ 288 }
     ensures { result ≡ refusal (held_area_rules area.now) }
 {
     if holds_state(area) {
-        return Ruling::Fine;
+        return Ok(());
     }
-    Ruling::Refused(22, 0)
+    Err(Refusal(Reason::NotOpened, 0))
 }
 
 // Refusal 10, then 22.
-fn check_area(area: &[u8]) -> Ruling
+fn check_area(area: &[u8]) -> Result<(), Refusal>
     ensures { result ≡ refusal (area_rules area.now) }
 {
-    match check_size(area) {
-        Ruling::Refused(number, place) => Ruling::Refused(number, place),
-        Ruling::Fine => check_held(area),
-    }
+    check_size(area)?;
+    check_held(area)
 }
 
 // Refusal 10: one mark a fault.
-fn check_room(state: Suspects, marks: &[u8]) -> Ruling
+fn check_room(state: Suspects, marks: &[u8]) -> Result<(), Refusal>
     ensures { result ≡ refusal (room_rules state marks.now) }
 {
     if marks.len() as u64 != state.faults {
-        return Ruling::Refused(10, 0);
+        return Err(Refusal(Reason::BufferSize, 0));
     }
-    Ruling::Fine
+    Ok(())
 }
 
 // ---- the parts
 
 // Opens a state in an area, whatever it holds.
-pub fn open_area(fault_count: u64, pattern_count: u64, table: &[u8], area: &mut [u8]) -> Narrowed
+pub fn open_area(fault_count: u64, pattern_count: u64, table: &[u8], area: &mut [u8]) -> Result<u64, Refusal>
     ensures { OpensArea fault_count pattern_count table.now area.old result area.new }
 {
-    match check_opening(fault_count, pattern_count, table, area) {
-        Ruling::Refused(number, place) => Narrowed::Refused(number, place),
-        Ruling::Fine => {
-            put_state(all_remain(fault_count, pattern_count), area);
-            Narrowed::Remaining(fault_count)
-        }
-    }
+    check_opening(fault_count, pattern_count, table, area)?;
+    put_state(all_remain(fault_count, pattern_count), area);
+    Ok(fault_count)
 }
 
 // Reports to the state in an area that a pattern failed, or passed. Where the state refuses, its own bytes are put back.
@@ -172,24 +163,20 @@ pub fn report_area(
     pattern: u64,
     failed: bool,
     area: &mut [u8],
-) -> Narrowed
+) -> Result<u64, Refusal>
     ensures { ReportsArea area.old (report_of fault_count pattern_count table.now pattern failed) result area.new }
 {
-    match check_area(area) {
-        Ruling::Refused(number, place) => Narrowed::Refused(number, place),
-        Ruling::Fine => {
-            let after = reported_to(
-                state_in(area),
-                fault_count,
-                pattern_count,
-                table,
-                pattern,
-                failed,
-            );
-            put_state(after.state, area);
-            after.answer
-        }
-    }
+    check_area(area)?;
+    let after = reported_to(
+        state_in(area),
+        fault_count,
+        pattern_count,
+        table,
+        pattern,
+        failed,
+    );
+    put_state(after.state, area);
+    after.answer
 }
 
 // Of a state, the marks of the faults that there are.
@@ -203,25 +190,19 @@ fn put_marks(state: Suspects, marks: &mut [u8])
 }
 
 // All refusals of reading the marks: those of the area, then 10 for marks that are not one for each fault.
-fn check_reading(area: &[u8], marks: &[u8]) -> Ruling
+fn check_reading(area: &[u8], marks: &[u8]) -> Result<(), Refusal>
     ensures { result ≡ refusal (marks_area_rules area.now marks.now) }
 {
-    match check_area(area) {
-        Ruling::Refused(number, place) => Ruling::Refused(number, place),
-        Ruling::Fine => check_room(state_in(area), marks),
-    }
+    check_area(area)?;
+    check_room(state_in(area), marks)
 }
 
 // Reads the marks of the state in an area.
-pub fn read_marks(area: &[u8], marks: &mut [u8]) -> Marked
+pub fn read_marks(area: &[u8], marks: &mut [u8]) -> Result<Marked, Refusal>
     ensures { ReadsMarks area.now marks.old result marks.new }
 {
-    match check_reading(area, marks) {
-        Ruling::Refused(number, place) => Marked::Refused(number, place),
-        Ruling::Fine => {
-            let state = state_in(area);
-            put_marks(state, marks);
-            Marked::Marks(state.remaining, state.faults, state.patterns)
-        }
-    }
+    check_reading(area, marks)?;
+    let state = state_in(area);
+    put_marks(state, marks);
+    Ok(Marked { remaining: state.remaining, faults: state.faults, patterns: state.patterns })
 }

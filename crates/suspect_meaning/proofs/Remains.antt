@@ -4,7 +4,6 @@ use mathlib.Core.Path.{◌≡◌}
 use mathlib.Core.List.{List}
 use Prim.Native.Nat.{ℕ, ◌+◌, ◌*◌, ◌<◌}
 use lib.ListN.{get_or}
-use Rattle.answers.specs.declared.Ruling.TheVariants.{Fine}
 use Rattle.circuit.specs.Record.{lines_of, inputs_of}
 use Rattle.lists.specs.Faults.{fault_count, fault_at}
 use Rattle.lists.specs.Patterns.{pattern_at}
@@ -17,9 +16,10 @@ use Rattle.suspects.specs.declared.Suspects.{Suspects}
 use Rattle.suspects.specs.Sessions.{Session}
 use Rattle.suspects.proofs.Sessions.{session_words}
 use Rattle.suspect_meaning.specs.Tester.{TrueOf}
+use Rattle.std.specs.Prelude.{Ok}
 
 -- of the table that an engine of the dictionary maker leaves
-module _ {places : ℕ} {left c fs ps t₀ w₀ t w : List ℕ} (made : Answered places left c fs ps t₀ w₀ Fine t w) (j : ℕ) (inside : j < fault_count fs) where
+module _ {places : ℕ} {left c fs ps t₀ w₀ t w : List ℕ} (made : Answered places left c fs ps t₀ w₀ (Ok tt) t w) (j : ℕ) (inside : j < fault_count fs) where
   -- the entry that is lent is the dictionary's
   entry_is : {q : Report} → TrueOf c fs ps t j q → entry_in q j ≡ get_or t (q.pattern * fault_count fs + j) 0
   entry_is {q} so = rw (so.lent, so.faults)

@@ -12,7 +12,6 @@ use denote.Memory.{mem}
 use denote.Struct.Laws as struct
 use denote.Enum.Laws as enum
 use Rattle.suspects.specs.declared.Suspects.{Suspects}
-use Rattle.suspects.specs.declared.Narrowed.{Narrowed}
 use Rattle.suspects.specs.declared.After.{After}
 use Rattle.suspects.specs.contracts.Suspects as S
 use Rattle.suspects.proofs.Suspects.TheLaws as S'
@@ -20,12 +19,14 @@ use Rattle.suspects.specs.contracts.Narrowed as N
 use Rattle.suspects.proofs.Narrowed.TheLaws as N'
 use Rattle.suspects.specs.contracts.After as R
 use Rattle.suspects.proofs.After.TheLaws as R'
+use Rattle.std.specs.Prelude.{Result}
+use Rattle.answers.specs.declared.Refusal.{Refusal}
 
 -- the machine values of a state, and of an answer
 abbrev pub vals : Suspects → List Val
 vals = struct.vals S.the_type S'.the_laws
 
-abbrev pub answer_val : Narrowed → Val
+abbrev pub answer_val : Result ℕ Refusal → Val
 answer_val = enum.val N.the_type N'.the_laws
 
 -- what is had at the end of a walk: the state as it stands, its borrow and the token of that, the token of the table and what the table owns

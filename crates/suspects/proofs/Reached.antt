@@ -11,7 +11,6 @@ use lib.ListN.{length, get_or}
 use Rattle.ground.specs.Choose.{choose}
 use Rattle.ground.specs.Lists.{table}
 use Rattle.ground.proofs.Grow.{table-length, table_at}
-use Rattle.answers.specs.declared.Ruling.TheVariants.{Fine}
 use Rattle.answers.specs.Rules.{refusal, AllHold}
 use Rattle.answers.proofs.Rules.{fine}
 use Rattle.tables.specs.Entries.{pass, unknown}
@@ -20,7 +19,6 @@ use Rattle.tables.proofs.Says.{table_says}
 use Rattle.reports.specs.Reports.{Report, report_of, speaks_against}
 use Rattle.reports.proofs.Marks.{is-marked}
 use Rattle.suspects.specs.declared.Suspects.{Suspects}
-use Rattle.suspects.specs.declared.Narrowed.TheVariants.{Remaining}
 use Rattle.suspects.specs.State.{remains_in, Opened}
 use Rattle.suspects.specs.Promise.{open_state, narrowed_state, Opens}
 use Rattle.suspects.specs.Sessions.{Begun, Session}
@@ -28,6 +26,7 @@ use Rattle.suspects.specs.Sessions.Course.{begun, took}
 use Rattle.suspects.proofs.State.{state_opened, same_state, opened_is}
 use Rattle.suspects.proofs.Says.{taken_fine}
 use Rattle.suspects.proofs.Promise.{is_taken}
+use Rattle.std.specs.Prelude.{Ok}
 
 -- an entry that speaks against a fault, if pattern 0 fails, exactly if the fault is to go
 abbrev pub entry : Bool → ℕ
@@ -49,7 +48,7 @@ module _ (s : Suspects) (o : Opened s) (long : length s.marks ≡ 256) where
   abbrev pub once : Report
   once = report_of s.faults s.patterns lent 0 true
 
-  lent_fine : refusal (table_rules s.faults s.patterns lent) ≡ Fine
+  lent_fine : refusal (table_rules s.faults s.patterns lent) ≡ Ok tt
   unfolding table_rules AllHold
   lent_fine =
       let size = table-length (λ i. entry (remains_in s i)) (s.faults * s.patterns) in
@@ -75,6 +74,6 @@ module _ (s : Suspects) (o : Opened s) (long : length s.marks ≡ 256) where
       let begin = state_opened s.faults s.patterns (λ f. true) o.some_fault o.few_faults o.some_pattern o.few_patterns in
       let fine-report = taken_fine (open_state s.faults s.patterns) lent 0 begin lent_fine o.some_pattern in
       let opening : Begun (Opens s.faults s.patterns) (open_state s.faults s.patterns) =
-      record { table = lent; before = s; answer = Remaining s.faults; remaining = s.faults; opens = is_taken lent_fine refl refl; not_refused = refl } in
+      record { table = lent; before = s; answer = Ok s.faults; remaining = s.faults; opens = is_taken lent_fine refl refl; not_refused = refl } in
       subst (λ (x : Suspects). Session s.faults s.patterns (once ∷ []) x) leaves
       (took once (begun opening) (is_taken fine-report refl refl) refl)

@@ -6,8 +6,7 @@ use mathlib.Core.List.{List}
 use Prim.Native.Nat.{ℕ, ◌<◌}
 use lib.Dec.{eqb}
 use lib.ListN.{length}
-use Rattle.answers.specs.declared.Ruling.{Ruling}
-use Rattle.answers.specs.declared.Ruling.TheVariants.{Fine}
+use Rattle.answers.specs.Rules.{Ruling}
 use Rattle.answers.specs.Rules.{Rule, said, refusal, Applies, AllSay, AllHold}
 use Rattle.answers.proofs.Rules.{all_hold, fine, after_refused, after_fine, both_fine, both_say}
 use Rattle.answers.proofs.Same.{lt_same, eq_same, and_same}
@@ -16,11 +15,13 @@ use Rattle.answers.proofs.Answer.{Ruled}
 use Rattle.tables.specs.Table.{Sized, table_rules}
 use Rattle.tables.proofs.Says.{table_says, fine_sized}
 use Rattle.suspects.specs.declared.Suspects.{Suspects}
-use Rattle.suspects.specs.declared.Narrowed.{Narrowed}
-use Rattle.suspects.specs.declared.Narrowed.TheVariants.{Remaining, Refused}
 use Rattle.suspects.specs.State.{opened_ok, Opened}
 use Rattle.suspects.specs.Promise.{pattern_rules, held_rules, given_rules, report_rules, Becomes}
 use Rattle.suspects.proofs.State.{opened_same}
+use Rattle.std.specs.Prelude.{Ok, Err, Result}
+use Rattle.answers.specs.declared.Refusal.{Refusal}
+use Rattle.answers.specs.declared.Reason.{Reason}
+use Rattle.answers.specs.declared.Reason.TheVariants.{TableSize, NotOpened}
 
 -- ---- tests and words agree
 
@@ -39,20 +40,20 @@ pub report_says : (s : Suspects) (F P : ℕ) (t : List ℕ) (p : ℕ) → AllSay
 report_says s F P t p = both_say (held_rules s F P) (given_rules F P t p) (held_say s F P) (given_say F P t p)
 
 -- what was ruled, by the answer
-abbrev pub ruling_of : Narrowed → Ruling
-ruling_of (Remaining n) = Fine
-ruling_of (Refused number place) = Ruling.Refused number place
+abbrev pub ruling_of : Result ℕ Refusal → Ruling
+ruling_of (Ok n) = Ok tt
+ruling_of (Err why) = Err why
 
-pub ruled : (n : ℕ) → Ruled Refused ruling_of (Remaining n)
+pub ruled : (n : ℕ) → Ruled ruling_of (Ok n)
 ruled n = record { refuses = λ m k. refl; accepts = refl }
 
 -- a refusal is the first that applies, with the lowest place; and where one applies, it is given
-module _ {M : Type 0} {rules : List Rule} {m new : M} {n : ℕ} {r : Narrowed} {m' : M} (says : AllSay rules) (p : Becomes rules m new n r m') (number place : ℕ) where
-  pub refused_applies : r ≡ Refused number place → Applies rules number place
-  refused_applies = answer.refused_applies (ruled n) rules says p.answer number place
+module _ {M : Type 0} {rules : List Rule} {m new : M} {n : ℕ} {r : Result ℕ Refusal} {m' : M} (says : AllSay rules) (p : Becomes rules m new n r m') (reason : Reason) (place : ℕ) where
+  pub refused_applies : r ≡ Err (reason, place) → Applies rules reason place
+  refused_applies = answer.refused_applies (ruled n) rules says p.answer reason place
 
-  pub applies_refused : Applies rules number place → r ≡ Refused number place
-  applies_refused = answer.applies_refused (ruled n) rules says p.answer number place
+  pub applies_refused : Applies rules reason place → r ≡ Err (reason, place)
+  applies_refused = answer.applies_refused (ruled n) rules says p.answer reason place
 
 -- ---- what is not refused
 
@@ -63,7 +64,7 @@ pub record Taken (s : Suspects) (F P : ℕ) (t : List ℕ) (p : ℕ) : Type 0 wh
   pub sized : Sized F P (length t)
   pub inside : p < P
 
-pub taken : (s : Suspects) (F P : ℕ) (t : List ℕ) (p : ℕ) → refusal (report_rules s F P t p) ≡ Fine → Taken s F P t p
+pub taken : (s : Suspects) (F P : ℕ) (t : List ℕ) (p : ℕ) → refusal (report_rules s F P t p) ≡ Ok tt → Taken s F P t p
 unfolding held_rules pattern_rules AllHold
 taken s F P t p e =
     let w = both_fine (held_rules s F P) (given_rules F P t p) e in
@@ -72,13 +73,13 @@ taken s F P t p e =
     let i = all_hold (pattern_rules P p) (pattern_says P p) v.1 in
     record { opened = h.0; faults = h.1.0.0; patterns = h.1.0.1; sized = fine_sized F P t v.0; inside = i.0 }
 
-held_fine : (s : Suspects) (F P : ℕ) → Opened s → F ≡ s.faults → P ≡ s.patterns → refusal (held_rules s F P) ≡ Fine
+held_fine : (s : Suspects) (F P : ℕ) → Opened s → F ≡ s.faults → P ≡ s.patterns → refusal (held_rules s F P) ≡ Ok tt
 unfolding held_rules AllHold
 held_fine s F P o f p = fine (held_rules s F P) (held_say s F P) (o, ((f, p), tt))
 
 -- and back: an opened state, its own counts, a table that keeps its rules and a pattern that there is
-pub taken_fine : (s : Suspects) (t : List ℕ) (p : ℕ) → Opened s → refusal (table_rules s.faults s.patterns t) ≡ Fine → p < s.patterns
-    → refusal (report_rules s s.faults s.patterns t p) ≡ Fine
+pub taken_fine : (s : Suspects) (t : List ℕ) (p : ℕ) → Opened s → refusal (table_rules s.faults s.patterns t) ≡ Ok tt → p < s.patterns
+    → refusal (report_rules s s.faults s.patterns t p) ≡ Ok tt
 unfolding pattern_rules AllHold
 taken_fine s t p o e l =
     let F = s.faults in
@@ -90,19 +91,19 @@ taken_fine s t p o e l =
 -- ---- as the code comes to it
 
 module _ (s : Suspects) (F P : ℕ) (t : List ℕ) (p : ℕ) where
-  pub not_opened : opened_ok s ≡ false → refusal (report_rules s F P t p) ≡ Ruling.Refused 22 0
+  pub not_opened : opened_ok s ≡ false → refusal (report_rules s F P t p) ≡ Err (NotOpened, 0)
   unfolding held_rules refusal said
   not_opened e = after_refused (held_rules s F P) (given_rules F P t p) held
     where
-      held : refusal (held_rules s F P) ≡ Ruling.Refused 22 0
+      held : refusal (held_rules s F P) ≡ Err (NotOpened, 0)
       held = rw e
 
   module _ (o : Opened s) where
-    pub other_counts : (eqb F s.faults && eqb P s.patterns) ≡ false → refusal (report_rules s F P t p) ≡ Ruling.Refused 12 0
+    pub other_counts : (eqb F s.faults && eqb P s.patterns) ≡ false → refusal (report_rules s F P t p) ≡ Err (TableSize, 0)
     unfolding held_rules refusal said
     other_counts e = after_refused (held_rules s F P) (given_rules F P t p) held
       where
-        held : refusal (held_rules s F P) ≡ Ruling.Refused 12 0
+        held : refusal (held_rules s F P) ≡ Err (TableSize, 0)
         held = rw ((opened_same s).tests o, e)
 
     pub same-counts : F ≡ s.faults → P ≡ s.patterns → refusal (report_rules s F P t p) ≡ refusal (given_rules F P t p)

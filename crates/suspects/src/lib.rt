@@ -8,7 +8,7 @@ ghost use Rattle.reports.specs.Reports.{report_of};
 ghost use Rattle.suspects.specs.State.{opened_ok, Opened};
 ghost use Rattle.suspects.specs.Promise.{open_state, narrowed_state, pattern_rules, given_rules, report_rules, Opens, Reports};
 
-use answers::Ruling;
+use answers::{Reason, Refusal};
 use reports::{count_marks, entry_against, mark_all, narrow, some_no_mark};
 use tables::{check_table, in_range};
 
@@ -21,38 +21,30 @@ pub struct Suspects {
     pub remaining: u64,
 }
 
-// What an opening and a report answer.
-#[derive(Drop)]
-pub enum Narrowed {
-    Remaining(u64),
-    // number, place
-    Refused(u32, usize),
-}
-
-// An answer, and the state after it.
-#[derive(Drop)]
+// What an opening and a report answer, how many remain or a refusal, and the state after it.
+#[derive(Clone, Copy)]
 pub struct After {
     pub state: Suspects,
-    pub answer: Narrowed,
+    pub answer: Result<u64, Refusal>,
 }
 
 // Where nothing is refused, how many remain is the answer.
 fn with_answer(state: Suspects) -> After
-    ensures { (result.state ≡ state) × (result.answer ≡ Narrowed.Remaining state.remaining) }
+    ensures { (result.state ≡ state) × (result.answer ≡ Ok state.remaining) }
 {
     After {
         state,
-        answer: Narrowed::Remaining(state.remaining),
+        answer: Ok(state.remaining),
     }
 }
 
 // A refusal leaves the state.
-fn refused(state: Suspects, number: u32, place: usize) -> After
-    ensures { (result.state ≡ state) × (result.answer ≡ Narrowed.Refused number place) }
+fn refused(state: Suspects, why: Refusal) -> After
+    ensures { (result.state ≡ state) × (result.answer ≡ Err why) }
 {
     After {
         state,
-        answer: Narrowed::Refused(number, place),
+        answer: Err(why),
     }
 }
 
@@ -78,8 +70,8 @@ pub fn opened(state: Suspects, fault_count: u64, pattern_count: u64, table: &[u8
     ensures { Opens fault_count pattern_count table.now state result.answer result.state }
 {
     match check_table(fault_count, pattern_count, table) {
-        Ruling::Refused(number, place) => refused(state, number, place),
-        Ruling::Fine => with_answer(all_remain(fault_count, pattern_count)),
+        Err(why) => refused(state, why),
+        Ok(()) => with_answer(all_remain(fault_count, pattern_count)),
     }
 }
 
@@ -104,23 +96,21 @@ pub fn is_opened(state: Suspects) -> bool
 }
 
 // Refusal 17: there is such a pattern.
-fn check_pattern(pattern_count: u64, pattern: u64) -> Ruling
+fn check_pattern(pattern_count: u64, pattern: u64) -> Result<(), Refusal>
     ensures { result ≡ refusal (pattern_rules pattern_count pattern) }
 {
     if pattern < pattern_count {
-        return Ruling::Fine;
+        return Ok(());
     }
-    Ruling::Refused(17, 0)
+    Err(Refusal(Reason::NoPattern, 0))
 }
 
 // What is asked of what is lent with a report: refusals 12 and 13, then 17.
-fn check_given(fault_count: u64, pattern_count: u64, table: &[u8], pattern: u64) -> Ruling
+fn check_given(fault_count: u64, pattern_count: u64, table: &[u8], pattern: u64) -> Result<(), Refusal>
     ensures { result ≡ refusal (given_rules fault_count pattern_count table.now pattern) }
 {
-    match check_table(fault_count, pattern_count, table) {
-        Ruling::Refused(number, place) => Ruling::Refused(number, place),
-        Ruling::Fine => check_pattern(pattern_count, pattern),
-    }
+    check_table(fault_count, pattern_count, table)?;
+    check_pattern(pattern_count, pattern)
 }
 
 // All refusals of a report to an opened state: 12 for counts other than at opening, then those of what is lent.
@@ -130,16 +120,16 @@ fn check_report(
     pattern_count: u64,
     table: &[u8],
     pattern: u64,
-) -> Ruling
+) -> Result<(), Refusal>
     requires { Opened state }
     ensures { result ≡ refusal (report_rules state fault_count pattern_count table.now pattern) }
 {
     if fault_count != state.faults {
-        return Ruling::Refused(12, 0);
+        return Err(Refusal(Reason::TableSize, 0));
     }
     let other_patterns = pattern_count != state.patterns;
     if other_patterns {
-        return Ruling::Refused(12, 0);
+        return Err(Refusal(Reason::TableSize, 0));
     }
     check_given(fault_count, pattern_count, table, pattern)
 }
@@ -176,8 +166,8 @@ pub fn reported_to(
     ensures { Reports state (report_of fault_count pattern_count table.now pattern failed) result.answer result.state }
 {
     match check_report(state, fault_count, pattern_count, table, pattern) {
-        Ruling::Refused(number, place) => refused(state, number, place),
-        Ruling::Fine => with_answer(narrow_state(state, table, pattern, failed)),
+        Err(why) => refused(state, why),
+        Ok(()) => with_answer(narrow_state(state, table, pattern, failed)),
     }
 }
 
@@ -195,13 +185,13 @@ pub fn reported(
     if is_opened(state) {
         return reported_to(state, fault_count, pattern_count, table, pattern, failed);
     }
-    refused(state, 22, 0)
+    refused(state, Refusal(Reason::NotOpened, 0))
 }
 
 // ---- the state where it stands
 
 // Opens a state.
-pub fn open(state: &mut Suspects, fault_count: u64, pattern_count: u64, table: &[u8]) -> Narrowed
+pub fn open(state: &mut Suspects, fault_count: u64, pattern_count: u64, table: &[u8]) -> Result<u64, Refusal>
     ensures { Opens fault_count pattern_count table.now state.old result state.new }
 {
     let after = opened(*state, fault_count, pattern_count, table);
@@ -217,7 +207,7 @@ pub fn report(
     table: &[u8],
     pattern: u64,
     failed: bool,
-) -> Narrowed
+) -> Result<u64, Refusal>
     ensures { Reports state.old (report_of fault_count pattern_count table.now pattern failed) result state.new }
 {
     let after = reported(*state, fault_count, pattern_count, table, pattern, failed);

@@ -12,7 +12,6 @@ use lib.Seq.{take-suc, take_all}
 use borrow.Author.Tests.{lt-ltb, le-ltb}
 use Rattle.ground.proofs.First.{Every, every_none, every_next, stopped, passed}
 use Rattle.answers.specs.Rules.{said, refusal}
-use Rattle.answers.specs.declared.Ruling.TheVariants.{Fine, Refused}
 use Rattle.syntax.specs.Regular.{Re}
 use Rattle.syntax.specs.Derivative.{empty, next, after}
 use Rattle.syntax.specs.Grammar.{symbol, symbols, bench}
@@ -20,6 +19,8 @@ use Rattle.syntax.specs.Owed.{state_of}
 use Rattle.syntax.specs.Syntax.{formed, goes_on, syntax_rules}
 use Rattle.syntax.proofs.Derivative.{after_snoc}
 use Rattle.syntax.proofs.Table.{live_state, end_state, start_state}
+use Rattle.std.specs.Prelude.{Ok, Err}
+use Rattle.answers.specs.declared.Reason.TheVariants.{BenchSyntax}
 
 -- the first i bytes go on, and q is the state after them
 pub record SoFar (t : List ℕ) (i q : ℕ) : Type 0 where
@@ -45,11 +46,11 @@ module _ {t : List ℕ} {i q : ℕ} (s : SoFar t i q) where
   -- ---- a byte
 
   module _ (h : i < length t) where
-    bad_byte_lem : goes_on t i ≡ false → Refused 14 i ≡ refusal (syntax_rules t)
+    bad_byte_lem : goes_on t i ≡ false → Err (BenchSyntax, i) ≡ refusal (syntax_rules t)
     unfolding syntax_rules refusal said
     bad_byte_lem e = rw (← stopped h s.go_on e, lt-ltb i (length t) h)
 
-    pub full : i ≡ 32768 → Refused 14 i ≡ refusal (syntax_rules t)
+    pub full : i ≡ 32768 → Err (BenchSyntax, i) ≡ refusal (syntax_rules t)
     unfolding goes_on
     full e = bad_byte_lem (rw (le-ltb i 32768 (omega arith)))
 
@@ -67,7 +68,7 @@ module _ {t : List ℕ} {i q : ℕ} (s : SoFar t i q) where
       unfolding goes_on
       on = rw (← then, live_state n l)
 
-      pub stops : i < 32768 → n ≡ 0 → Refused 14 i ≡ refusal (syntax_rules t)
+      pub stops : i < 32768 → n ≡ 0 → Err (BenchSyntax, i) ≡ refusal (syntax_rules t)
       stops m z = bad_byte_lem (on ∙ rw (lt-ltb i 32768 m, z))
 
       pub more : i < 32768 → 0 < n → SoFar t (i + 1) n
@@ -87,11 +88,11 @@ module _ {t : List ℕ} {i q : ℕ} (s : SoFar t i q) where
     unfolding formed
     at_end = ap (λ (u : List ℕ). empty (after bench (symbols u))) (sym (take_all i t h)) ∙ ap empty (sym s.is) ∙ end_state q s.alive s.small
 
-    pub ended : q < 4 → Fine ≡ refusal (syntax_rules t)
+    pub ended : q < 4 → Ok tt ≡ refusal (syntax_rules t)
     unfolding syntax_rules refusal said
     ended l = rw (← passed h s.go_on, le-ltb (length t) (length t) (omega arith), at_end, lt-ltb q 4 l)
 
-    pub early : 4 ≤ q → Refused 14 i ≡ refusal (syntax_rules t)
+    pub early : 4 ≤ q → Err (BenchSyntax, i) ≡ refusal (syntax_rules t)
     unfolding syntax_rules refusal said
     early l =
         let e : i ≡ length t = omega (arith, s.at_most) in

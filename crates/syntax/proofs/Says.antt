@@ -11,7 +11,6 @@ use lib.ListN.{length, take, drop, take-append-drop}
 use borrow.Author.Tests.{ltb-true, lt-ltb}
 use Rattle.ground.proofs.Tests.{either, both, and_both}
 use Rattle.answers.specs.Rules.{refusal, Applies, AllHold, Same, AllSay}
-use Rattle.answers.specs.declared.Ruling.TheVariants.{Fine, Refused}
 use Rattle.answers.proofs.Rules.{applies, refused, all_hold, fine}
 use Rattle.syntax.specs.Regular.{Has}
 use Rattle.syntax.specs.Derivative.{after, live}
@@ -19,6 +18,9 @@ use Rattle.syntax.specs.Grammar.{symbol, symbols, bench}
 use Rattle.syntax.specs.Syntax.{most_bytes, formed, Formed, goes_on, GoesOn, syntax_rules, FirstBad, RightText}
 use Rattle.syntax.proofs.Derivative.{has_same, begins, is_begun}
 use Rattle.syntax.proofs.Spelt.{in_bytes}
+use Rattle.std.specs.Prelude.{Ok, Err}
+use Rattle.answers.specs.declared.Reason.{Reason}
+use Rattle.answers.specs.declared.Reason.TheVariants.{BenchSyntax}
 
 -- ---- the tests and what they ask
 
@@ -56,7 +58,7 @@ right-on t r k h = record {
   right = subst Formed (sym (take-append-drop (suc k) t)) r.is_formed;
 }
 
-pub right_text : (t : List ℕ) → refusal (syntax_rules t) ≡ Fine → RightText t
+pub right_text : (t : List ℕ) → refusal (syntax_rules t) ≡ Ok tt → RightText t
 unfolding AllHold syntax_rules
 right_text t e = let a = all_hold (syntax_rules t) (syntax_says t) e in record { is_formed = a.1.0; room = short a.0 (either most_bytes (length t)) }
   where
@@ -64,7 +66,7 @@ right_text t e = let a = all_hold (syntax_rules t) (syntax_says t) e in record {
     short on (inl h) = let g = (on most_bytes h).room in omega arith
     short on (inr h) = h
 
-pub text_fine : (t : List ℕ) → RightText t → refusal (syntax_rules t) ≡ Fine
+pub text_fine : (t : List ℕ) → RightText t → refusal (syntax_rules t) ≡ Ok tt
 unfolding AllHold syntax_rules
 text_fine t r = fine (syntax_rules t) (syntax_says t) (right-on t r, (r.is_formed, tt))
 
@@ -79,7 +81,7 @@ goes t j n = go (goes_on t j) refl
     go false e = absurd (n (λ g. true≢false (sym ((goes_same t j).tests g) ∙ e)))
 
 -- what is refused is 14, at the first bad byte
-pub first_bad : (t : List ℕ) (m i : ℕ) → refusal (syntax_rules t) ≡ Refused m i → (m ≡ 14) × FirstBad t i
+pub first_bad : (t : List ℕ) (m : Reason) (i : ℕ) → refusal (syntax_rules t) ≡ Err (m, i) → (m ≡ 14) × FirstBad t i
 unfolding Applies syntax_rules
 first_bad t m i e = go (applies (syntax_rules t) (syntax_says t) m i e)
   where
@@ -89,7 +91,7 @@ first_bad t m i e = go (applies (syntax_rules t) (syntax_says t) m i e)
     go (inr (never, inr (none, x))) = absurd x
 
 -- and at the first bad byte 14 is refused
-pub bad_refused : (t : List ℕ) (i : ℕ) → FirstBad t i → refusal (syntax_rules t) ≡ Refused 14 i
+pub bad_refused : (t : List ℕ) (i : ℕ) → FirstBad t i → refusal (syntax_rules t) ≡ Err (BenchSyntax, i)
 unfolding Applies syntax_rules
 bad_refused t i f = refused (syntax_rules t) (syntax_says t) 14 i (go f.here)
   where

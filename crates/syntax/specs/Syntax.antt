@@ -5,6 +5,7 @@ use Rattle.answers.specs.Rules.{Rule, whole, each}
 use Rattle.syntax.specs.Regular.{Has}
 use Rattle.syntax.specs.Derivative.{empty, after, live}
 use Rattle.syntax.specs.Grammar.{symbols, bench}
+use Rattle.answers.specs.declared.Reason.TheVariants.{BenchSyntax}
 
 -- a text may have so many bytes
 abbrev pub most_bytes : ℕ
@@ -27,7 +28,7 @@ pub record GoesOn (t : List ℕ) (i : ℕ) : Type 0 where
   pub right : Formed (take (suc i) t ++ rest)
 
 unfoldable pub syntax_rules : List ℕ → List Rule
-syntax_rules t = each 14 (length t) (goes_on t) (GoesOn t) ∷ whole 14 (formed t) (Formed t) (length t) ∷ []
+syntax_rules t = each BenchSyntax (length t) (goes_on t) (GoesOn t) ∷ whole BenchSyntax (formed t) (Formed t) (length t) ∷ []
 
 -- refusal 14 in the document's words: every byte before i goes on; and byte i can't, or the text ends early, at i
 pub record FirstBad (t : List ℕ) (i : ℕ) : Type 0 where

@@ -8,7 +8,7 @@ ghost use Rattle.syntax.specs.Grammar.{symbol};
 ghost use Rattle.syntax.specs.Owed.{SymbolTable, StateTable, Row, RowTable, state_of};
 ghost use Rattle.syntax.specs.Syntax.{syntax_rules};
 
-use answers::Ruling;
+use answers::{Reason, Refusal};
 use ground::{narrow, wide, wide16};
 
 // The most bytes of a text.
@@ -173,7 +173,7 @@ fn step(rows: &[u16], q: usize, c: usize) -> usize
 }
 
 // Walks the rows, byte by byte.
-fn walk(text: &[u8], symbols: &[u8; 256], rows: &[u16]) -> Ruling
+fn walk(text: &[u8], symbols: &[u8; 256], rows: &[u16]) -> Result<(), Refusal>
     requires { SymbolTable symbols.now × RowTable rows.now }
     ensures { result ≡ refusal (syntax_rules text.now) }
 {
@@ -181,23 +181,23 @@ fn walk(text: &[u8], symbols: &[u8; 256], rows: &[u16]) -> Ruling
     let mut i = 0;
     while i < text.len() {
         if i == MOST_BYTES {
-            return Ruling::Refused(14, i);
+            return Err(Refusal(Reason::BenchSyntax, i));
         }
         let n = step(rows, q, symbol_of(symbols, text[i]));
         if n == 0 {
-            return Ruling::Refused(14, i);
+            return Err(Refusal(Reason::BenchSyntax, i));
         }
         q = n;
         i += 1;
     }
     if q < NO_END {
-        return Ruling::Fine;
+        return Ok(());
     }
-    Ruling::Refused(14, i)
+    Err(Refusal(Reason::BenchSyntax, i))
 }
 
 // In memory for the rows.
-fn check_in(text: &[u8], rows: &mut [u16]) -> Ruling
+fn check_in(text: &[u8], rows: &mut [u16]) -> Result<(), Refusal>
     requires { length rows.old ≡ 1817 }
     ensures { result ≡ refusal (syntax_rules text.now) }
 {
@@ -209,7 +209,7 @@ fn check_in(text: &[u8], rows: &mut [u16]) -> Ruling
 
 // Whether a text is right in syntax, or where it goes wrong. The tables are made once, before the first byte; of a state the walk keeps the
 // beginning of its row, so that a step is one sum and one look.
-pub fn check_text(text: &[u8]) -> Ruling
+pub fn check_text(text: &[u8]) -> Result<(), Refusal>
     ensures { result ≡ refusal (syntax_rules text.now) }
 {
     let mut rows = [0u16; 1817];

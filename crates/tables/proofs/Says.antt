@@ -9,11 +9,11 @@ use lib.ListN.{length}
 use borrow.Author.Tests.{le-leb, leb-true, eq-eqb, eqb-true}
 use Rattle.ground.proofs.Tests.{both, and_both}
 use Rattle.answers.specs.Rules.{refusal, Same, AllSay, AllHold}
-use Rattle.answers.specs.declared.Ruling.TheVariants.{Fine}
 use Rattle.answers.proofs.Rules.{all_hold, fine, after_fine, both_fine, both_say}
 use Rattle.answers.proofs.Same.{small_same, eq_same}
 use Rattle.tables.specs.Table.{in_range, sizes_ok, Sized, table_rules}
 use Rattle.tables.specs.Marks.{marks_rules, kept_rules}
+use Rattle.std.specs.Prelude.{Ok}
 
 pub in_range_lem : (n : ℕ) → in_range n ≡ true → (1 ≤ n) × (n ≤ 256)
 in_range_lem n e = let w = both (leb 1 n) (leb n 256) e in (leb-true 1 n w.0, leb-true n 256 w.1)
@@ -52,17 +52,17 @@ kept_say F P t m = both_say (table_rules F P t) (marks_rules P m) (table_says F 
 
 -- ---- what is not refused
 
-pub fine_sized : (F P : ℕ) (t : List ℕ) → refusal (table_rules F P t) ≡ Fine → Sized F P (length t)
+pub fine_sized : (F P : ℕ) (t : List ℕ) → refusal (table_rules F P t) ≡ Ok tt → Sized F P (length t)
 unfolding table_rules AllHold
 fine_sized F P t e = (all_hold (table_rules F P t) (table_says F P t) e).0
 
-pub fine_kept : (F P : ℕ) (t m : List ℕ) → refusal (kept_rules F P t m) ≡ Fine → Sized F P (length t) × (length m ≡ P)
+pub fine_kept : (F P : ℕ) (t m : List ℕ) → refusal (kept_rules F P t m) ≡ Ok tt → Sized F P (length t) × (length m ≡ P)
 unfolding marks_rules AllHold
 fine_kept F P t m e =
     let w = both_fine (table_rules F P t) (marks_rules P m) e in
     (fine_sized F P t w.0, (all_hold (marks_rules P m) (marks_say P m) w.1).0)
 
 -- and back, of the marks: those of the table's size break no rule that the table keeps
-pub kept_fine : (F P : ℕ) (t m : List ℕ) → refusal (table_rules F P t) ≡ Fine → length m ≡ P → refusal (kept_rules F P t m) ≡ Fine
+pub kept_fine : (F P : ℕ) (t m : List ℕ) → refusal (table_rules F P t) ≡ Ok tt → length m ≡ P → refusal (kept_rules F P t m) ≡ Ok tt
 unfolding marks_rules AllHold
 kept_fine F P t m e size = after_fine (table_rules F P t) (marks_rules P m) e ∙ fine (marks_rules P m) (marks_say P m) (size, tt)

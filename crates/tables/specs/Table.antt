@@ -4,6 +4,7 @@ use Rattle.std.specs.Prelude.{◌≡◌, Bool, ◌&&◌, List, [], ◌∷◌, �
 use Rattle.answers.specs.Rules.{Rule}
 use Rattle.answers.specs.Rules.Rule.{whole, each}
 use Rattle.answers.specs.Small.{small_ok, Small}
+use Rattle.answers.specs.declared.Reason.TheVariants.{TableSize, TableByte}
 
 abbrev pub in_range : ℕ → Bool
 in_range n = leb 1 n && leb n 256
@@ -21,4 +22,4 @@ pub record Sized (F P bytes : ℕ) : Type 0 where
 
 -- each entry is 0, 1 or 2
 unfoldable pub table_rules : ℕ → ℕ → List ℕ → List Rule
-table_rules F P t = whole 12 (sizes_ok F P (length t)) (Sized F P (length t)) 0 ∷ each 13 (length t) (small_ok t) (Small t) ∷ []
+table_rules F P t = whole TableSize (sizes_ok F P (length t)) (Sized F P (length t)) 0 ∷ each TableByte (length t) (small_ok t) (Small t) ∷ []

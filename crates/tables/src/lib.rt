@@ -6,7 +6,7 @@ ghost use Rattle.answers.specs.Rules.{refusal};
 ghost use Rattle.tables.specs.Table.{in_range, sizes_ok, table_rules};
 ghost use Rattle.tables.specs.Marks.{marks_rules, kept_rules};
 
-use answers::{Ruling, first_big};
+use answers::{Reason, Refusal, first_big};
 
 pub const PASS: u8 = 0;
 
@@ -37,35 +37,33 @@ fn sizes_ok(fault_count: u64, pattern_count: u64, bytes: usize) -> bool
 }
 
 // What the rules of a table say: refusals 12 and 13.
-pub fn check_table(fault_count: u64, pattern_count: u64, table: &[u8]) -> Ruling
+pub fn check_table(fault_count: u64, pattern_count: u64, table: &[u8]) -> Result<(), Refusal>
     ensures { result ≡ refusal (table_rules fault_count pattern_count table.now) }
 {
     if !sizes_ok(fault_count, pattern_count, table.len()) {
-        return Ruling::Refused(12, 0);
+        return Err(Refusal(Reason::TableSize, 0));
     }
     let bad = first_big(table);
     if bad < table.len() {
-        return Ruling::Refused(13, bad);
+        return Err(Refusal(Reason::TableByte, bad));
     }
-    Ruling::Fine
+    Ok(())
 }
 
 // Refusal 10: one mark per pattern.
-fn check_size(pattern_count: u64, marks: &[u8]) -> Ruling
+fn check_size(pattern_count: u64, marks: &[u8]) -> Result<(), Refusal>
     ensures { result ≡ refusal (marks_rules pattern_count marks.now) }
 {
     if marks.len() as u64 != pattern_count {
-        return Ruling::Refused(10, 0);
+        return Err(Refusal(Reason::BufferSize, 0));
     }
-    Ruling::Fine
+    Ok(())
 }
 
 // What the rules of a table and its marks say: refusals 12 and 13, then 10.
-pub fn check_marks(fault_count: u64, pattern_count: u64, table: &[u8], marks: &[u8]) -> Ruling
+pub fn check_marks(fault_count: u64, pattern_count: u64, table: &[u8], marks: &[u8]) -> Result<(), Refusal>
     ensures { result ≡ refusal (kept_rules fault_count pattern_count table.now marks.now) }
 {
-    match check_table(fault_count, pattern_count, table) {
-        Ruling::Refused(number, place) => Ruling::Refused(number, place),
-        Ruling::Fine => check_size(pattern_count, marks),
-    }
+    check_table(fault_count, pattern_count, table)?;
+    check_size(pattern_count, marks)
 }

@@ -14,11 +14,12 @@ use Rattle.statements.specs.Tables.{kinds_of}
 use Rattle.statements.specs.Owed.{DefsReady, DefsDone, OutsReady, OutsDone, SourcesReady, SourcesDone, KindsReady}
 use Rattle.statements.proofs.Lengths.{defs_length}
 use Rattle.statements.proofs.Sizes.{few_defs, few_outs, few_gates}
-use Rattle.nets.specs.declared.Read.{Read}
 use Rattle.nets.specs.Owed.{NamedNet, named_of, NamesDone, ReadNamesReady}
 use Rattle.texts.specs.Text.{forms_in, defs_in, outs_in, firsts_in, seconds_in, net_in}
 use Rattle.texts.specs.Owed.{UsesDone, named_in, ReadLinesReady, ReadDefsReady, DefsKnown}
 use Rattle.texts.proofs.Numbers.{named-ready}
+use Rattle.std.specs.Prelude.{Result}
+use Rattle.answers.specs.declared.Refusal.{Refusal}
 
 -- ---- words, forms
 
@@ -108,6 +109,6 @@ module _ {t ws es fs : List ℕ} {inputs : ℕ} {defs numbers : List ℕ} (d : D
   ready = rw used_are (named-ready t d.told.lined.short)
 
   -- the text's net has numbers for these names
-  pub read_used : {order c c' : List ℕ} {r : Read} → NamesDone t used order c c' r → UsesDone t order c c' r
+  pub read_used : {order c c' : List ℕ} {r : Result ℕ Refusal} → NamesDone t used order c c' r → UsesDone t order c c' r
   unfolding net_in
   read_used {order} {c} {c'} {r} q = subst (λ (n : NamedNet). NamesDone t n order c c' r) used_are q

@@ -1,22 +1,22 @@
 -- What the functions of a text's tables owe each other and their callers; no reader of the promises needs it.
 -- Assumes nothing.
-use Rattle.std.specs.Prelude.{◌≡◌, List, ◌++◌, ℕ, ◌-◌, ◌≤◌, length}
+use Rattle.std.specs.Prelude.{◌≡◌, List, ◌++◌, ℕ, ◌-◌, ◌≤◌, length, Result}
 use Rattle.answers.specs.Rules.{Rule}
 use Rattle.words.specs.Words.{words_in, ends_in}
 use Rattle.forms.specs.Forms.{inputs_in, gates_in}
 use Rattle.statements.specs.Tables.{def_numbers_of, kinds_of}
 use Rattle.names.specs.Names.{name_rules}
-use Rattle.nets.specs.declared.Read.{Read}
 use Rattle.nets.specs.Rules.{net_rules}
 use Rattle.nets.specs.Owed.{OrderDone, NamedNet, named_of}
 use Rattle.texts.specs.Text.{forms_in, defs_in, outs_in, firsts_in, seconds_in, uses_in, net_in}
+use Rattle.answers.specs.declared.Refusal.{Refusal}
 
 -- the rules of a text that is right in syntax
 abbrev pub text_rules : List ℕ → ℕ → List Rule
 text_rules t room = name_rules t (defs_in t) (uses_in t) ++ net_rules (net_in t) room
 
 -- what is done by them, with the order of the gates
-abbrev pub UsesDone : List ℕ → List ℕ → List ℕ → List ℕ → Read → Type 0
+abbrev pub UsesDone : List ℕ → List ℕ → List ℕ → List ℕ → Result ℕ Refusal → Type 0
 UsesDone t order c c' r = OrderDone (text_rules t (length c)) (net_in t) order c c' r
 
 -- the tables of a text, with names

@@ -4,7 +4,8 @@
 ghost use Rattle.std.specs.Prelude.{◌≡◌, length};
 ghost use Rattle.texts.specs.Owed.{UsesDone, ReadUsesReady};
 
-use nets::{Read, read_names};
+use answers::Refusal;
+use nets::read_names;
 use statements::{put_kinds, put_outs, put_sources};
 
 // In memory for these tables.
@@ -22,7 +23,7 @@ fn read_uses_in(
     outs: &mut [u16],
     order: &mut [u16],
     circuit: &mut [u8],
-) -> Read
+) -> Result<usize, Refusal>
     requires read_uses_ready { ReadUsesReady text.now words.now ends.now forms.now gates defs.now numbers.now order.old }
     requires kinds_len { (length kinds.old ≡ 8193) × (length firsts.old ≡ 8193) × (length seconds.old ≡ 8193) × (length outs.old ≡ 8193) }
     ensures { UsesDone text.now order.new circuit.old circuit.new result }
@@ -56,7 +57,7 @@ pub fn read_uses(
     numbers: &[u16],
     order: &mut [u16],
     circuit: &mut [u8],
-) -> Read
+) -> Result<usize, Refusal>
     requires { ReadUsesReady text.now words.now ends.now forms.now gates defs.now numbers.now order.old }
     ensures { UsesDone text.now order.new circuit.old circuit.new result }
 {

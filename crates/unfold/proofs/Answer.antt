@@ -5,7 +5,7 @@ use mathlib.Core.List.{List}
 use Prim.Native.Nat.{ℕ, ◌*◌}
 use lib.ListN.{length}
 use borrow.Author.Tests.{eq-eqb, ne_eqb}
-use Rattle.answers.specs.declared.Ruling.{Ruling}
+use Rattle.answers.specs.Rules.{Ruling}
 use Rattle.answers.specs.Rules.{said, refusal, AllSay, AllHold}
 use Rattle.answers.specs.Owed.{RulesDone}
 use Rattle.answers.proofs.Rules.{all_hold, both_fine, both_say}
@@ -13,15 +13,17 @@ use Rattle.answers.proofs.Same.{eq_same}
 use Rattle.answers.proofs.Answer.{numbers-told, refused_done, fine_done, first_refused, first_fine}
 use Rattle.circuit.specs.Record.{lines_of}
 use Rattle.states.specs.declared.Clocked.{Clocked}
-use Rattle.states.specs.Rules.{lines_after, clocked_rules}
+use Rattle.states.specs.Rules.{lines_after, clocked_rules, clocked_are}
 use Rattle.states.specs.Owed.{ClockedChecked}
 use Rattle.states.proofs.Says.{clocked_says}
 use Rattle.states.proofs.Steps.{ClockedTaken, clocked_taken, clocked_refuses, clocked_accepts}
 use Rattle.unfolded.specs.Unfolded.{unfolded}
-use Rattle.unfold.specs.declared.Unfolding.{Unfolding}
-use Rattle.unfold.specs.declared.Unfolding.TheVariants.{Lines, Refused}
 use Rattle.unfold.specs.Promise.{unfold_room_rules, unfold_rules, unfolding_numbers, UnfoldingMade}
 use Rattle.unfold.specs.Owed.{UnfoldingReady, RoomDone}
+use Rattle.std.specs.Prelude.{Ok, Err, Result}
+use Rattle.answers.specs.declared.Refusal.{Refusal}
+use Rattle.answers.specs.declared.Reason.{Reason}
+use Rattle.answers.specs.declared.Reason.TheVariants.{BufferSize}
 
 -- ---- the rules
 
@@ -38,7 +40,7 @@ module _ (c st : List ℕ) (k size : ℕ) where
   pub unfold_says : AllSay (unfold_rules c st k size)
   unfold_says = both_say (clocked_rules c st k) (unfold_room_rules c k size) (clocked_says c st k) (room_says c k size)
 
-  pub unfold_taken : refusal (unfold_rules c st k size) ≡ Ruling.Fine → UnfoldTaken c st k size
+  pub unfold_taken : refusal (unfold_rules c st k size) ≡ Ok tt → UnfoldTaken c st k size
   unfolding AllHold
   unfold_taken e =
       let b = both_fine (clocked_rules c st k) (unfold_room_rules c k size) e in
@@ -50,40 +52,40 @@ pub ready : {c st : List ℕ} {n k : ℕ} → n ≡ lines_of c → ClockedTaken 
 ready e t = record { lines = e; well = t.good.well; steps = t.steps }
 
 -- what is answered and what the buffer holds, by the rules
-abbrev Done : List ℕ → List ℕ → ℕ → List ℕ → Unfolding → List ℕ → Type 0
-Done c st k u r u' = RulesDone Refused (unfold_rules c st k (length u)) (Lines (lines_after c k)) u (unfolded c st k) r u'
+abbrev Done : List ℕ → List ℕ → ℕ → List ℕ → Result ℕ Refusal → List ℕ → Type 0
+Done c st k u r u' = RulesDone (unfold_rules c st k (length u)) (lines_after c k) u (unfolded c st k) r u'
 
 -- the last rule, where the buffer has this size
 module _ (c st : List ℕ) (k : ℕ) (u : List ℕ) {lines : ℕ} (are : lines ≡ lines_after c k) where
-  pub room_refused : (length u ≡ 8 * lines → ⊥) → RoomDone c st k u (Refused 10 0) u
+  pub room_refused : (length u ≡ 8 * lines → ⊥) → RoomDone c st k u (Err (BufferSize, 0)) u
   unfolding refusal said
   room_refused d = refused_done (rw (ne_eqb (length u) (8 * lines_after c k) (λ e. d (rw are e))))
 
-  pub room_fine : {u' : List ℕ} → length u ≡ 8 * lines → u' ≡ unfolded c st k → RoomDone c st k u (Lines lines) u'
+  pub room_fine : {u' : List ℕ} → length u ≡ 8 * lines → u' ≡ unfolded c st k → RoomDone c st k u (Ok lines) u'
   unfolding refusal said
-  room_fine e new = fine_done (rw (eq-eqb (length u) (8 * lines_after c k) (rw (← are) e))) (ap Lines are) new
+  room_fine e new = fine_done (rw (eq-eqb (length u) (8 * lines_after c k) (rw (← are) e))) (ap Ok are) new
 
 module _ {c st : List ℕ} {k : ℕ} {u : List ℕ} where
-  pub by_rules : {r : Unfolding} {u' : List ℕ} → Done c st k u r u' → UnfoldingMade c st k u r u'
+  pub by_rules : {r : Result ℕ Refusal} {u' : List ℕ} → Done c st k u r u' → UnfoldingMade c st k u r u'
   unfolding unfolding_numbers
   by_rules d = record {
     answer = d.answer;
     numbers =
-        ap unfolding_numbers d.answer ∙ numbers-told unfolding_numbers (λ x y. refl) (refusal (unfold_rules c st k (length u))) (Lines (lines_after c k));
+        ap unfolding_numbers d.answer ∙ numbers-told unfolding_numbers (λ x y. refl) (refusal (unfold_rules c st k (length u))) (Ok (lines_after c k));
     buffer = d.memory;
   }
 
-  module _ {v : Clocked} (p : ClockedChecked c st k v) where
+  module _ {v : Result Clocked Refusal} (p : ClockedChecked c st k v) where
     -- a refusal is the answer, and leaves the buffer
-    pub refused_answer : {x y : ℕ} → v ≡ Clocked.Refused x y → UnfoldingMade c st k u (Refused x y) u
+    pub refused_answer : {x : Reason} {y : ℕ} → v ≡ Err (x, y) → UnfoldingMade c st k u (Err (x, y)) u
     refused_answer told = by_rules (first_refused (clocked_rules c st k) (unfold_room_rules c k (length u)) (clocked_refuses p told))
 
     -- where there is none, the buffer's size decides
-    pub room_answer : {n m : ℕ} {r : Unfolding} {u' : List ℕ} → v ≡ Clocked.Accepted n m → RoomDone c st k u r u' → UnfoldingMade c st k u r u'
+    pub room_answer : {n m : ℕ} {r : Result ℕ Refusal} {u' : List ℕ} → v ≡ Ok (clocked_are n m) → RoomDone c st k u r u' → UnfoldingMade c st k u r u'
     room_answer told d = by_rules (first_fine (clocked_rules c st k) (unfold_room_rules c k (length u)) (clocked_accepts p told).0.fine d)
 
 -- two results that the promise allows are equal
-pub one_result : {c st : List ℕ} {k : ℕ} {u : List ℕ} {r r₂ : Unfolding} {u' u₂ : List ℕ}
+pub one_result : {c st : List ℕ} {k : ℕ} {u : List ℕ} {r r₂ : Result ℕ Refusal} {u' u₂ : List ℕ}
     → UnfoldingMade c st k u r u'
     → UnfoldingMade c st k u r₂ u₂
     → (r ≡ r₂) × (u' ≡ u₂)

@@ -1,15 +1,14 @@
 -- The circuit unfolded over several clock steps: the refusals 1, 2, 4, 5, 21, 18, 19 and 10, what is answered, and what is promised.
 -- Assumes nothing.
-use Rattle.std.specs.Prelude.{◌≡◌, List, [], ◌∷◌, ◌++◌, ℕ, ◌*◌, length}
-use Rattle.answers.specs.declared.Ruling.{Ruling}
+use Rattle.std.specs.Prelude.{◌≡◌, List, [], ◌∷◌, ◌++◌, ℕ, ◌*◌, length, Ok, Err, Result}
+use Rattle.answers.specs.Rules.{Ruling}
 use Rattle.answers.specs.Rules.{Rule, refusal, unless}
 use Rattle.answers.specs.Lent.{exact}
 use Rattle.answers.specs.Area.{Numbers, success, refused_at, told}
 use Rattle.answers.specs.Answer.{answered}
 use Rattle.states.specs.Rules.{lines_after, clocked_rules}
 use Rattle.unfolded.specs.Unfolded.{unfolded}
-use Rattle.unfold.specs.declared.Unfolding.{Unfolding}
-use Rattle.unfold.specs.declared.Unfolding.TheVariants.{Lines, Refused}
+use Rattle.answers.specs.declared.Refusal.{Refusal}
 
 -- the buffer that is lent has eight bytes for each line after unfolding
 abbrev pub unfold_room_rules : List ℕ → ℕ → ℕ → List Rule
@@ -24,12 +23,12 @@ abbrev pub unfold_ruling : List ℕ → List ℕ → ℕ → List ℕ → Ruling
 unfold_ruling c st k u = refusal (unfold_rules c st k (length u))
 
 -- the paper's number and values for each case of the answer
-unfoldable pub unfolding_numbers : Unfolding → Numbers
-unfolding_numbers (Lines n) = success n 0 0
-unfolding_numbers (Refused number place) = refused_at number place
+unfoldable pub unfolding_numbers : Result ℕ Refusal → Numbers
+unfolding_numbers (Ok n) = success n 0 0
+unfolding_numbers (Err why) = refused_at why.0 why.1
 
 -- the promise, whatever the bytes, where u was lent, and r and u' come back: the answer, its number and values, and every byte of the buffer
-pub record UnfoldingMade (c st : List ℕ) (k : ℕ) (u : List ℕ) (r : Unfolding) (u' : List ℕ) : Type 0 where
-  pub answer : r ≡ answered Refused (unfold_ruling c st k u) (Lines (lines_after c k))
+pub record UnfoldingMade (c st : List ℕ) (k : ℕ) (u : List ℕ) (r : Result ℕ Refusal) (u' : List ℕ) : Type 0 where
+  pub answer : r ≡ answered (unfold_ruling c st k u) (lines_after c k)
   pub numbers : unfolding_numbers r ≡ told (unfold_ruling c st k u) (success (lines_after c k) 0 0)
   pub buffer : u' ≡ unless (unfold_ruling c st k u) u (unfolded c st k)

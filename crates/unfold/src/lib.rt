@@ -12,20 +12,12 @@ ghost use Rattle.unfold.specs.Promise.{UnfoldingMade};
 ghost use Rattle.unfold.specs.Owed.{UnfoldingReady, UnfoldReady, RoomDone, MarkDataReady, MarkDataDone, UnfoldInReady, DataMarkedReady, StepLineReady};
 ghost use Rattle.unfold.specs.Owed.{held_by, moved_pin, MovedReady, HeldReady, step_to};
 
+use answers::{Reason, Refusal};
 use circuit::source;
 use gates::pins;
 use ground::narrow;
 use records::put_record;
 use states::{Clocked, check_clocked, data_line, state_record};
-
-// What the unfolding answers.
-#[derive(Drop)]
-pub enum Unfolding {
-    // lines after unfolding
-    Lines(usize),
-    // number, place
-    Refused(u32, usize),
-}
 
 // ---- a mark at each data line, so that no record is looked for where the last step's outputs are written
 
@@ -222,25 +214,22 @@ fn unfold_checked(
     n: usize,
     steps: usize,
     buffer: &mut [u8],
-) -> Unfolding
+) -> Result<usize, Refusal>
     requires { UnfoldingReady circuit.now states.now n steps }
     ensures { RoomDone circuit.now states.now steps buffer.old result buffer.new }
 {
     let lines = steps * n;
     if buffer.len() != 8 * lines {
-        return Unfolding::Refused(10, 0);
+        return Err(Refusal(Reason::BufferSize, 0));
     }
     unfold_lines(circuit, states, n, steps, buffer);
-    Unfolding::Lines(lines)
+    Ok(lines)
 }
 
 // Writes the circuit unfolded over these steps, or gives the first refusal and writes nothing.
-pub fn unfold(circuit: &[u8], states: &[u8], steps: usize, buffer: &mut [u8]) -> Unfolding
+pub fn unfold(circuit: &[u8], states: &[u8], steps: usize, buffer: &mut [u8]) -> Result<usize, Refusal>
     ensures { UnfoldingMade circuit.now states.now steps buffer.old result buffer.new }
 {
-    let v = check_clocked(circuit, states, steps);
-    match v {
-        Clocked::Refused(number, place) => Unfolding::Refused(number, place),
-        Clocked::Accepted(n, _) => unfold_checked(circuit, states, n, steps, buffer),
-    }
+    let Clocked { lines: n, .. } = check_clocked(circuit, states, steps)?;
+    unfold_checked(circuit, states, n, steps, buffer)
 }

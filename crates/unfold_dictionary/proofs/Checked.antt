@@ -5,7 +5,7 @@ use mathlib.Core.List.{List}
 use Prim.Native.Nat.{ℕ, ◌*◌, ◌≤◌}
 use native.Mathlib.Nat.{mul-le-mul_right, one-mul}
 use native.Mathlib.Omega.{arith}
-use Rattle.answers.specs.declared.Ruling.{Ruling}
+use Rattle.answers.specs.Rules.{Ruling}
 use Rattle.answers.specs.Rules.{refusal, AllSay}
 use Rattle.answers.proofs.Rules.{after_refused, after_fine, both_fine, both_say}
 use Rattle.answers.proofs.Answer.{was_ruled}
@@ -15,18 +15,20 @@ use Rattle.rows.specs.Owed.{TableReady, FaultsInSteps}
 use Rattle.dictionary.specs.Promise.{dictionary_rest_rules}
 use Rattle.dictionary.proofs.Checked.{RestTaken, rest_says, rest_taken}
 use Rattle.states.specs.declared.Clocked.{Clocked}
-use Rattle.states.specs.declared.Clocked.TheVariants.{Accepted, Refused}
-use Rattle.states.specs.Rules.{lines_after, inputs_after, clocked_rules}
+use Rattle.states.specs.Rules.{lines_after, inputs_after, clocked_rules, clocked_are}
 use Rattle.states.proofs.Says.{clocked_says}
 use Rattle.states.proofs.Steps.{ruling_of, ruled, ClockedTaken, clocked_taken}
 use Rattle.unfolded.specs.Unfolded.{unfolded}
 use Rattle.unfolded.proofs.Accepted.{unfolded-formed}
 use Rattle.unfold_dictionary.specs.Promise.{rest_rules, steps_dictionary_rules}
 use Rattle.unfold_dictionary.specs.Owed.{StepsChecked}
+use Rattle.std.specs.Prelude.{Ok, Err, Result}
+use Rattle.answers.specs.declared.Refusal.{Refusal}
+use Rattle.answers.specs.declared.Reason.{Reason}
 
 -- what is not refused
 pub record StepsTaken (c st : List ℕ) (k : ℕ) (fs ps : List ℕ) (table work : ℕ) : Type 0 where
-  pub fine : refusal (steps_dictionary_rules c st k fs ps table work) ≡ Ruling.Fine
+  pub fine : refusal (steps_dictionary_rules c st k fs ps table work) ≡ Ok tt
   pub clocked : ClockedTaken c st k
   pub rest : RestTaken (2 * lines_after c k) c (inputs_after c st k) fs ps table work
 
@@ -34,7 +36,7 @@ module _ (c st : List ℕ) (k : ℕ) (fs ps : List ℕ) (table work : ℕ) where
   pub steps_say : AllSay (steps_dictionary_rules c st k fs ps table work)
   steps_say = both_say (clocked_rules c st k) _ (clocked_says c st k) (rest_says (2 * lines_after c k) c (inputs_after c st k) fs ps table work)
 
-  pub steps_taken : refusal (steps_dictionary_rules c st k fs ps table work) ≡ Ruling.Fine → StepsTaken c st k fs ps table work
+  pub steps_taken : refusal (steps_dictionary_rules c st k fs ps table work) ≡ Ok tt → StepsTaken c st k fs ps table work
   steps_taken e =
       let a = both_fine (clocked_rules c st k) _ e in
       record { fine = e; clocked = clocked_taken c st k a.0; rest = rest_taken (2 * lines_after c k) c (inputs_after c st k) fs ps table work a.1 }
@@ -75,25 +77,25 @@ decides : (c st : List ℕ) (k : ℕ) (fs ps : List ℕ) (table work : ℕ) {n m
 decides c st k fs ps table work t lines inputs = rw (lines, inputs) (after_fine (clocked_rules c st k) _ t.fine)
 
 module _ {c st : List ℕ} {k : ℕ} {fs ps : List ℕ} {table work : ℕ} where
-  pub clocked_refused : {x y : ℕ} → refusal (clocked_rules c st k) ≡ Ruling.Refused x y → StepsChecked c st k fs ps table work (Refused x y)
+  pub clocked_refused : {x : Reason} {y : ℕ} → refusal (clocked_rules c st k) ≡ Err (x, y) → StepsChecked c st k fs ps table work (Err (x, y))
   clocked_refused e = record { answer = rw (after_refused (clocked_rules c st k) (rest_rules c st k fs ps table work) e) }
 
   module _ (t : ClockedTaken c st k) {n m : ℕ} (lines : n ≡ lines_of c) (inputs : m ≡ inputs_after c st k) where
-    pub rest_refused : {x y : ℕ} → refusal (dictionary_rest_rules (2 * (k * n)) c m fs ps table work) ≡ Ruling.Refused x y → StepsChecked c st k fs ps table work (Refused x y)
+    pub rest_refused : {x : Reason} {y : ℕ} → refusal (dictionary_rest_rules (2 * (k * n)) c m fs ps table work) ≡ Err (x, y) → StepsChecked c st k fs ps table work (Err (x, y))
     rest_refused e = record { answer = rw (decides c st k fs ps table work t lines inputs ∙ e) }
 
-    pub rest_fine : refusal (dictionary_rest_rules (2 * (k * n)) c m fs ps table work) ≡ Ruling.Fine → StepsChecked c st k fs ps table work (Accepted n m)
+    pub rest_fine : refusal (dictionary_rest_rules (2 * (k * n)) c m fs ps table work) ≡ Ok tt → StepsChecked c st k fs ps table work (Ok (clocked_are n m))
     rest_fine e = record { answer = rw (decides c st k fs ps table work t lines inputs ∙ e, lines, inputs) }
 
-  module _ {r : Clocked} (p : StepsChecked c st k fs ps table work r) where
+  module _ {r : Result Clocked Refusal} (p : StepsChecked c st k fs ps table work r) where
     was : refusal (steps_dictionary_rules c st k fs ps table work) ≡ ruling_of r
     was = was_ruled (ruled (lines_of c) (inputs_after c st k)) p.answer refl
 
-    pub steps_refuse : {x y : ℕ} → r ≡ Refused x y → refusal (steps_dictionary_rules c st k fs ps table work) ≡ Ruling.Refused x y
+    pub steps_refuse : {x : Reason} {y : ℕ} → r ≡ Err (x, y) → refusal (steps_dictionary_rules c st k fs ps table work) ≡ Err (x, y)
     steps_refuse told = was ∙ ap ruling_of told
 
-    pub steps_accept : {n m : ℕ} → r ≡ Accepted n m → (refusal (steps_dictionary_rules c st k fs ps table work) ≡ Ruling.Fine) × (n ≡ lines_of c) × (m ≡ inputs_after c st k)
+    pub steps_accept : {n m : ℕ} → r ≡ Ok (clocked_are n m) → (refusal (steps_dictionary_rules c st k fs ps table work) ≡ Ok tt) × (n ≡ lines_of c) × (m ≡ inputs_after c st k)
     steps_accept {n} {m} told =
-        let q : refusal (steps_dictionary_rules c st k fs ps table work) ≡ Ruling.Fine = was ∙ ap ruling_of told in
-        let so : Accepted n m ≡ Accepted (lines_of c) (inputs_after c st k) = sym told ∙ p.answer ∙ rw q in
+        let q : refusal (steps_dictionary_rules c st k fs ps table work) ≡ Ok tt = was ∙ ap ruling_of told in
+        let so : Ok (clocked_are n m) ≡ Ok (clocked_are (lines_of c) (inputs_after c st k)) = sym told ∙ p.answer ∙ rw q in
         (q, cc, cc)

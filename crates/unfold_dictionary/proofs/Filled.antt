@@ -4,7 +4,7 @@ use mathlib.Core.Path.{◌≡◌, ◌∙◌}
 use mathlib.Core.List.{List}
 use Prim.Native.Nat.{ℕ, ◌*◌, ◌≤◌}
 use lib.ListN.{length}
-use Rattle.answers.specs.declared.Ruling.{Ruling}
+use Rattle.answers.specs.Rules.{Ruling}
 use Rattle.answers.specs.Rules.{refusal}
 use Rattle.simulate.specs.Simulate.{stuck_in_steps}
 use Rattle.rows.specs.Table.{work_under}
@@ -18,6 +18,9 @@ use Rattle.unfold_dictionary.specs.Promise.{steps_dictionary_rules, StepsDiction
 use Rattle.unfold_dictionary.specs.Owed.{StepsChecked, LeaveReady, FillReady, FillDone}
 use Rattle.unfold_dictionary.proofs.Checked as checked
 use Rattle.unfold_dictionary.proofs.Checked.{StepsTaken, steps_taken, faults_in_steps, steps_ready, steps_refuse}
+use Rattle.std.specs.Prelude.{Ok, Err, Result}
+use Rattle.answers.specs.declared.Refusal.{Refusal}
+use Rattle.answers.specs.declared.Reason.{Reason}
 
 module _ {c st : List ℕ} {n k m : ℕ} {fs ps : List ℕ} {table work : ℕ} (r : FillReady c st n k m fs ps table work) where
   pub taken : StepsTaken c st k fs ps table work
@@ -49,12 +52,12 @@ module _ {c st : List ℕ} {n k m : ℕ} {fs ps : List ℕ} {table work : ℕ} (
 
 module _ {c st : List ℕ} {k : ℕ} {fs ps t w : List ℕ} where
   -- a refusal is the answer, and leaves both memories
-  pub refused_answer : {v : Clocked} {x y : ℕ} → StepsChecked c st k fs ps (length t) (length w) v → v ≡ Clocked.Refused x y → StepsDictionary c st k fs ps t w (Ruling.Refused x y) t w
+  pub refused_answer : {v : Result Clocked Refusal} {x : Reason} {y : ℕ} → StepsChecked c st k fs ps (length t) (length w) v → v ≡ Err (x, y) → StepsDictionary c st k fs ps t w (Err (x, y)) t w
   refused_answer p told = let e = steps_refuse p told in record { answer = rw e; numbers = rw e; table = rw e; work = rw e }
 
   -- where there is none, the table is made
   pub made_answer : {t' w' : List ℕ}
-      → refusal (steps_dictionary_rules c st k fs ps (length t) (length w)) ≡ Ruling.Fine
+      → refusal (steps_dictionary_rules c st k fs ps (length t) (length w)) ≡ Ok tt
       → FillDone c st k fs ps t' w'
-      → StepsDictionary c st k fs ps t w Ruling.Fine t' w'
+      → StepsDictionary c st k fs ps t w (Ok tt) t' w'
   made_answer e f = record { answer = rw e; numbers = rw e; table = rw e f.table_is; work = rw e f.work_is }

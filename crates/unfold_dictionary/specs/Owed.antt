@@ -1,7 +1,7 @@
 -- What the functions of the dictionary over several steps owe each other; no reader of the promise needs it.
 -- Assumes nothing.
-use Rattle.std.specs.Prelude.{◌≡◌, List, ℕ, ◌*◌}
-use Rattle.answers.specs.declared.Ruling.{Ruling}
+use Rattle.std.specs.Prelude.{◌≡◌, List, ℕ, ◌*◌, Ok, Result}
+use Rattle.answers.specs.Rules.{Ruling}
 use Rattle.answers.specs.Rules.{refusal}
 use Rattle.circuit.specs.Record.{lines_of}
 use Rattle.lists.specs.Faults.{fault_count}
@@ -11,14 +11,15 @@ use Rattle.states.specs.declared.Clocked.{Clocked}
 use Rattle.states.specs.Rules.{lines_after, inputs_after}
 use Rattle.states.specs.Owed.{clocked_by}
 use Rattle.unfold_dictionary.specs.Promise.{steps_dictionary_rules, steps_table, steps_work}
+use Rattle.answers.specs.declared.Refusal.{Refusal}
 
 -- what is checked gives the lines of a step and the inputs after unfolding, where nothing is refused
-pub record StepsChecked (c st : List ℕ) (k : ℕ) (fs ps : List ℕ) (table work : ℕ) (r : Clocked) : Type 0 where
+pub record StepsChecked (c st : List ℕ) (k : ℕ) (fs ps : List ℕ) (table work : ℕ) (r : Result Clocked Refusal) : Type 0 where
   pub answer : r ≡ clocked_by (steps_dictionary_rules c st k fs ps table work) (lines_of c) (inputs_after c st k)
 
 -- nothing is refused, and these are the lines and inputs
 pub record FillReady (c st : List ℕ) (n k m : ℕ) (fs ps : List ℕ) (table work : ℕ) : Type 0 where
-  pub fine : refusal (steps_dictionary_rules c st k fs ps table work) ≡ Ruling.Fine
+  pub fine : refusal (steps_dictionary_rules c st k fs ps table work) ≡ Ok tt
   pub lines : n ≡ lines_of c
   pub inputs : m ≡ inputs_after c st k
 

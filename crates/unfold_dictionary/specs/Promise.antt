@@ -2,7 +2,7 @@
 -- clocked circuit, each in every step at once; patterns, table and work memory are those of the unfolded circuit.
 -- Assumes nothing.
 use Rattle.std.specs.Prelude.{◌≡◌, List, ◌++◌, ℕ, ◌*◌, length}
-use Rattle.answers.specs.declared.Ruling.{Ruling}
+use Rattle.answers.specs.Rules.{Ruling}
 use Rattle.answers.specs.Rules.{Rule, refusal, unless}
 use Rattle.answers.specs.Area.{told, done}
 use Rattle.circuit.specs.Record.{lines_of}

@@ -1,9 +1,8 @@
 -- The promise in the words of the clocked circuit, which is not unfolded; `StepsDictionary` is proved to say the same. Steps are counted from 0.
 -- Assumes nothing.
-use Rattle.std.specs.Prelude.{◌≡◌, ◌⊎◌, List, ◌++◌, ℕ, suc, ◌+◌, ◌*◌, ◌<◌, length, get_or}
+use Rattle.std.specs.Prelude.{◌≡◌, ◌⊎◌, List, ◌++◌, ℕ, suc, ◌+◌, ◌*◌, ◌<◌, length, get_or, Ok, Err}
 use Rattle.ground.specs.Lists.{gather}
-use Rattle.answers.specs.declared.Ruling.{Ruling}
-use Rattle.answers.specs.declared.Ruling.TheVariants.{Fine, Refused}
+use Rattle.answers.specs.Rules.{Ruling}
 use Rattle.answers.specs.Rules.{Applies}
 use Rattle.circuit.specs.Record.{lines_of, out_at}
 use Rattle.lists.specs.declared.Fault.{Fault}
@@ -17,6 +16,7 @@ use Rattle.unfolded.specs.Words.{DataLine}
 use Rattle.clocked.specs.Clocked.{clocked_values}
 use Rattle.clocked.specs.Inputs.{given_by}
 use Rattle.unfold_dictionary.specs.Promise.{steps_dictionary_rules}
+use Rattle.answers.specs.declared.Reason.{Reason}
 
 -- line m is looked at in step i of k: an output in every step, a data line in the last
 pub record LookedIn (c st : List ℕ) (k i m : ℕ) : Type 0 where
@@ -50,9 +50,9 @@ StepsLeft c st k fs ps w =
 
 pub record StepsInWords (c st : List ℕ) (k : ℕ) (fs ps t w : List ℕ) (r : Ruling) (t' w' : List ℕ) : Type 0 where
   -- refused exactly when a rule applies, with the first that does and its lowest place
-  pub refused : (number place : ℕ) → r ≡ Refused number place → Applies (steps_dictionary_rules c st k fs ps (length t) (length w)) number place
-  pub refuses : (number place : ℕ) → Applies (steps_dictionary_rules c st k fs ps (length t) (length w)) number place → r ≡ Refused number place
+  pub refused : (reason : Reason) (place : ℕ) → r ≡ Err (reason, place) → Applies (steps_dictionary_rules c st k fs ps (length t) (length w)) reason place
+  pub refuses : (reason : Reason) (place : ℕ) → Applies (steps_dictionary_rules c st k fs ps (length t) (length w)) reason place → r ≡ Err (reason, place)
   -- a refusal writes nothing
-  pub nothing : (number place : ℕ) → r ≡ Refused number place → (t' ≡ t) × (w' ≡ w)
+  pub nothing : (reason : Reason) (place : ℕ) → r ≡ Err (reason, place) → (t' ≡ t) × (w' ≡ w)
   -- otherwise the dictionary is made
-  pub made : r ≡ Fine → StepsMade c st k fs ps t' × StepsLeft c st k fs ps w'
+  pub made : r ≡ Ok tt → StepsMade c st k fs ps t' × StepsLeft c st k fs ps w'

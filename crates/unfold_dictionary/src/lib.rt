@@ -7,7 +7,7 @@ ghost use Rattle.rows.specs.Table.{work_under};
 ghost use Rattle.unfold_dictionary.specs.Promise.{StepsDictionary};
 ghost use Rattle.unfold_dictionary.specs.Owed.{StepsChecked, LeaveReady, FillReady, FillInReady, FillDone};
 
-use answers::Ruling;
+use answers::Refusal;
 use dictionary::check_rest;
 use groups::fill_groups_in_steps;
 use lists::read_fault;
@@ -24,28 +24,20 @@ fn check_all_steps(
     patterns: &[u8],
     table: usize,
     work: usize,
-) -> Clocked
+) -> Result<Clocked, Refusal>
     ensures { StepsChecked circuit.now states.now steps faults.now patterns.now table work result }
 {
-    let v = check_clocked(circuit, states, steps);
-    match v {
-        Clocked::Refused(number, place) => Clocked::Refused(number, place),
-        Clocked::Accepted(n, inputs) => {
-            let rest = check_rest(
-                circuit,
-                inputs,
-                faults,
-                patterns,
-                table,
-                2 * (steps * n),
-                work,
-            );
-            match rest {
-                Ruling::Refused(number, place) => Clocked::Refused(number, place),
-                Ruling::Fine => Clocked::Accepted(n, inputs),
-            }
-        }
-    }
+    let Clocked { lines: n, inputs } = check_clocked(circuit, states, steps)?;
+    check_rest(
+        circuit,
+        inputs,
+        faults,
+        patterns,
+        table,
+        2 * (steps * n),
+        work,
+    )?;
+    Ok(Clocked { lines: n, inputs })
 }
 
 // Leaves in the work memory what the last pattern with the last fault gives.
@@ -135,10 +127,10 @@ pub fn unfold_dictionary(
     patterns: &[u8],
     table: &mut [u8],
     work: &mut [u8],
-) -> Ruling
+) -> Result<(), Refusal>
     ensures { StepsDictionary circuit.now states.now steps faults.now patterns.now table.old work.old result table.new work.new }
 {
-    let v = check_all_steps(
+    let Clocked { lines: n, inputs } = check_all_steps(
         circuit,
         states,
         steps,
@@ -146,14 +138,9 @@ pub fn unfold_dictionary(
         patterns,
         table.len(),
         work.len(),
+    )?;
+    fill(
+        circuit, states, n, steps, inputs, faults, patterns, table, work,
     );
-    match v {
-        Clocked::Refused(number, place) => Ruling::Refused(number, place),
-        Clocked::Accepted(n, inputs) => {
-            fill(
-                circuit, states, n, steps, inputs, faults, patterns, table, work,
-            );
-            Ruling::Fine
-        }
-    }
+    Ok(())
 }

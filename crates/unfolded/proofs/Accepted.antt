@@ -9,7 +9,6 @@ use lib.Dec.{eqb}
 use Rattle.ground.specs.Choose.{choose}
 use Rattle.ground.proofs.Counting.{count_below_lem, nth}
 use Rattle.answers.specs.Rules.{refusal, AllHold}
-use Rattle.answers.specs.declared.Ruling.TheVariants.{Fine}
 use Rattle.answers.proofs.Rules.{all_hold}
 use Rattle.circuit.specs.Record.{lines_of, out_at, is_output, outputs_of}
 use Rattle.circuit.specs.Layout.{Pin, Layout}
@@ -25,13 +24,14 @@ use Rattle.unfolded.proofs.Steps.{line_inside, by_steps}
 use Rattle.unfolded.proofs.Sources.{kind_small, source_lower, source_lacks}
 use Rattle.unfolded.proofs.Fields.{unfolded_long, unfolded_lines, unfolded_kind, unfolded_out, unfolded-pin}
 use Rattle.unfolded.proofs.Inputs.{unfolded-inputs}
+use Rattle.std.specs.Prelude.{Ok}
 
 -- each line of an accepted circuit keeps its layout
-pub layouts : (c : List ℕ) → refusal (circuit_rules c) ≡ Fine → (m : ℕ) → m < lines_of c → Layout c m
+pub layouts : (c : List ℕ) → refusal (circuit_rules c) ≡ Ok tt → (m : ℕ) → m < lines_of c → Layout c m
 unfolding layout_rules AllHold
 layouts c fine = (all_hold (circuit_rules c) (circuit_says c) fine).1.0
 
-module _ {c st : List ℕ} {k : ℕ} (fine : refusal (circuit_rules c) ≡ Fine) (steps : GoodSteps c st k) where
+module _ {c st : List ℕ} {k : ℕ} (fine : refusal (circuit_rules c) ≡ Ok tt) (steps : GoodSteps c st k) where
   -- ---- the layout
 
   pub out_bit : (i m : ℕ) → m < lines_of c → step_out c st k i m ≤ 1
@@ -90,7 +90,7 @@ module _ {c st : List ℕ} {k : ℕ} (fine : refusal (circuit_rules c) ≡ Fine)
 
   -- ---- so it is accepted
 
-  pub unfolded_fine : refusal (circuit_rules (unfolded c st k)) ≡ Fine
+  pub unfolded_fine : refusal (circuit_rules (unfolded c st k)) ≡ Ok tt
   unfolded_fine =
       sizes_decide (unfolded c st k) (lines_after c k) (unfolded_long c st k) (λ _. unfolded_layout)
       ∙ sizes_fine (record {

@@ -10,7 +10,6 @@ use native.Mathlib.Omega.{arith}
 use Rattle.ground.specs.Choose.{choose}
 use Rattle.ground.proofs.Tests.{either}
 use Rattle.answers.specs.Rules.{refusal}
-use Rattle.answers.specs.declared.Ruling.TheVariants.{Fine}
 use Rattle.gates.specs.Gate.{pins_of}
 use Rattle.circuit.specs.Record.{lines_of, kind_at, out_at, pin_at}
 use Rattle.circuit.specs.Promise.{circuit_rules}
@@ -23,8 +22,9 @@ use Rattle.unfolded.proofs.Fields.{unfolded_long, unfolded_out}
 use Rattle.unfolded.proofs.Bytes.{Bytes, same_bytes}
 use Rattle.unfolded.proofs.Accepted.{layouts}
 use Rattle.unfolded.proofs.Words.{unfolded_words}
+use Rattle.std.specs.Prelude.{Ok}
 
-module _ {c st : List ℕ} (fine : refusal (circuit_rules c) ≡ Fine) (steps : GoodSteps c st 1) (m : ℕ) (l : m < lines_of c) where
+module _ {c st : List ℕ} (fine : refusal (circuit_rules c) ≡ Ok tt) (steps : GoodSteps c st 1) (m : ℕ) (l : m < lines_of c) where
   there : Moved c (unfolded c st 1) m m 0
   there = (unfolded_words fine steps).first m l
 
@@ -47,7 +47,7 @@ no_data : (m : ℕ) → is_data [] m ≡ false
 unfolding is_data
 no_data m = refl
 
-module _ {c : List ℕ} (fine : refusal (circuit_rules c) ≡ Fine) where
+module _ {c : List ℕ} (fine : refusal (circuit_rules c) ≡ Ok tt) where
   pub no-states : GoodSteps c [] 1
   no-states =
       let one : 1 * lines_of c ≡ lines_of c = one-mul (lines_of c) in

@@ -13,7 +13,6 @@ use Rattle.ground.proofs.Tests.{both}
 use Rattle.ground.proofs.Gather.{gather_each}
 use Rattle.little.specs.Little.{le}
 use Rattle.answers.specs.Rules.{refusal}
-use Rattle.answers.specs.declared.Ruling.TheVariants.{Fine}
 use Rattle.gates.proofs.Laws.{few_pins}
 use Rattle.circuit.specs.Record.{lines_of, kind_at, out_at, pin_at}
 use Rattle.circuit.specs.Promise.{circuit_rules}
@@ -29,6 +28,7 @@ use Rattle.unfolded.proofs.Fields.{unfolded_long, unfolded_kind, unfolded_out, u
 use Rattle.unfolded.proofs.Bytes.{Bytes}
 use Rattle.unfolded.proofs.Accepted.{layouts, out_bit}
 use Rattle.unfolded.proofs.Unique.{one_unfolding}
+use Rattle.std.specs.Prelude.{Ok}
 
 -- ---- it keeps to the words
 
@@ -45,7 +45,7 @@ record_bytes a b x y z p q (suc (suc (suc (suc (suc (suc zero)))))) = mod-lt z (
 record_bytes a b x y z p q (suc (suc (suc (suc (suc (suc (suc zero))))))) = mod-lt (z / 256) (omega arith)
 record_bytes a b x y z p q (suc (suc (suc (suc (suc (suc (suc (suc i)))))))) = omega arith
 
-module _ {c st : List ℕ} {k : ℕ} (fine : refusal (circuit_rules c) ≡ Fine) (steps : GoodSteps c st k) where
+module _ {c st : List ℕ} {k : ℕ} (fine : refusal (circuit_rules c) ≡ Ok tt) (steps : GoodSteps c st k) where
   abbrev u : List ℕ
   u = unfolded c st k
 

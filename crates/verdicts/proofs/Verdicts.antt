@@ -6,7 +6,7 @@ use mathlib.Core.List.{List, []}
 use Prim.Native.Nat.{ℕ, ◌+◌, ◌-◌, ◌^◌, ◌≤◌, ◌<◌}
 use native.Mathlib.Omega.{arith}
 use lib.ListN.{length, get_or}
-use Rattle.answers.specs.declared.Ruling.{Ruling}
+use Rattle.answers.specs.Rules.{Ruling}
 use Rattle.answers.specs.Rules.{refusal}
 use Rattle.answers.proofs.Rules.{both_fine}
 use Rattle.circuit.specs.Record.{lines_of, inputs_of}
@@ -25,22 +25,22 @@ use Rattle.nodes.specs.Walk.{Answers}
 use Rattle.nodes.proofs.Node.{start_is}
 use Rattle.nodes.proofs.Walk.{answers}
 use Rattle.nodes.proofs.Budget as budget
-use Rattle.search.specs.declared.Searched.TheVariants as searched
 use Rattle.search.specs.Promise.{search_rest_rules, search_rules, look, verdict_for, test_for, work_for, Searches}
 use Rattle.search.proofs.Says.{was_found}
 use Rattle.verdicts.specs.Meaning.{FaithfulLook}
 use Rattle.verdicts.specs.Told.{Tells, all_nodes, works}
 use Rattle.verdicts.proofs.Look.{means}
 use Rattle.verdicts.proofs.Meaning as meaning
+use Rattle.std.specs.Prelude.{Ok}
 
 -- a node of an accepted circuit and fault means what it says
-pub accepted_means : (c f : List ℕ) → refusal (circuit_rules c) ≡ Ruling.Fine → refusal (fault_rules 1 c f) ≡ Ruling.Fine → FaithfulLook (inputs_of c) (look c (fault_at f 0)) (Tells c (fault_at f 0))
+pub accepted_means : (c f : List ℕ) → refusal (circuit_rules c) ≡ Ok tt → refusal (fault_rules 1 c f) ≡ Ok tt → FaithfulLook (inputs_of c) (look c (fault_at f 0)) (Tells c (fault_at f 0))
 accepted_means c f circuit fault =
     let g = good_faults 1 c f fault in
     means (fault_at f 0) c (lines_of c) (g.faults 0 (omega (arith, g.records.some))).value (good c circuit).well
 
-module _ {c f : List ℕ} {b : ℕ} {t w : List ℕ} {v : Verdict} {t' w' : List ℕ} (p : Searches c f b t w (searched.Verdict v) t' w') where
-  fine : (refusal (search_rules c f (length t) (length w)) ≡ Ruling.Fine) × (v ≡ verdict_for c (fault_at f 0) b)
+module _ {c f : List ℕ} {b : ℕ} {t w : List ℕ} {v : Verdict} {t' w' : List ℕ} (p : Searches c f b t w (Ok v) t' w') where
+  fine : (refusal (search_rules c f (length t) (length w)) ≡ Ok tt) × (v ≡ verdict_for c (fault_at f 0) b)
   fine = was_found p.answer
 
   node_means : FaithfulLook (inputs_of c) (look c (fault_at f 0)) (Tells c (fault_at f 0))
@@ -119,7 +119,7 @@ module _ {c f : List ℕ} {b : ℕ} {t w : List ℕ} {v : Verdict} {t' w' : List
 
 -- a larger budget never changes a verdict, nor the test
 module _ {c f : List ℕ} {b b2 : ℕ} {t w t2 w2 : List ℕ} {v v2 : Verdict} {t' w' t2' w2' : List ℕ} (more : b ≤ b2)
-    (p : Searches c f b t w (searched.Verdict v) t' w') (q : Searches c f b2 t2 w2 (searched.Verdict v2) t2' w2') (d : Decided v) where
+    (p : Searches c f b t w (Ok v) t' w') (q : Searches c f b2 t2 w2 (Ok v2) t2' w2') (d : Decided v) where
   pub larger : v2 ≡ v
   larger = is q ∙ budget.larger (look c (fault_at f 0)) (start (inputs_of c)) b b2 more (subst Decided (is p) d) ∙ sym (is p)
 

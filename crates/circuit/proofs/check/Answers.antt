@@ -5,11 +5,11 @@ use Rattle.circuit.proofs.Answer.{checks, size_refused, line_refused, layout_fin
 use Rattle.circuit.proofs.check.Goals as goal
 
 pub returns-then-not-records_ok : goal.returns-then-not-records_ok
-returns-then-not-records_ok c = checks _ (size_refused _ (sym c.records_ok.ensures ∙ c.if-not-records_ok.true))
+returns-then-not-records_ok c = checks _ (sym (size_refused _ (sym c.records_ok.ensures ∙ c.if-not-records_ok.true)))
 
 pub returns-then-bad-n : goal.returns-then-bad-n
 returns-then-bad-n c =
-    checks _ (line_refused _ (sym c.records_ok.ensures ∙ c.if-not-records_ok.false) c.count_lines-counts.ensures c.if-bad-n.true)
+    checks _ (sym (line_refused _ (sym c.records_ok.ensures ∙ c.if-not-records_ok.false) c.count_lines-counts.ensures c.if-bad-n.true))
 
 pub returns : goal.returns
 returns c =

@@ -2,21 +2,21 @@
 -- Assumes nothing.
 use mathlib.Core.Path.{◌≡◌, sym, ◌∙◌}
 use lib.ListN.{length}
-use Rattle.answers.specs.declared.Ruling.TheVariants.{Fine}
 use Rattle.answers.specs.Rules.{refusal}
 use Rattle.search.specs.Promise.{search_rest_rules}
 use Rattle.answers.proofs.Answer.{refused_done}
 use Rattle.search.proofs.Answer.{fault_inside, runs, rest_fine}
 use Rattle.search.proofs.accepted.Goals as goal
+use Rattle.std.specs.Prelude.{Ok}
 
 pub read_fault-at-requires : goal.read_fault-at-requires
 read_fault-at-requires c =
-    let fine : refusal (search_rest_rules c.args.circuit.now c.args.fault.now c.args.inputs c.args.n (length c.args.test.now) (length c.args.work.now)) ≡ Fine = sym c.check_rest-v.ensures ∙ c.in-Fine.is in
+    let fine : refusal (search_rest_rules c.args.circuit.now c.args.fault.now c.args.inputs c.args.n (length c.args.test.now) (length c.args.work.now)) ≡ Ok tt = sym c.check_rest-v.ensures ∙ c.in-Fine.is in
     fault_inside _ _ _ _ _ _ fine
 
 pub run_all_x-found-requires : goal.run_all_x-found-requires
 run_all_x-found-requires c =
-    let fine : refusal (search_rest_rules c.args.circuit.now c.args.fault.now c.args.inputs c.args.n (length c.args.test.now) (length c.args.work.now)) ≡ Fine = sym c.check_rest-v.ensures ∙ c.in-Fine.is in
+    let fine : refusal (search_rest_rules c.args.circuit.now c.args.fault.now c.args.inputs c.args.n (length c.args.test.now) (length c.args.work.now)) ≡ Ok tt = sym c.check_rest-v.ensures ∙ c.in-Fine.is in
     runs _ _ _ _ _ _ fine c.read_fault-at.ensures c.requires
 
 pub returns-in-Refused : goal.returns-in-Refused
@@ -24,5 +24,5 @@ returns-in-Refused c = refused_done (sym c.check_rest-v.ensures ∙ c.in-Refused
 
 pub returns-in-Fine : goal.returns-in-Fine
 returns-in-Fine c =
-    let fine : refusal (search_rest_rules c.args.circuit.now c.args.fault.now c.args.inputs c.args.n (length c.args.test.now) (length c.args.work.now)) ≡ Fine = sym c.check_rest-v.ensures ∙ c.in-Fine.is in
+    let fine : refusal (search_rest_rules c.args.circuit.now c.args.fault.now c.args.inputs c.args.n (length c.args.test.now) (length c.args.work.now)) ≡ Ok tt = sym c.check_rest-v.ensures ∙ c.in-Fine.is in
     rest_fine fine c.read_fault-at.ensures c.requires c.run_all_x-found.ensures

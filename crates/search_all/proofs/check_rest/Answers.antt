@@ -1,16 +1,16 @@
 -- `search_all::check_rest` meets its contract: a refusal of the faults is handed on, else the sizes decide.
 -- Assumes nothing.
 use mathlib.Core.Path.{◌≡◌, sym, ◌∙◌}
-use Rattle.answers.specs.declared.Ruling.TheVariants.{Fine}
 use Rattle.answers.specs.Rules.{refusal}
 use Rattle.answers.proofs.Rules.{after_refused, after_fine}
 use Rattle.lists.specs.Faults.{fault_rules}
 use Rattle.lists.proofs.Faults.{good_faults}
 use Rattle.search_all.proofs.check_rest.Goals as goal
+use Rattle.std.specs.Prelude.{Ok}
 
 pub check_sizes-requires : goal.check_sizes-requires
 check_sizes-requires c =
-    let fine : refusal (fault_rules 256 c.args.circuit.now c.args.faults.now) ≡ Fine = sym c.check_faults-v.ensures ∙ c.in-Fine.is in
+    let fine : refusal (fault_rules 256 c.args.circuit.now c.args.faults.now) ≡ Ok tt = sym c.check_faults-v.ensures ∙ c.in-Fine.is in
     let good = c.requires.good in
     let g = good_faults 256 c.args.circuit.now c.args.faults.now fine in (
       g.records.few,
@@ -23,5 +23,5 @@ returns-in-Refused c = sym (after_refused (fault_rules 256 _ _) _ (sym c.check_f
 
 pub returns-in-Fine : goal.returns-in-Fine
 returns-in-Fine c =
-    let fine : refusal (fault_rules 256 c.args.circuit.now c.args.faults.now) ≡ Fine = sym c.check_faults-v.ensures ∙ c.in-Fine.is in
+    let fine : refusal (fault_rules 256 c.args.circuit.now c.args.faults.now) ≡ Ok tt = sym c.check_faults-v.ensures ∙ c.in-Fine.is in
     c.check_sizes.ensures ∙ sym (after_fine (fault_rules 256 _ _) _ fine)

@@ -3,22 +3,22 @@
 use mathlib.Core.Path.{◌≡◌, sym, ◌∙◌}
 use native.Mathlib.Omega.{arith}
 use lib.ListN.{length}
-use Rattle.answers.specs.declared.Ruling.TheVariants.{Fine}
 use Rattle.answers.specs.Rules.{refusal}
 use Rattle.answers.proofs.Answer.{refused_done}
 use Rattle.search.specs.Promise.{search_rest_rules}
 use Rattle.search.proofs.Answer.{fault_inside, runs}
 use Rattle.search_heads.proofs.Answer.{rest_fine}
 use Rattle.search_heads.proofs.accepted.Goals as goal
+use Rattle.std.specs.Prelude.{Ok}
 
 pub read_fault-at-requires : goal.read_fault-at-requires
 read_fault-at-requires c =
-    let fine : refusal (search_rest_rules c.args.circuit.now c.args.fault.now c.args.inputs c.args.n (length c.args.test.now) (length c.args.work.now)) ≡ Fine = sym c.check_rest-v.ensures ∙ c.in-Fine.is in
+    let fine : refusal (search_rest_rules c.args.circuit.now c.args.fault.now c.args.inputs c.args.n (length c.args.test.now) (length c.args.work.now)) ≡ Ok tt = sym c.check_rest-v.ensures ∙ c.in-Fine.is in
     fault_inside _ _ _ _ _ _ fine
 
 pub run_sized-found-requires : goal.run_sized-found-requires
 run_sized-found-requires c =
-    let fine : refusal (search_rest_rules c.args.circuit.now c.args.fault.now c.args.inputs c.args.n (length c.args.test.now) (length c.args.work.now)) ≡ Fine = sym c.check_rest-v.ensures ∙ c.in-Fine.is in
+    let fine : refusal (search_rest_rules c.args.circuit.now c.args.fault.now c.args.inputs c.args.n (length c.args.test.now) (length c.args.work.now)) ≡ Ok tt = sym c.check_rest-v.ensures ∙ c.in-Fine.is in
     (omega (arith, c.requires.lines, c.requires.good.most_lines), record { known = c.requires; run = (runs _ _ _ _ _ _ fine c.read_fault-at.ensures c.requires).1 })
 
 pub returns-in-Refused : goal.returns-in-Refused
@@ -26,5 +26,5 @@ returns-in-Refused c = refused_done (sym c.check_rest-v.ensures ∙ c.in-Refused
 
 pub returns-in-Fine : goal.returns-in-Fine
 returns-in-Fine c =
-    let fine : refusal (search_rest_rules c.args.circuit.now c.args.fault.now c.args.inputs c.args.n (length c.args.test.now) (length c.args.work.now)) ≡ Fine = sym c.check_rest-v.ensures ∙ c.in-Fine.is in
+    let fine : refusal (search_rest_rules c.args.circuit.now c.args.fault.now c.args.inputs c.args.n (length c.args.test.now) (length c.args.work.now)) ≡ Ok tt = sym c.check_rest-v.ensures ∙ c.in-Fine.is in
     rest_fine fine c.read_fault-at.ensures c.run_sized-found.ensures
