@@ -4,13 +4,14 @@
 use mathlib.Core.Path.{◌≡◌, refl, sym, ap, ◌∙◌}
 use mathlib.Core.List.{List, ◌++◌}
 use Prim.Native.Nat.{ℕ}
+use Rattle.std.proofs.lemmas.Result.{err_from_is_err_and}
 use Rattle.answers.specs.Rules.{Ruling}
 use Rattle.answers.specs.Rules.{Rule, refusal, Applies, AllSay, unless}
 use Rattle.answers.specs.Area.{Numbers, in_numbers, told}
 use Rattle.answers.specs.Answer.{answered}
 use Rattle.answers.specs.Owed.{RulesDone}
 use Rattle.answers.proofs.Rules.{applies, refused, after_refused, after_fine}
-use Rattle.std.specs.Prelude.{Ok, Err, Result}
+use Rattle.std.specs.Prelude.{IsErrAnd, Ok, Err, Result}
 use Rattle.answers.specs.declared.Refusal.{Refusal}
 use Rattle.answers.specs.declared.Reason.{Reason}
 
@@ -42,6 +43,10 @@ module _ {A : Type 0} (good : A) where
     pub applies_refused : Applies rules reason place → r ≡ Err (reason, place)
     applies_refused a = is ∙ ap (λ (v : Ruling). answered v good) (refused rules says reason place a)
 
+-- a refusal that `?` hands on is the one that it was given
+pub handed_on : {A : Type 0} {r : Result A Refusal} {why : Refusal} → IsErrAnd r (λ e. e ≡ why) → r ≡ Err why
+handed_on {r = r} h = let p = err_from_is_err_and r h in p.1 ∙ ap Err p.2
+
 -- a ruling is an answer too
 pub ruling_is : (v : Ruling) → answered v tt ≡ v
 ruling_is (Ok u) = refl
@@ -51,7 +56,7 @@ ruling_is (Err why) = refl
 
 module _ {A M : Type 0} {good : A} {m new : M} where
   -- a refusal is the answer, and leaves the memory
-  pub refused_done : {rules : List Rule} {reason : Reason} {place : ℕ} → refusal rules ≡ Err (reason, place) → RulesDone rules good m new (Err (reason, place)) m
+  pub refused_done : {rules : List Rule} {why : Refusal} → refusal rules ≡ Err why → RulesDone rules good m new (Err why) m
   refused_done e = record { answer = rw e; memory = rw e }
 
   -- where there is none, the good case is, with the new memory
@@ -59,7 +64,7 @@ module _ {A M : Type 0} {good : A} {m new : M} where
   fine_done e is new_is = record { answer = rw e is; memory = rw e new_is }
 
   -- a refusal ends it; where there is none, the rules after it decide
-  pub first_refused : (rules more : List Rule) {reason : Reason} {place : ℕ} → refusal rules ≡ Err (reason, place) → RulesDone (rules ++ more) good m new (Err (reason, place)) m
+  pub first_refused : (rules more : List Rule) {why : Refusal} → refusal rules ≡ Err why → RulesDone (rules ++ more) good m new (Err why) m
   first_refused rules more e = refused_done (after_refused rules more e)
 
   pub first_fine : (rules more : List Rule) {r : Result A Refusal} {m' : M} → refusal rules ≡ Ok tt → RulesDone more good m new r m' → RulesDone (rules ++ more) good m new r m'

@@ -147,7 +147,7 @@ in_order (r ∷ rules) more = go (said r) (in_order rules more)
     go (Ok u) ih = ih
     go (Err why) ih = refl
 
-pub after_refused : (rules more : List Rule) {m : Reason} {k : ℕ} → refusal rules ≡ Err (m, k) → refusal (rules ++ more) ≡ Err (m, k)
+pub after_refused : (rules more : List Rule) {why : Refusal} → refusal rules ≡ Err why → refusal (rules ++ more) ≡ Err why
 after_refused rules more e = in_order rules more ∙ rw e
 
 pub after_fine : (rules more : List Rule) → refusal rules ≡ Ok tt → refusal (rules ++ more) ≡ refusal more

@@ -57,7 +57,7 @@ module _ {F P : ℕ} {t m : List ℕ} where
     numbers = ap audited_numbers e ∙ numbers-told audited_numbers (λ n k. refl) (refusal (kept_rules F P t m)) (Ok (finding_of (entries_of F t) F P m));
   }
 
-  pub marks_refused : {reason : Reason} {place : ℕ} → refusal (kept_rules F P t m) ≡ Err (reason, place) → Audits F P t m (Err (reason, place))
+  pub marks_refused : {why : Refusal} → refusal (kept_rules F P t m) ≡ Err why → Audits F P t m (Err why)
   marks_refused e = audits (rw e)
 
   pub marks_fine : {x : Finding} → refusal (kept_rules F P t m) ≡ Ok tt → x ≡ finding_of (entries_of F t) F P m → Audits F P t m (Ok x)

@@ -32,7 +32,7 @@ use Rattle.answers.specs.declared.Reason.{Reason}
 
 -- where something is refused, no place is written
 pub unplaced : {t ws es fs defs numbers : List ℕ} {inputs : ℕ} → DefsKnown t ws es fs inputs defs numbers
-    → {order c c' p : List ℕ} {r : Result ℕ Refusal} {reason : Reason} {place : ℕ} → UsesDone t order c c' r → r ≡ Err (reason, place) → TextDone t p p c c' (Err (reason, place))
+    → {order c c' p : List ℕ} {r : Result ℕ Refusal} {why : Refusal} → UsesDone t order c c' r → r ≡ Err why → TextDone t p p c c' (Err why)
 unplaced {t} u {c = c} {c'} {number = number} {place} o e =
     let refused : refusal (text_rules t (length c)) ≡ Err (reason, place) = was_ruled (ruled _) o.done.answer (ap ruling_of e) in
     let same : c' ≡ c = rw refused at o.done.memory in

@@ -46,7 +46,7 @@ module _ (t : List ℕ) {f f' c c' : List ℕ} {v : Result ℕ Refusal} (size : 
   answer_is = d.answer ∙ ap (λ (n : ℕ). answered (refusal (bench_rules t n)) (lines_of (records_in t))) size
 
   -- it refuses
-  pub names_refused : {p : List ℕ} {reason : Reason} {place : ℕ} → v ≡ Err (reason, place) → TellsNames t p p (Err (reason, place))
+  pub names_refused : {p : List ℕ} {why : Refusal} → v ≡ Err why → TellsNames t p p (Err why)
   names_refused e = names_done (first_refused (bench_rules t buffer_bytes) _ (was_ruled (ruled _) answer_is (ap ruling_of e)))
 
   -- it has found n places

@@ -20,7 +20,6 @@ use Rattle.circuit.proofs.Says.{circuit_says}
 use Rattle.circuit.proofs.FirstLine.{some-input}
 use Rattle.std.specs.Prelude.{Ok, Err, Result}
 use Rattle.answers.specs.declared.Refusal.{Refusal}
-use Rattle.answers.specs.declared.Reason.{Reason}
 
 -- a gate has a first pin, so its line is not the lowest, and a source that it lacks is lower too
 lower : (c : List ℕ) (k : ℕ) → Layout c k → (kind_at c k ≡ 0 → ⊥) → Lower c k
@@ -59,7 +58,7 @@ module _ {c : List ℕ} {r : Result Counts Refusal} where
       let so : counts_are n m o ≡ counts_are (lines_of c) (inputs_of c) (outputs_of c) = same_good (sym told ∙ p.answer ∙ rw q) in
       record { lines = ap (λ (a : Counts). a.lines) so; inputs = ap (λ (a : Counts). a.inputs) so; outputs = ap (λ (a : Counts). a.outputs) so; fine = q; good = good c q }
 
-  pub refuses : {x : Reason} {y : ℕ} → r ≡ Err (x, y) → Checks c r → refusal (circuit_rules c) ≡ Err (x, y)
+  pub refuses : {why : Refusal} → r ≡ Err why → Checks c r → refusal (circuit_rules c) ≡ Err why
   refuses told p = was p ∙ ap ruling_of told
 
 -- where the number of outputs does not matter

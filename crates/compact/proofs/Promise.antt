@@ -14,6 +14,7 @@ use Rattle.needs.proofs.Sound.{compacted_so, compacted_sound, none_detected}
 use Rattle.compact.specs.Promise.{Compacts}
 use Rattle.std.specs.Prelude.{Ok, Err}
 use Rattle.answers.specs.declared.Reason.{Reason}
+use Rattle.answers.specs.declared.Refusal.{Refusal}
 
 module _ {F P : ℕ} {t m : List ℕ} where
   -- two results that the promise allows are equal
@@ -21,7 +22,7 @@ module _ {F P : ℕ} {t m : List ℕ} where
   one_result p q = (p.answer ∙ sym q.answer, p.marks ∙ sym q.marks)
 
   -- a refusal writes nothing
-  pub refused_leaves : {n : Reason} {k : ℕ} {m' : List ℕ} → Compacts F P t m (Err (n, k)) m' → m' ≡ m
+  pub refused_leaves : {why : Refusal} {m' : List ℕ} → Compacts F P t m (Err why) m' → m' ≡ m
   refused_leaves so = so.marks ∙ rw (← so.answer)
 
   module _ {m' : List ℕ} (so : Compacts F P t m (Ok tt) m') where
@@ -42,7 +43,7 @@ module _ {F P : ℕ} {t m : List ℕ} where
 
   -- ---- as the code comes to it
 
-  pub refused : {n : Reason} {k : ℕ} → refusal (kept_rules F P t m) ≡ Err (n, k) → Compacts F P t m (Err (n, k)) m
+  pub refused : {why : Refusal} → refusal (kept_rules F P t m) ≡ Err why → Compacts F P t m (Err why) m
   refused e = record { answer = sym e; numbers = rw e; marks = rw e }
 
   pub marked : {m' : List ℕ} → refusal (kept_rules F P t m) ≡ Ok tt → m' ≡ compacted (entries_of F t) F P → Compacts F P t m (Ok tt) m'

@@ -35,7 +35,7 @@ ready {ps = ps} k = record {
 
 module _ {places : ℕ} {left c fs ps t w : List ℕ} where
   -- a refusal is the answer, and leaves both memories
-  pub refused_answer : {v : Result Counts Refusal} {x : Reason} {y : ℕ} → AllChecked places c fs ps (length t) (length w) v → v ≡ Err (x, y) → Answered places left c fs ps t w (Err (x, y)) t w
+  pub refused_answer : {v : Result Counts Refusal} {why : Refusal} → AllChecked places c fs ps (length t) (length w) v → v ≡ Err why → Answered places left c fs ps t w (Err why) t w
   refused_answer p told = let e = all_refuses p told in record { answer = rw e; numbers = rw e; table = rw e; work = rw e }
 
   -- where there is none, the table is made

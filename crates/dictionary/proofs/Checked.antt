@@ -80,11 +80,11 @@ module _ (places : ℕ) (c fs ps : List ℕ) (table work : ℕ) where
 -- ---- the answer of the checks
 
 module _ {places : ℕ} {c fs ps : List ℕ} {table work : ℕ} where
-  pub circuit_refused : {x : Reason} {y : ℕ} → refusal (circuit_rules c) ≡ Err (x, y) → AllChecked places c fs ps table work (Err (x, y))
+  pub circuit_refused : {why : Refusal} → refusal (circuit_rules c) ≡ Err why → AllChecked places c fs ps table work (Err why)
   circuit_refused e = record { answer = rw (after_refused (circuit_rules c) (dictionary_rest_rules (places * lines_of c) c (inputs_of c) fs ps table work) e) }
 
   module _ {n m o : ℕ} (k : Accepts c n m o) where
-    pub rest_refused : {x : Reason} {y : ℕ} → refusal (dictionary_rest_rules (places * n) c m fs ps table work) ≡ Err (x, y) → AllChecked places c fs ps table work (Err (x, y))
+    pub rest_refused : {why : Refusal} → refusal (dictionary_rest_rules (places * n) c m fs ps table work) ≡ Err why → AllChecked places c fs ps table work (Err why)
     rest_refused e = record { answer = rw (rest_decides places c fs ps table work k ∙ e) }
 
     pub all_fine : refusal (dictionary_rest_rules (places * n) c m fs ps table work) ≡ Ok tt → AllChecked places c fs ps table work (Ok (counts_are n m o))
@@ -94,7 +94,7 @@ module _ {places : ℕ} {c fs ps : List ℕ} {table work : ℕ} where
     was : refusal (dictionary_rules places c fs ps table work) ≡ ruling_of r
     was = was_ruled (ruled (lines_of c) (inputs_of c) (outputs_of c)) p.answer refl
 
-    pub all_refuses : {x : Reason} {y : ℕ} → r ≡ Err (x, y) → refusal (dictionary_rules places c fs ps table work) ≡ Err (x, y)
+    pub all_refuses : {why : Refusal} → r ≡ Err why → refusal (dictionary_rules places c fs ps table work) ≡ Err why
     all_refuses told = was ∙ ap ruling_of told
 
     pub all_accepts : {n m o : ℕ} → r ≡ Ok (counts_are n m o) → Taken places c fs ps table work × (n ≡ lines_of c) × (m ≡ inputs_of c)

@@ -59,13 +59,13 @@ module _ {t c c' : List ℕ} where
         ∙ given_by_lem t (ap (λ (n : ℕ). refusal (bench_rules t n)) e ∙ accepted t a)
         ∙ ap Ok (lines_are t)
 
-    given : {m : Reason} {k : ℕ} → refusal (bench_rules t (length c)) ≡ Err (m, k) → r ≡ Err (m, k)
+    given : {why : Refusal} → refusal (bench_rules t (length c)) ≡ Err why → r ≡ Err why
     unfolding read_of
     given e = p.answer ∙ given_by_lem t e
 
     -- without 14 or 15, 16 is given exactly if the text has a cycle
     module _ (a : (k : ℕ) → r ≡ Err (BenchSyntax, k) → ⊥) (b : (k : ℕ) → r ≡ Err (BenchName, k) → ⊥) where
-      refused : {m : Reason} {k : ℕ} → r ≡ Err (m, k) → refusal (bench_rules t (length c)) ≡ Err (m, k)
+      refused : {why : Refusal} → r ≡ Err why → refusal (bench_rules t (length c)) ≡ Err why
       unfolding read_of
       refused e = was_ruled (ruled (lines_of (records_in t))) p.answer (ap ruling_of e)
 

@@ -3,7 +3,6 @@
 use mathlib.Core.Path.{◌≡◌}
 use mathlib.Core.List.{List}
 use Prim.Native.Nat.{ℕ, ◌≤◌}
-use Rattle.answers.specs.Rules.{Ruling}
 use Rattle.answers.specs.Rules.{refusal, AllSay}
 use Rattle.answers.proofs.Rules.{both_fine, both_say}
 use Rattle.lists.specs.Faults.{fault_count, fault_rules, GoodFaults}

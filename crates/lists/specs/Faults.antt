@@ -8,7 +8,7 @@ use Rattle.gates.specs.Gate.{pins_of}
 use Rattle.little.specs.Little.{pair_at}
 use Rattle.circuit.specs.Record.{lines_of, kind_at}
 use Rattle.lists.specs.declared.Fault.{Fault}
-use Rattle.answers.specs.declared.Reason.TheVariants.{FaultsSize, FaultLayout}
+use Rattle.answers.specs.declared.Reason.TheVariants as reason
 
 abbrev pub fault_count : List ℕ → ℕ
 fault_count fs = length fs / 8
@@ -48,8 +48,8 @@ pub record FaultLayout (c fs : List ℕ) (j : ℕ) : Type 0 where
 -- at most so many faults: 256, or 1 for search and clauses
 unfoldable pub fault_rules : ℕ → List ℕ → List ℕ → List Rule
 fault_rules most c fs =
-    whole FaultsSize (records_ok 8 most (length fs)) (Records 8 most (length fs)) 0
-    ∷ each FaultLayout (fault_count fs) (fault_ok c fs) (FaultLayout c fs)
+    whole reason.FaultsSize (records_ok 8 most (length fs)) (Records 8 most (length fs)) 0
+    ∷ each reason.FaultLayout (fault_count fs) (fault_ok c fs) (FaultLayout c fs)
     ∷ []
 
 -- what a list is that is not refused

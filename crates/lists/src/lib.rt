@@ -104,7 +104,12 @@ pub fn check_patterns(patterns: &[u8], inputs: usize) -> Result<(), Refusal>
 }
 
 // Refusals 6 to 9: the faults, then the patterns.
-pub fn check_lists(circuit: &[u8], inputs: usize, faults: &[u8], patterns: &[u8]) -> Result<(), Refusal>
+pub fn check_lists(
+    circuit: &[u8],
+    inputs: usize,
+    faults: &[u8],
+    patterns: &[u8],
+) -> Result<(), Refusal>
     requires { 0 < inputs }
     ensures { result ≡ refusal (list_rules circuit.now inputs faults.now patterns.now) }
 {

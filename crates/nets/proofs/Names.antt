@@ -91,7 +91,7 @@ module _ {t : List ℕ} {n : NamedNet} (p : ReadNamesReady t n) where
     firsts_long = ap length q.firsts_are ∙ length-map n.firsts (name_number t n.defs n.numbers)
 
     -- one is wrong, and nothing finds its order
-    pub unnamed : {order c : List ℕ} {reason : Reason} {place : ℕ} → v ≡ Err (reason, place) → NamesDone t n order c c (Err (reason, place))
+    pub unnamed : {order c : List ℕ} {why : Refusal} → v ≡ Err why → NamesDone t n order c c (Err why)
     unnamed e =
         let names = name_rules t n.defs (uses_of n) in
         let refused = sym q.ruling ∙ e in

@@ -50,7 +50,7 @@ in_order net q room e = q.order_is (q.ruling ∙ (both_fine (cycle_rules net.fir
 
 module _ {net : Net} {order : List ℕ} {v : Ruling} (q : ArrangeDone net.firsts net.seconds order v) where
   -- where some gate can't be placed
-  pub unordered : {c : List ℕ} {reason : Reason} {place : ℕ} → v ≡ Err (reason, place) → NetDone net order c c (Err (reason, place))
+  pub unordered : {c : List ℕ} {why : Refusal} → v ≡ Err why → NetDone net order c c (Err why)
   unordered e = record { done = first_refused _ _ (sym q.ruling ∙ e); order_is = in_order net q _ }
 
   -- and where all are

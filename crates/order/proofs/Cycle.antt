@@ -25,6 +25,7 @@ use Rattle.order.proofs.Says.{LowestLeft, gate_says, all_placed, refused_left}
 use Rattle.std.specs.Prelude.{Ok, Err}
 use Rattle.answers.specs.declared.Reason.{Reason}
 use Rattle.answers.specs.declared.Reason.TheVariants.{BenchCycle}
+use Rattle.answers.specs.declared.Refusal.{Refusal}
 
 -- ---- from a gate that is placed every way leads to gates placed before it
 
@@ -117,7 +118,7 @@ module _ (a b : List ℕ) where
       go (Err why) e = (why.1, ap (λ (n : ℕ). Err (n, why.1)) (refused_left a b e).number)
 
   -- and nothing else is refused
-  pub refused_cycle : {m : Reason} {k : ℕ} → refusal (cycle_rules a b) ≡ Err (m, k) → Cycle a b
+  pub refused_cycle : {why : Refusal} → refusal (cycle_rules a b) ≡ Err why → Cycle a b
   refused_cycle {m} {k} e = left_cycle a b (order_of a b) (order_placed a b) k w.inside (go (elem (order_of a b) k) refl)
     where
       w : LowestLeft a b m k

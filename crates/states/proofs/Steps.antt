@@ -62,7 +62,7 @@ module _ (c st : List ℕ) (k : ℕ) where
     steps_refused e = rw e
 
     module _ (some : steps_ok k ≡ true) where
-      pub states_refused : {x : Reason} {y : ℕ} → refusal (state_rules c st) ≡ Err (x, y) → Err (x, y) ≡ clocked_by (step_rules c st k) n m
+      pub states_refused : {why : Refusal} → refusal (state_rules c st) ≡ Err why → Err why ≡ clocked_by (step_rules c st k) n m
       states_refused e = rw (later_decide some ∙ after_refused (state_rules c st) (after_rules (lines_after c k) (inputs_after c st k)) e)
 
       -- where n lines have m inputs, and so many of them are free
@@ -77,7 +77,7 @@ module _ (c st : List ℕ) (k : ℕ) where
 -- ---- the circuit before them
 
 module _ {c st : List ℕ} {k : ℕ} where
-  pub circuit_refused : {x : Reason} {y : ℕ} → refusal (circuit_rules c) ≡ Err (x, y) → ClockedChecked c st k (Err (x, y))
+  pub circuit_refused : {why : Refusal} → refusal (circuit_rules c) ≡ Err why → ClockedChecked c st k (Err why)
   circuit_refused e = record { answer = rw (after_refused (circuit_rules c) (step_rules c st k) e) }
 
   pub steps_decide : {n m o : ℕ} {r : Result Clocked Refusal} → Accepts c n m o → r ≡ clocked_by (step_rules c st k) n (inputs_after c st k) → ClockedChecked c st k r
@@ -108,7 +108,7 @@ module _ {c st : List ℕ} {k : ℕ} {r : Result Clocked Refusal} (p : ClockedCh
   was : refusal (clocked_rules c st k) ≡ ruling_of r
   was = was_ruled (ruled (lines_of c) (inputs_after c st k)) p.answer refl
 
-  pub clocked_refuses : {x : Reason} {y : ℕ} → r ≡ Err (x, y) → refusal (clocked_rules c st k) ≡ Err (x, y)
+  pub clocked_refuses : {why : Refusal} → r ≡ Err why → refusal (clocked_rules c st k) ≡ Err why
   clocked_refuses told = was ∙ ap ruling_of told
 
   pub clocked_accepts : {n m : ℕ} → r ≡ Ok (clocked_are n m) → ClockedTaken c st k × (n ≡ lines_of c) × (m ≡ inputs_after c st k)

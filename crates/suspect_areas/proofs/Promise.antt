@@ -32,7 +32,7 @@ still_opened {s} {s'} q o p = rw p.state (go (refusal (report_rules s q.faults q
     go (Err why) = o
 
 module _ (a : List ℕ) (q : Report) where
-  pub area_refused : {reason : Reason} {place : ℕ} → refusal (area_rules a) ≡ Err (reason, place) → ReportsArea a q (Err (reason, place)) a
+  pub area_refused : {why : Refusal} → refusal (area_rules a) ≡ Err why → ReportsArea a q (Err why) a
   area_refused e = is_refused (after_refused (area_rules a) _ e)
 
   pub area_reported : {s s' : Suspects} {r : Result ℕ Refusal} {a' : List ℕ} → refusal (area_rules a) ≡ Ok tt → s ≡ state_in a → Reports s q r s' → a' ≡ bytes_of s' → ReportsArea a q r a'
@@ -73,7 +73,7 @@ module _ {a m : List ℕ} where
 
 -- ---- as the code comes to it
 
-pub reading_refused : (a m : List ℕ) {reason : Reason} {place : ℕ} → refusal (marks_area_rules a m) ≡ Err (reason, place) → ReadsMarks a m (Err (reason, place)) m
+pub reading_refused : (a m : List ℕ) {why : Refusal} → refusal (marks_area_rules a m) ≡ Err why → ReadsMarks a m (Err why) m
 unfolding marked_numbers
 reading_refused a m e = record { answer = rw e; numbers = rw e; marks = rw e }
 

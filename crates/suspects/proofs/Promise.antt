@@ -20,7 +20,7 @@ module _ {M : Type 0} {rules : List Rule} {m new : M} {n : ℕ} where
 
   -- ---- as the code comes to it
 
-  pub is_refused : {reason : Reason} {place : ℕ} → refusal rules ≡ Err (reason, place) → Becomes rules m new n (Err (reason, place)) m
+  pub is_refused : {why : Refusal} → refusal rules ≡ Err why → Becomes rules m new n (Err why) m
   unfolding narrowed_numbers
   is_refused e = record { answer = rw e; numbers = rw e; state = rw e }
 

@@ -33,7 +33,7 @@ module _ {M : Type 0} {rules : List Rule} {s new s' : M} {n : ℕ} {r : Result �
       let fine = was_ruled (ruled n) p.answer (ap ruling_of e) in
       (fine, p.state ∙ ap (λ (v : Ruling). unless v s new) fine)
 
-  pub was_refused : {reason : Reason} {place : ℕ} → r ≡ Err (reason, place) → s' ≡ s
+  pub was_refused : {why : Refusal} → r ≡ Err why → s' ≡ s
   was_refused {number} {place} e =
       let is : refusal rules ≡ Err (reason, place) = was_ruled (ruled n) p.answer (ap ruling_of e) in
       p.state ∙ ap (λ (v : Ruling). unless v s new) is

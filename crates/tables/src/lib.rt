@@ -61,7 +61,12 @@ fn check_size(pattern_count: u64, marks: &[u8]) -> Result<(), Refusal>
 }
 
 // What the rules of a table and its marks say: refusals 12 and 13, then 10.
-pub fn check_marks(fault_count: u64, pattern_count: u64, table: &[u8], marks: &[u8]) -> Result<(), Refusal>
+pub fn check_marks(
+    fault_count: u64,
+    pattern_count: u64,
+    table: &[u8],
+    marks: &[u8],
+) -> Result<(), Refusal>
     ensures { result ≡ refusal (kept_rules fault_count pattern_count table.now marks.now) }
 {
     check_table(fault_count, pattern_count, table)?;

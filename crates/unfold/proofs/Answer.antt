@@ -77,7 +77,7 @@ module _ {c st : List ℕ} {k : ℕ} {u : List ℕ} where
 
   module _ {v : Result Clocked Refusal} (p : ClockedChecked c st k v) where
     -- a refusal is the answer, and leaves the buffer
-    pub refused_answer : {x : Reason} {y : ℕ} → v ≡ Err (x, y) → UnfoldingMade c st k u (Err (x, y)) u
+    pub refused_answer : {why : Refusal} → v ≡ Err why → UnfoldingMade c st k u (Err why) u
     refused_answer told = by_rules (first_refused (clocked_rules c st k) (unfold_room_rules c k (length u)) (clocked_refuses p told))
 
     -- where there is none, the buffer's size decides

@@ -77,11 +77,11 @@ decides : (c st : List ℕ) (k : ℕ) (fs ps : List ℕ) (table work : ℕ) {n m
 decides c st k fs ps table work t lines inputs = rw (lines, inputs) (after_fine (clocked_rules c st k) _ t.fine)
 
 module _ {c st : List ℕ} {k : ℕ} {fs ps : List ℕ} {table work : ℕ} where
-  pub clocked_refused : {x : Reason} {y : ℕ} → refusal (clocked_rules c st k) ≡ Err (x, y) → StepsChecked c st k fs ps table work (Err (x, y))
+  pub clocked_refused : {why : Refusal} → refusal (clocked_rules c st k) ≡ Err why → StepsChecked c st k fs ps table work (Err why)
   clocked_refused e = record { answer = rw (after_refused (clocked_rules c st k) (rest_rules c st k fs ps table work) e) }
 
   module _ (t : ClockedTaken c st k) {n m : ℕ} (lines : n ≡ lines_of c) (inputs : m ≡ inputs_after c st k) where
-    pub rest_refused : {x : Reason} {y : ℕ} → refusal (dictionary_rest_rules (2 * (k * n)) c m fs ps table work) ≡ Err (x, y) → StepsChecked c st k fs ps table work (Err (x, y))
+    pub rest_refused : {why : Refusal} → refusal (dictionary_rest_rules (2 * (k * n)) c m fs ps table work) ≡ Err why → StepsChecked c st k fs ps table work (Err why)
     rest_refused e = record { answer = rw (decides c st k fs ps table work t lines inputs ∙ e) }
 
     pub rest_fine : refusal (dictionary_rest_rules (2 * (k * n)) c m fs ps table work) ≡ Ok tt → StepsChecked c st k fs ps table work (Ok (clocked_are n m))
@@ -91,7 +91,7 @@ module _ {c st : List ℕ} {k : ℕ} {fs ps : List ℕ} {table work : ℕ} where
     was : refusal (steps_dictionary_rules c st k fs ps table work) ≡ ruling_of r
     was = was_ruled (ruled (lines_of c) (inputs_after c st k)) p.answer refl
 
-    pub steps_refuse : {x : Reason} {y : ℕ} → r ≡ Err (x, y) → refusal (steps_dictionary_rules c st k fs ps table work) ≡ Err (x, y)
+    pub steps_refuse : {why : Refusal} → r ≡ Err why → refusal (steps_dictionary_rules c st k fs ps table work) ≡ Err why
     steps_refuse told = was ∙ ap ruling_of told
 
     pub steps_accept : {n m : ℕ} → r ≡ Ok (clocked_are n m) → (refusal (steps_dictionary_rules c st k fs ps table work) ≡ Ok tt) × (n ≡ lines_of c) × (m ≡ inputs_after c st k)

@@ -52,7 +52,7 @@ module _ {c st : List ℕ} {n k m : ℕ} {fs ps : List ℕ} {table work : ℕ} (
 
 module _ {c st : List ℕ} {k : ℕ} {fs ps t w : List ℕ} where
   -- a refusal is the answer, and leaves both memories
-  pub refused_answer : {v : Result Clocked Refusal} {x : Reason} {y : ℕ} → StepsChecked c st k fs ps (length t) (length w) v → v ≡ Err (x, y) → StepsDictionary c st k fs ps t w (Err (x, y)) t w
+  pub refused_answer : {v : Result Clocked Refusal} {why : Refusal} → StepsChecked c st k fs ps (length t) (length w) v → v ≡ Err why → StepsDictionary c st k fs ps t w (Err why) t w
   refused_answer p told = let e = steps_refuse p told in record { answer = rw e; numbers = rw e; table = rw e; work = rw e }
 
   -- where there is none, the table is made
