@@ -13,7 +13,7 @@ ghost use Rattle.circuit.specs.Formed.{Accepts};
 ghost use Rattle.clauses.specs.Owed.{WholeReady, ClauseLinesReady, PutAllReady, FitDone, RestDone};
 
 use answers::{Reason, Refusal};
-use circuit::{Counts, check, equal};
+use circuit::{check, equal};
 use cnf::{Size, minus, plus, put_single};
 use line_clauses::{line_size, put_difference, put_faulty, put_good};
 use lists::{Fault, check_faults, read_fault};
@@ -165,6 +165,6 @@ fn accepted(circuit: &[u8], fault: &[u8], n: usize, outputs: usize, words: &mut 
 pub fn clauses(circuit: &[u8], fault: &[u8], words: &mut [i32]) -> Result<Written, Refusal>
     ensures { Writes circuit.now fault.now words.old words.new result }
 {
-    let Counts { lines: n, outputs, .. } = check(circuit)?;
-    accepted(circuit, fault, n, outputs, words)
+    let counts = check(circuit)?;
+    accepted(circuit, fault, counts.lines, counts.outputs, words)
 }

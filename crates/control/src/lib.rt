@@ -10,7 +10,7 @@ ghost use Rattle.control.specs.Owed.{gate_at, LineReady, GateReady, FillReady, R
 
 use answers::{Refusal, check_lent};
 use chances::{Chances, certain, floor_chances, gate_chances, select};
-use circuit::{Counts, check, source};
+use circuit::{check, source};
 use gates::SELECTOR;
 use halves::{share, times};
 use reads::count_reads;
@@ -120,6 +120,6 @@ fn accepted(circuit: &[u8], n: usize, inputs: usize, ones: &mut [f64], zeros: &m
 pub fn control(circuit: &[u8], ones: &mut [f64], zeros: &mut [f64]) -> Result<(), Refusal>
     ensures { Controls circuit.now ones.old zeros.old result ones.new zeros.new }
 {
-    let Counts { lines: n, inputs, .. } = check(circuit)?;
-    accepted(circuit, n, inputs, ones, zeros)
+    let counts = check(circuit)?;
+    accepted(circuit, counts.lines, counts.inputs, ones, zeros)
 }

@@ -92,7 +92,7 @@ module _ {places : ℕ} {c fs ps : List ℕ} {table work : ℕ} where
 
   module _ {r : Result Counts Refusal} (p : AllChecked places c fs ps table work r) where
     was : refusal (dictionary_rules places c fs ps table work) ≡ ruling_of r
-    was = was_ruled (ruled (lines_of c) (inputs_of c) (outputs_of c)) p.answer refl
+    was = was_ruled _ p.answer refl
 
     pub all_refuses : {why : Refusal} → r ≡ Err why → refusal (dictionary_rules places c fs ps table work) ≡ Err why
     all_refuses told = was ∙ ap ruling_of told

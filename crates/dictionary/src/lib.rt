@@ -42,9 +42,9 @@ pub fn check_all(
     requires { places ≤ 4 }
     ensures { AllChecked places circuit.now faults.now patterns.now table work result }
 {
-    let Counts { lines: n, inputs, outputs } = check(circuit)?;
-    check_rest(circuit, inputs, faults, patterns, table, places * n, work)?;
-    Ok(Counts { lines: n, inputs, outputs })
+    let counts = check(circuit)?;
+    check_rest(circuit, counts.inputs, faults, patterns, table, places * counts.lines, work)?;
+    Ok(counts)
 }
 
 // Part 2: fills the table, or gives the first refusal and writes nothing.
@@ -57,7 +57,7 @@ pub fn dictionary(
 ) -> Result<(), Refusal>
     ensures { Dictionary circuit.now faults.now patterns.now table.old work.old result table.new work.new }
 {
-    let Counts { lines: n, inputs, .. } = check_all(circuit, faults, patterns, table.len(), 2, work.len())?;
-    fill_table(circuit, n, inputs, faults, patterns, table, work);
+    let counts = check_all(circuit, faults, patterns, table.len(), 2, work.len())?;
+    fill_table(circuit, counts.lines, counts.inputs, faults, patterns, table, work);
     Ok(())
 }

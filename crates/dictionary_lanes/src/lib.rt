@@ -4,7 +4,6 @@
 ghost use Rattle.dictionary_lanes.specs.Promise.{DictionaryLanes};
 
 use answers::Refusal;
-use circuit::Counts;
 use dictionary::check_all;
 use groups::fill_groups;
 
@@ -18,7 +17,7 @@ pub fn dictionary_lanes(
 ) -> Result<(), Refusal>
     ensures { DictionaryLanes circuit.now faults.now patterns.now table.old work.old result table.new work.new }
 {
-    let Counts { lines: n, inputs, .. } = check_all(circuit, faults, patterns, table.len(), 4, work.len())?;
-    fill_groups(circuit, n, inputs, faults, patterns, table, work);
+    let counts = check_all(circuit, faults, patterns, table.len(), 4, work.len())?;
+    fill_groups(circuit, counts.lines, counts.inputs, faults, patterns, table, work);
     Ok(())
 }

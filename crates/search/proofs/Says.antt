@@ -10,7 +10,6 @@ use Rattle.answers.specs.Answer.{answered}
 use Rattle.answers.proofs.Rules.{refused, both_say}
 use Rattle.answers.proofs.Lent.{lent_says}
 use Rattle.answers.proofs.Answer as answer
-use Rattle.answers.proofs.Answer.{Ruled}
 use Rattle.circuit.specs.Record.{lines_of, inputs_of}
 use Rattle.circuit.specs.Promise.{circuit_rules}
 use Rattle.circuit.proofs.Says.{circuit_says}
@@ -32,25 +31,17 @@ search_says c f test work = both_say (circuit_rules c) _ (circuit_says c) (rest_
 
 -- ---- the refusals in the paper's words
 
--- what was ruled, by the answer
-abbrev pub ruling_of : Result Verdict Refusal → Ruling
-ruling_of (Ok v) = Ok tt
-ruling_of (Err why) = Err why
-
-pub ruled : (v : Verdict) → Ruled ruling_of (Ok v)
-ruled v = record { refuses = λ x y. refl; accepts = refl }
-
 -- where a verdict is answered, nothing was refused, and it is the one that is due
 pub was_found : {r : Ruling} {v due : Verdict} → Ok v ≡ answered r due → (r ≡ Ok tt) × (v ≡ due)
 was_found {r} {v} {due} e =
-    let fine : r ≡ Ok tt = answer.was_ruled (ruled due) e refl in
+    let fine : r ≡ Ok tt = answer.was_ruled _ e refl in
     let same : Ok v ≡ Ok due = e ∙ rw fine in
     (fine, cc)
 
 module _ {c f : List ℕ} {b : ℕ} {t w : List ℕ} {r : Result Verdict Refusal} {t' w' : List ℕ} (p : Searches c f b t w r t' w') (reason : Reason) (place : ℕ) where
   -- a refusal is the first that applies, with the lowest place
   pub refused_applies : r ≡ Err (reason, place) → Applies (search_rules c f (length t) (length w)) reason place
-  refused_applies = answer.refused_applies (ruled (verdict_for c (fault_at f 0) b)) (search_rules c f (length t) (length w)) (search_says c f (length t) (length w)) p.answer reason place
+  refused_applies = answer.refused_applies _ (search_rules c f (length t) (length w)) (search_says c f (length t) (length w)) p.answer reason place
 
   -- and where one applies, it is given, and nothing is written
   pub applies_refused : Applies (search_rules c f (length t) (length w)) reason place → (r ≡ Err (reason, place)) × (t' ≡ t) × (w' ≡ w)

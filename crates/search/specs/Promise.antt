@@ -4,7 +4,7 @@ use Rattle.std.specs.Prelude.{◌≡◌, List, ◌++◌, ℕ, ◌*◌, length, O
 use Rattle.answers.specs.Rules.{Rule, refusal, unless}
 use Rattle.answers.specs.Lent.{lent_rules}
 use Rattle.answers.specs.Answer.{answered}
-use Rattle.answers.specs.Area.{Numbers, success, refused_at, told}
+use Rattle.answers.specs.Area.{Numbers, success, in_numbers, told}
 use Rattle.circuit.specs.Record.{lines_of, inputs_of}
 use Rattle.circuit.specs.Promise.{circuit_rules}
 use Rattle.lists.specs.declared.Fault.{Fault}
@@ -51,8 +51,7 @@ verdict_numbers (verdict.Redundant k) = success 1 k 0
 verdict_numbers (verdict.GivenUp k) = success 2 k 0
 
 unfoldable pub searched_numbers : Result Verdict Refusal → Numbers
-searched_numbers (Ok v) = verdict_numbers v
-searched_numbers (Err why) = refused_at why.0 why.1
+searched_numbers = in_numbers (λ v. verdict_numbers v)
 
 -- the promise, whatever the bytes, where t and w were lent, and t' and w' come back
 pub record Searches (c f : List ℕ) (b : ℕ) (t w : List ℕ) (r : Result Verdict Refusal) (t' w' : List ℕ) : Type 0 where

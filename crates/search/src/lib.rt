@@ -11,7 +11,7 @@ ghost use Rattle.search.specs.Promise.{search_rest_rules, Searches};
 ghost use Rattle.search.specs.Owed.{RunReady, RunDone, SearchDone};
 
 use answers::{Refusal, check_lent};
-use circuit::{Counts, check};
+use circuit::check;
 use lists::{Fault, check_faults, read_fault};
 use nodes::Verdict;
 use sides::side;
@@ -139,6 +139,6 @@ pub fn search(
 ) -> Result<Verdict, Refusal>
     ensures { Searches circuit.now fault.now budget test.old work.old result test.new work.new }
 {
-    let Counts { lines: n, inputs, .. } = check(circuit)?;
-    accepted(circuit, fault, n, inputs, budget, test, work)
+    let counts = check(circuit)?;
+    accepted(circuit, fault, counts.lines, counts.inputs, budget, test, work)
 }

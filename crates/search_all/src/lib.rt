@@ -9,7 +9,7 @@ ghost use Rattle.search_all.specs.Promise.{list_lent_rules, search_all_rest_rule
 ghost use Rattle.search_all.specs.Owed.{SearchAllDone};
 
 use answers::{Reason, Refusal};
-use circuit::{Counts, check};
+use circuit::check;
 use list_search::search_list;
 use lists::check_faults;
 
@@ -121,8 +121,8 @@ pub fn search_all(
         outcomes.old counts.old tests.old work.old
         result outcomes.new counts.new tests.new work.new }
 {
-    let Counts { lines: n, inputs, .. } = check(circuit)?;
+    let size = check(circuit)?;
     accepted(
-        circuit, faults, budgets, n, inputs, outcomes, counts, tests, work,
+        circuit, faults, budgets, size.lines, size.inputs, outcomes, counts, tests, work,
     )
 }

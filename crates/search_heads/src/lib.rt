@@ -7,7 +7,7 @@ ghost use Rattle.search_heads.specs.Promise.{HeadSearches};
 ghost use Rattle.search_heads.specs.Owed.{served_by, EitherReady, EitherDone, RoomReady, HeadsReady, HeadSearchDone};
 
 use answers::Refusal;
-use circuit::{Counts, check};
+use circuit::check;
 use cut_search::run_heads;
 use head_marks::mark_lines;
 use lists::{Fault, read_fault};
@@ -184,6 +184,6 @@ pub fn search_heads(
 ) -> Result<Verdict, Refusal>
     ensures { HeadSearches circuit.now fault.now budget test.old work.old result test.new work.new }
 {
-    let Counts { lines: n, inputs, .. } = check(circuit)?;
-    accepted(circuit, fault, n, inputs, budget, test, work)
+    let counts = check(circuit)?;
+    accepted(circuit, fault, counts.lines, counts.inputs, budget, test, work)
 }

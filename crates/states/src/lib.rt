@@ -13,7 +13,7 @@ ghost use Rattle.states.specs.Owed.{StateInside, first_with, steps_ok, clocked_b
 ghost use Rattle.states.specs.Rules.{state_rules, after_rules};
 
 use answers::{Reason, Refusal};
-use circuit::{Counts, check};
+use circuit::check;
 use little::pair_at;
 
 // How many lines a step of an accepted clocked circuit has, and how many inputs it has after unfolding.
@@ -187,6 +187,6 @@ fn check_steps(circuit: &[u8], n: usize, inputs: usize, states: &[u8], steps: us
 pub fn check_clocked(circuit: &[u8], states: &[u8], steps: usize) -> Result<Clocked, Refusal>
     ensures { ClockedChecked circuit.now states.now steps result }
 {
-    let Counts { lines: n, inputs, .. } = check(circuit)?;
-    check_steps(circuit, n, inputs, states, steps)
+    let counts = check(circuit)?;
+    check_steps(circuit, counts.lines, counts.inputs, states, steps)
 }

@@ -17,7 +17,7 @@ use circuit::source;
 use gates::pins;
 use ground::narrow;
 use records::put_record;
-use states::{Clocked, check_clocked, data_line, state_record};
+use states::{check_clocked, data_line, state_record};
 
 // ---- a mark at each data line, so that no record is looked for where the last step's outputs are written
 
@@ -230,6 +230,6 @@ fn unfold_checked(
 pub fn unfold(circuit: &[u8], states: &[u8], steps: usize, buffer: &mut [u8]) -> Result<usize, Refusal>
     ensures { UnfoldingMade circuit.now states.now steps buffer.old result buffer.new }
 {
-    let Clocked { lines: n, .. } = check_clocked(circuit, states, steps)?;
-    unfold_checked(circuit, states, n, steps, buffer)
+    let sizes = check_clocked(circuit, states, steps)?;
+    unfold_checked(circuit, states, sizes.lines, steps, buffer)
 }

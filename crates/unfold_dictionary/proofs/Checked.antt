@@ -89,7 +89,7 @@ module _ {c st : List ℕ} {k : ℕ} {fs ps : List ℕ} {table work : ℕ} where
 
   module _ {r : Result Clocked Refusal} (p : StepsChecked c st k fs ps table work r) where
     was : refusal (steps_dictionary_rules c st k fs ps table work) ≡ ruling_of r
-    was = was_ruled (ruled (lines_of c) (inputs_after c st k)) p.answer refl
+    was = was_ruled _ p.answer refl
 
     pub steps_refuse : {why : Refusal} → r ≡ Err why → refusal (steps_dictionary_rules c st k fs ps table work) ≡ Err why
     steps_refuse told = was ∙ ap ruling_of told

@@ -27,17 +27,17 @@ fn check_all_steps(
 ) -> Result<Clocked, Refusal>
     ensures { StepsChecked circuit.now states.now steps faults.now patterns.now table work result }
 {
-    let Clocked { lines: n, inputs } = check_clocked(circuit, states, steps)?;
+    let sizes = check_clocked(circuit, states, steps)?;
     check_rest(
         circuit,
-        inputs,
+        sizes.inputs,
         faults,
         patterns,
         table,
-        2 * (steps * n),
+        2 * (steps * sizes.lines),
         work,
     )?;
-    Ok(Clocked { lines: n, inputs })
+    Ok(sizes)
 }
 
 // Leaves in the work memory what the last pattern with the last fault gives.
@@ -130,7 +130,7 @@ pub fn unfold_dictionary(
 ) -> Result<(), Refusal>
     ensures { StepsDictionary circuit.now states.now steps faults.now patterns.now table.old work.old result table.new work.new }
 {
-    let Clocked { lines: n, inputs } = check_all_steps(
+    let sizes = check_all_steps(
         circuit,
         states,
         steps,
@@ -140,7 +140,7 @@ pub fn unfold_dictionary(
         work.len(),
     )?;
     fill(
-        circuit, states, n, steps, inputs, faults, patterns, table, work,
+        circuit, states, sizes.lines, steps, sizes.inputs, faults, patterns, table, work,
     );
     Ok(())
 }
