@@ -8,7 +8,6 @@ use lib.Dec.{eqb}
 use lib.ListN.{length}
 use borrow.Author.Tests.{eqb-true, eq-eqb}
 use Rattle.ground.specs.Below.{any_below}
-use Rattle.answers.specs.Rules.{Ruling}
 use Rattle.answers.specs.Rules.{refusal, Same, AllSay, AllHold}
 use Rattle.answers.proofs.Rules.{all_hold, both_say}
 use Rattle.answers.proofs.Same.{le_same, lt_same, eq_same, and_same, some_same, never_same}

@@ -9,12 +9,11 @@ use native.Mathlib.Omega.{arith}
 use lib.Dec.{leb}
 use borrow.Author.Tests.{leb-true}
 use Rattle.ground.proofs.Tests.{both}
-use Rattle.answers.specs.Rules.{Ruling}
 use Rattle.answers.specs.Rules.{Rule, said, refusal, Applies}
 use Rattle.answers.specs.Rules.Rule.{whole}
-use Rattle.answers.proofs.Rules.{after_refused, after_fine, both_fine}
+use Rattle.answers.proofs.Rules.{after_refused, after_fine, both_fine, same_good}
 use Rattle.answers.proofs.Answer as answer
-use Rattle.answers.proofs.Answer.{Ruled, was_ruled}
+use Rattle.answers.proofs.Answer.{ruling_of, was_ruled}
 use Rattle.circuit.specs.Record.{lines_of}
 use Rattle.circuit.specs.Promise.{circuit_rules}
 use Rattle.circuit.specs.Formed.{Good, Accepts, Known}
@@ -43,7 +42,7 @@ pub small_inputs : (k free : ℕ) → k ≤ 8 → free ≤ 2048 → (k - 1) * fr
 small_inputs k free a b = small_lines (k - 1) free (omega arith) b
 
 -- a rule that is kept leaves the ruling to those after it
-after_kept : {test : Bool} (asked : Type 0) (reason : Reason) (place : ℕ) (rules : List Rule) → test ≡ true → refusal (whole number test asked place ∷ rules) ≡ refusal rules
+after_kept : {test : Bool} (asked : Type 0) (reason : Reason) (place : ℕ) (rules : List Rule) → test ≡ true → refusal (whole reason test asked place ∷ rules) ≡ refusal rules
 unfolding refusal said
 after_kept asked reason place rules e = rw e
 
@@ -54,7 +53,7 @@ module _ (c st : List ℕ) (k : ℕ) where
 
   later_decide : steps_ok k ≡ true → refusal (step_rules c st k) ≡ refusal later
   unfolding step_rules state_rules after_rules
-  later_decide some = after_kept ((1 ≤ k) × (k ≤ 8)) 21 0 (state_rules c st ++ after_rules (lines_after c k) (inputs_after c st k)) some
+  later_decide some = after_kept ((1 ≤ k) × (k ≤ 8)) StepCount 0 (state_rules c st ++ after_rules (lines_after c k) (inputs_after c st k)) some
 
   module _ (n m : ℕ) where
     pub steps_refused : steps_ok k ≡ false → Err (StepCount, 0) ≡ clocked_by (step_rules c st k) n m
@@ -85,13 +84,6 @@ module _ {c st : List ℕ} {k : ℕ} where
 
 -- ---- what the answer says
 
-abbrev pub ruling_of : Result Clocked Refusal → Ruling
-ruling_of (Ok (clocked_are n m)) = Ok tt
-ruling_of (Err why) = Err why
-
-pub ruled : (n m : ℕ) → Ruled ruling_of (Ok (clocked_are n m))
-ruled n m = record { refuses = λ x y. refl; accepts = refl }
-
 -- what is not refused
 pub record ClockedTaken (c st : List ℕ) (k : ℕ) : Type 0 where
   pub fine : refusal (clocked_rules c st k) ≡ Ok tt
@@ -106,7 +98,7 @@ clocked_taken c st k e =
 
 module _ {c st : List ℕ} {k : ℕ} {r : Result Clocked Refusal} (p : ClockedChecked c st k r) where
   was : refusal (clocked_rules c st k) ≡ ruling_of r
-  was = was_ruled (ruled (lines_of c) (inputs_after c st k)) p.answer refl
+  was = was_ruled _ p.answer refl
 
   pub clocked_refuses : {why : Refusal} → r ≡ Err why → refusal (clocked_rules c st k) ≡ Err why
   clocked_refuses told = was ∙ ap ruling_of told
@@ -114,13 +106,13 @@ module _ {c st : List ℕ} {k : ℕ} {r : Result Clocked Refusal} (p : ClockedCh
   pub clocked_accepts : {n m : ℕ} → r ≡ Ok (clocked_are n m) → ClockedTaken c st k × (n ≡ lines_of c) × (m ≡ inputs_after c st k)
   clocked_accepts {n} {m} told =
       let q : refusal (clocked_rules c st k) ≡ Ok tt = was ∙ ap ruling_of told in
-      let so : Ok (clocked_are n m) ≡ Ok (clocked_are (lines_of c) (inputs_after c st k)) = sym told ∙ p.answer ∙ rw q in
-      (clocked_taken c st k q, cc, cc)
+      let so : clocked_are n m ≡ clocked_are (lines_of c) (inputs_after c st k) = same_good (sym told ∙ p.answer ∙ rw q) in
+      (clocked_taken c st k q, ap (λ (a : Clocked). a.lines) so, ap (λ (a : Clocked). a.inputs) so)
 
   -- a refusal is the first that applies, with the lowest place; and where one applies, it is given
   module _ (reason : Reason) (place : ℕ) where
     pub refused_applies : r ≡ Err (reason, place) → Applies (clocked_rules c st k) reason place
-    refused_applies = answer.refused_applies (ruled (lines_of c) (inputs_after c st k)) (clocked_rules c st k) (clocked_says c st k) p.answer reason place
+    refused_applies = answer.refused_applies _ (clocked_rules c st k) (clocked_says c st k) p.answer reason place
 
     pub applies_refused : Applies (clocked_rules c st k) reason place → r ≡ Err (reason, place)
-    applies_refused = answer.applies_refused (ruled (lines_of c) (inputs_after c st k)) (clocked_rules c st k) (clocked_says c st k) p.answer reason place
+    applies_refused = answer.applies_refused _ (clocked_rules c st k) (clocked_says c st k) p.answer reason place

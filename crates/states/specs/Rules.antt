@@ -6,8 +6,9 @@ use Rattle.answers.specs.Rules.{Rule}
 use Rattle.answers.specs.Rules.Rule.{whole, each}
 use Rattle.circuit.specs.Record.{kind_at, is_input, lines_of, inputs_of}
 use Rattle.circuit.specs.Promise.{circuit_rules}
-use Rattle.states.specs.States.{state_count, data_line, state_line, free_of}
 use Rattle.answers.specs.declared.Reason.TheVariants.{StateRecords, UnfoldedSize, StepCount}
+use Rattle.states.specs.declared.Clocked.{Clocked}
+use Rattle.states.specs.States.{state_count, data_line, state_line, free_of}
 
 -- a record as a test
 unfoldable pub state_ok : List ℕ → List ℕ → ℕ → Bool
@@ -48,6 +49,10 @@ step_rules c st k = whole StepCount (leb 1 k && leb k 8) ((1 ≤ k) × (k ≤ 8)
 -- all that is checked of a clocked circuit
 abbrev pub clocked_rules : List ℕ → List ℕ → ℕ → List Rule
 clocked_rules c st k = circuit_rules c ++ step_rules c st k
+
+-- so many lines in a step, so many inputs after unfolding
+abbrev pub clocked_are : ℕ → ℕ → Clocked
+clocked_are n m = record { lines = n; inputs = m }
 
 -- what holds where nothing of it is refused
 pub record GoodSteps (c st : List ℕ) (k : ℕ) : Type 0 where

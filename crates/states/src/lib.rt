@@ -171,7 +171,13 @@ fn steps_ok(steps: usize) -> bool
 }
 
 // Refusals 21, 18 and 19, of an accepted circuit.
-fn check_steps(circuit: &[u8], n: usize, inputs: usize, states: &[u8], steps: usize) -> Result<Clocked, Refusal>
+fn check_steps(
+    circuit: &[u8],
+    n: usize,
+    inputs: usize,
+    states: &[u8],
+    steps: usize,
+) -> Result<Clocked, Refusal>
     requires { Known circuit.now n inputs }
     ensures { result ≡ clocked_by (step_rules circuit.now states.now steps) n (inputs_after circuit.now states.now steps) }
 {

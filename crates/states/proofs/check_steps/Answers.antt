@@ -5,6 +5,7 @@ use mathlib.Core.Bool.{true}
 use Prim.Native.Nat.{ℕ, ◌*◌, ◌-◌, ◌≤◌}
 use native.Mathlib.Omega.{arith}
 use borrow.Author.Tests.{not-true, not-false}
+use Rattle.answers.proofs.Answer.{handed_on}
 use Rattle.states.specs.Owed.{steps_ok}
 use Rattle.states.proofs.Steps.{some_steps, small_lines, small_inputs, steps_refused, states_refused, sizes_decide}
 use Rattle.states.proofs.check_steps.Goals as goal
@@ -29,18 +30,19 @@ overflow_mul-steps c =
 pub overflow_sub-steps : goal.overflow_sub-steps
 overflow_sub-steps c = (some_steps _ (some (goal.at.overflow_sub-steps c).Else-not-steps_ok)).0
 
-pub overflow_mul-steps-in-Fine : goal.overflow_mul-steps-in-Fine
-overflow_mul-steps-in-Fine c = omega (arith, free-small (goal.at.overflow_mul-steps-in-Fine c).Else-not-steps_ok c.free_inputs-free.ensures.1)
+pub overflow_mul-steps-2 : goal.overflow_mul-steps-2
+overflow_mul-steps-2 c = omega (arith, free-small (goal.at.overflow_mul-steps-2 c).Else-not-steps_ok c.free_inputs-free.ensures.1)
 
 pub overflow_add-inputs : goal.overflow_add-inputs
 overflow_add-inputs c =
     omega (arith, free-small (goal.at.overflow_add-inputs c).Else-not-steps_ok c.free_inputs-free.ensures.1, c.requires.inputs, c.requires.good.most_inputs)
 
-pub returns-in-Refused : goal.returns-in-Refused
-returns-in-Refused c =
-    states_refused _ _ _ _ _ (some (goal.at.returns-in-Refused c).Else-not-steps_ok) (sym c.check_states-v.ensures ∙ c.in-Refused.is)
+pub returns-in_err-check_states : goal.returns-in_err-check_states
+returns-in_err-check_states c =
+    handed_on c.from_residual.ensures.1
+    ∙ states_refused _ _ _ _ _ (some (goal.at.returns-in_err-check_states c).Else-not-steps_ok) (sym c.check_states.ensures ∙ c.in_err-check_states.was)
 
-pub returns-in-Fine : goal.returns-in-Fine
-returns-in-Fine c =
-    sizes_decide _ _ _ _ _ (some (goal.at.returns-in-Fine c).Else-not-steps_ok) c.requires c.free_inputs-free.ensures.0 (sym c.check_states-v.ensures ∙ c.in-Fine.is)
+pub returns : goal.returns
+returns c =
+    sizes_decide _ _ _ _ _ (some (goal.at.returns c).Else-not-steps_ok) c.requires c.free_inputs-free.ensures.0 (sym c.check_states.ensures ∙ c.in_ok-check_states.was)
     c.sized.ensures
