@@ -7,8 +7,7 @@ use native.Mathlib.Omega.{arith}
 use lib.ListN.{length, get_or}
 use Rattle.ground.specs.Put.{laid_on}
 use Rattle.ground.proofs.Grow.{grow-same}
-use Rattle.answers.specs.Rules.{Ruling}
-use Rattle.answers.specs.Rules.{refusal}
+use Rattle.answers.specs.Rules.{Ruling, refusal}
 use Rattle.answers.proofs.Rules.{both_fine}
 use Rattle.answers.proofs.Answer.{was_ruled}
 use Rattle.words.specs.Words.{words_in, ends_in}

@@ -4,8 +4,7 @@ use mathlib.Core.Path.{◌≡◌, refl}
 use mathlib.Core.List.{List}
 use Prim.Native.Nat.{ℕ}
 use lib.ListN.{length}
-use Rattle.answers.specs.Rules.{Ruling}
-use Rattle.answers.specs.Rules.{Applies, AllSay}
+use Rattle.answers.specs.Rules.{Ruling, Applies, AllSay}
 use Rattle.answers.proofs.Rules.{both_say}
 use Rattle.answers.proofs.Answer as answer
 use Rattle.answers.proofs.Answer.{Ruled}

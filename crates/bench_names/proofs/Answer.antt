@@ -8,10 +8,9 @@ use lib.ListN.{length, take, drop}
 use lib.Seq.{take_at}
 use Rattle.ground.specs.Put.{laid_on}
 use Rattle.ground.proofs.Grow.{table-length}
-use Rattle.answers.specs.Rules.{Ruling}
+use Rattle.answers.specs.Rules.{Ruling, refusal}
 use Rattle.answers.specs.Answer.{answered}
 use Rattle.answers.specs.Owed.{RulesDone}
-use Rattle.answers.specs.Rules.{refusal}
 use Rattle.answers.proofs.Rules.{both_fine}
 use Rattle.answers.proofs.Answer.{numbers-told, was_ruled, first_refused, first_fine, memory_part}
 use Rattle.circuit.specs.Record.{lines_of}

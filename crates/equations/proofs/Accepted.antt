@@ -4,8 +4,7 @@ use mathlib.Core.Path.{◌≡◌, refl, sym, ◌∙◌}
 use mathlib.Core.List.{List}
 use Prim.Native.Nat.{ℕ}
 use native.Mathlib.Omega.{arith}
-use Rattle.answers.specs.Rules.{Ruling}
-use Rattle.answers.specs.Rules.{said, refusal, AllSay, AllHold}
+use Rattle.answers.specs.Rules.{Ruling, said, refusal, AllSay, AllHold}
 use Rattle.answers.proofs.Rules.{not_fine, all_hold}
 use Rattle.answers.proofs.Same.{eq_same}
 use Rattle.syntax.proofs.Says.{right_text, text_fine}

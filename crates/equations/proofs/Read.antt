@@ -6,10 +6,9 @@ use mathlib.Core.List.{List}
 use Prim.Native.Nat.{ℕ, ◌*◌}
 use lib.ListN.{length, take, drop}
 use lib.Seq.{take_at}
-use Rattle.answers.specs.Rules.{Ruling}
+use Rattle.answers.specs.Rules.{Ruling, refusal, unless}
 use Rattle.answers.specs.Answer.{answered}
 use Rattle.answers.proofs.Answer.{was_ruled}
-use Rattle.answers.specs.Rules.{refusal, unless}
 use Rattle.circuit.specs.Record.{lines_of}
 use Rattle.netlist.proofs.Fields.{net_long, net_lines}
 use Rattle.ground.specs.Put.{laid_on}

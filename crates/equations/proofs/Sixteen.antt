@@ -5,8 +5,7 @@ use mathlib.Core.Logic.{◌↔◌}
 use mathlib.Core.List.{List, ◌++◌}
 use Prim.Native.Nat.{ℕ}
 use native.Mathlib.Omega.{arith}
-use Rattle.answers.specs.Rules.{Ruling}
-use Rattle.answers.specs.Rules.{refusal}
+use Rattle.answers.specs.Rules.{Ruling, refusal}
 use Rattle.answers.proofs.Rules.{after_refused, after_fine}
 use Rattle.circuit.specs.Promise.{circuit_rules}
 use Rattle.circuit.proofs.Sizes.{refused_small}

@@ -3,8 +3,7 @@
 -- Assumes nothing.
 use Rattle.std.specs.Prelude.{◌≡◌, Bool, not, List, [], ◌∷◌, ◌++◌, map, ℕ, zero, suc, ◌+◌, ◌*◌, ◌≤◌, ◌<◌, ◌%◌, min, eqb, length, get_or, replicate}
 use Rattle.ground.specs.Choose.{choose}
-use Rattle.answers.specs.Rules.{refusal}
-use Rattle.answers.specs.Rules.{Ruling}
+use Rattle.answers.specs.Rules.{refusal, Ruling}
 use Rattle.words.specs.Words.{word_at}
 use Rattle.names.specs.Names.{name_rules, last_with, definition, name_number}
 

@@ -7,9 +7,8 @@ use native.Mathlib.Omega.{arith}
 use lib.ListN.{length, get_or, take, drop, get_or-append}
 use Rattle.ground.specs.Put.{laid_on}
 use Rattle.ground.proofs.Grow.{table-length, table_at}
-use Rattle.answers.specs.Rules.{Ruling}
+use Rattle.answers.specs.Rules.{Ruling, refusal, unless}
 use Rattle.answers.specs.Answer.{answered}
-use Rattle.answers.specs.Rules.{refusal, unless}
 use Rattle.answers.proofs.Rules.{both_fine}
 use Rattle.answers.proofs.Answer.{was_ruled}
 use Rattle.circuit.specs.Record.{lines_of}

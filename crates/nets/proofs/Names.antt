@@ -9,8 +9,7 @@ use lib.ListN.{length, get_or, length-map, length-append, get_or-append}
 use lib.Seq.{get_or-append-add}
 use Rattle.ground.proofs.Tests.{either}
 use Rattle.ground.proofs.Map.{map_at}
-use Rattle.answers.specs.Rules.{Ruling}
-use Rattle.answers.specs.Rules.{refusal}
+use Rattle.answers.specs.Rules.{Ruling, refusal}
 use Rattle.words.specs.Words.{word_at}
 use Rattle.names.specs.Names.{named, name_rules, definition, name_number}
 use Rattle.names.specs.Owed.{Within, ResolveReady, ResolveDone}

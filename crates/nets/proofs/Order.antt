@@ -7,8 +7,7 @@ use Prim.Native.Nat.{ℕ, ◌*◌, ◌≤◌, ◌<◌}
 use native.Mathlib.Omega.{arith}
 use lib.ListN.{length}
 use Rattle.ground.proofs.Tests.{either}
-use Rattle.answers.specs.Rules.{Ruling}
-use Rattle.answers.specs.Rules.{refusal}
+use Rattle.answers.specs.Rules.{Ruling, refusal}
 use Rattle.circuit.specs.Promise.{circuit_rules}
 use Rattle.circuit.proofs.Sizes as sealed
 use Rattle.order.specs.Order.{cycle_rules}

@@ -10,9 +10,8 @@ use lib.Seq.{take_all, length-take-le}
 use Rattle.ground.specs.Lists.{elem}
 use Rattle.ground.proofs.Tests.{one-is}
 use Rattle.ground.proofs.First.{first_same}
-use Rattle.answers.specs.Rules.{said, refusal}
+use Rattle.answers.specs.Rules.{said, refusal, Ruling}
 use Rattle.answers.specs.Rules.Rule.{each}
-use Rattle.answers.specs.Rules.{Ruling}
 use Rattle.answers.proofs.Rules.{or_fine}
 use Rattle.order.specs.Order.{order_of, cycle_rules}
 use Rattle.order.specs.Owed.{PlaceDone, ArrangeDone}

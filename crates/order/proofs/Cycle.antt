@@ -16,8 +16,7 @@ use Rattle.ground.proofs.Counting.{count_none, count_most}
 use Rattle.ground.proofs.Lists.{At, index_in_lem, elem_other}
 use Rattle.ground.proofs.Elem.{index_of}
 use Rattle.ground.proofs.Tests.{neither}
-use Rattle.answers.specs.Rules.{refusal}
-use Rattle.answers.specs.Rules.{Ruling}
+use Rattle.answers.specs.Rules.{refusal, Ruling}
 use Rattle.order.specs.Order.{there, ready, order_of, Order, Placed, Source, Way, last, then, Cycle, cycle_rules}
 use Rattle.order.proofs.Gates.{count_snoc, sources_placed}
 use Rattle.order.proofs.Unique.{order_placed}
@@ -115,15 +114,15 @@ module _ (a b : List ℕ) where
       go : (r : Ruling) → refusal (cycle_rules a b) ≡ r → (k : ℕ) × (r ≡ Err (BenchCycle, k))
       go (Ok u) e =
           absurd (false≢true (sym (cycle_left (order_placed a b).steps c.0 c.2) ∙ all_placed a b e c.0 c.1))
-      go (Err why) e = (why.1, ap (λ (n : ℕ). Err (n, why.1)) (refused_left a b e).number)
+      go (Err why) e = (why.1, ap (λ (m : Reason). Err (m, why.1)) (refused_left a b e).reason)
 
   -- and nothing else is refused
   pub refused_cycle : {why : Refusal} → refusal (cycle_rules a b) ≡ Err why → Cycle a b
-  refused_cycle {m} {k} e = left_cycle a b (order_of a b) (order_placed a b) k w.inside (go (elem (order_of a b) k) refl)
+  refused_cycle {why} e = left_cycle a b (order_of a b) (order_placed a b) why.1 w.inside (go (elem (order_of a b) why.1) refl)
     where
-      w : LowestLeft a b m k
+      w : LowestLeft a b why.0 why.1
       w = refused_left a b e
 
-      go : (t : Bool) → elem (order_of a b) k ≡ t → t ≡ false
-      go true q = absurd (w.left ((gate_says a b k).holds q))
+      go : (t : Bool) → elem (order_of a b) why.1 ≡ t → t ≡ false
+      go true q = absurd (w.left ((gate_says a b why.1).holds q))
       go false q = refl

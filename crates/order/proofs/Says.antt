@@ -18,9 +18,9 @@ use Rattle.std.specs.Prelude.{Ok, Err}
 use Rattle.answers.specs.declared.Reason.{Reason}
 use Rattle.answers.specs.declared.Reason.TheVariants.{BenchCycle}
 
--- refusal m at gate k: 16, and k is the first gate that can't be placed
-pub record LowestLeft (a b : List ℕ) (m k : ℕ) : Type 0 where
-  pub number : m ≡ 16
+-- refused for the reason m at gate k: 16, and k is the first gate that can't be placed
+pub record LowestLeft (a b : List ℕ) (m : Reason) (k : ℕ) : Type 0 where
+  pub reason : m ≡ BenchCycle
   pub inside : k < length a
   pub left : Places a b k → ⊥
   pub first : (j : ℕ) → j < k → Places a b j
@@ -69,7 +69,7 @@ module _ (a b : List ℕ) where
   refused_left {m} {k} e =
       ⊎_elim
       (λ w. record {
-        number = w.0;
+        reason = w.0;
         inside = w.1.0;
         left = w.1.1;
         first = λ j l. (gate_says j).holds (placed j l w.1.0 w.2 (elem (order_of a b) j) refl);
@@ -83,8 +83,8 @@ module _ (a b : List ℕ) where
           absurd (omega (arith, low j (omega arith, λ p. false≢true (sym q ∙ (gate_says j).tests p))))
 
   -- and the first gate that is left is refused
-  pub left_refused : {k : ℕ} → LowestLeft a b 16 k → refusal (cycle_rules a b) ≡ Err (BenchCycle, k)
+  pub left_refused : {k : ℕ} → LowestLeft a b BenchCycle k → refusal (cycle_rules a b) ≡ Err (BenchCycle, k)
   unfolding Applies cycle_rules
   left_refused {k} w =
-      refused (cycle_rules a b) cycle_says 16 k
+      refused (cycle_rules a b) cycle_says BenchCycle k
       (inl (refl, (w.inside, w.left), λ j (l, n). ⊎_elim (λ h. absurd (n (w.first j h))) (λ h. h) (either j k)))

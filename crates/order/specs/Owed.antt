@@ -3,8 +3,7 @@
 use Rattle.std.specs.Prelude.{◌≡◌, ◌⊎◌, Bool, ◌&&◌, ◌||◌, List, ℕ, ◌≤◌, ◌<◌, eqb, leb, length, get_or, take, replicate, Ok}
 use Rattle.ground.specs.Choose.{one}
 use Rattle.ground.specs.Lists.{elem}
-use Rattle.answers.specs.Rules.{refusal}
-use Rattle.answers.specs.Rules.{Ruling}
+use Rattle.answers.specs.Rules.{refusal, Ruling}
 use Rattle.order.specs.Order.{Placed, order_of, cycle_rules}
 
 -- by marks at the gates that are placed

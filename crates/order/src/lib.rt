@@ -3,6 +3,7 @@
 
 ghost use Rattle.std.specs.Prelude.{◌≡◌, ◌+◌, ◌<◌, ◌≤◌, eqb, length, get_or, set};
 ghost use Rattle.ground.specs.Below.{first_not};
+ghost use Rattle.answers.specs.declared.Reason.TheVariants.{BenchCycle};
 ghost use Rattle.answers.specs.Rules.{each, said};
 ghost use Rattle.order.specs.Owed.{there_by, ready_by, Back, PlaceReady, PlaceDone, ArrangeRoom, ArrangeInReady, ArrangeDone};
 
