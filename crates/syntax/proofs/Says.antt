@@ -81,11 +81,11 @@ goes t j n = go (goes_on t j) refl
     go false e = absurd (n (λ g. true≢false (sym ((goes_same t j).tests g) ∙ e)))
 
 -- what is refused is 14, at the first bad byte
-pub first_bad : (t : List ℕ) (m : Reason) (i : ℕ) → refusal (syntax_rules t) ≡ Err (m, i) → (m ≡ 14) × FirstBad t i
+pub first_bad : (t : List ℕ) (m : Reason) (i : ℕ) → refusal (syntax_rules t) ≡ Err (m, i) → (m ≡ BenchSyntax) × FirstBad t i
 unfolding Applies syntax_rules
 first_bad t m i e = go (applies (syntax_rules t) (syntax_says t) m i e)
   where
-    go : Applies (syntax_rules t) m i → (m ≡ 14) × FirstBad t i
+    go : Applies (syntax_rules t) m i → (m ≡ BenchSyntax) × FirstBad t i
     go (inl (q, (h, s), low)) = (q, record { before = λ j l. goes t j (λ n. let k = low j (omega arith, n) in omega arith); here = inl (h, s) })
     go (inr (never, inl (q, (p, s), low))) = (q, record { before = λ j l. goes t j (λ n. never j (omega arith, n)); here = inr (p, s) })
     go (inr (never, inr (none, x))) = absurd x
@@ -93,8 +93,8 @@ first_bad t m i e = go (applies (syntax_rules t) (syntax_says t) m i e)
 -- and at the first bad byte 14 is refused
 pub bad_refused : (t : List ℕ) (i : ℕ) → FirstBad t i → refusal (syntax_rules t) ≡ Err (BenchSyntax, i)
 unfolding Applies syntax_rules
-bad_refused t i f = refused (syntax_rules t) (syntax_says t) 14 i (go f.here)
+bad_refused t i f = refused (syntax_rules t) (syntax_says t) BenchSyntax i (go f.here)
   where
-    go : ((i < length t) × (GoesOn t i → ⊥)) ⊎ ((i ≡ length t) × (Formed t → ⊥)) → Applies (syntax_rules t) 14 i
+    go : ((i < length t) × (GoesOn t i → ⊥)) ⊎ ((i ≡ length t) × (Formed t → ⊥)) → Applies (syntax_rules t) BenchSyntax i
     go (inl (h, s)) = inl (refl, (h, s), λ j b. ⊎_elim (λ l. absurd (b.1 (f.before j l))) (λ l. l) (either j i))
     go (inr (e, s)) = inr (λ j b. b.1 (f.before j (omega (arith, b.0))), inl (refl, (e, s), λ j b. omega (arith, b.0)))
