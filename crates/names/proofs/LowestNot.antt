@@ -13,11 +13,12 @@ use Rattle.ground.specs.Choose.{choose}
 use Rattle.ground.specs.Below.{first_not}
 use Rattle.ground.proofs.First.{first_is, first_none}
 use Rattle.ground.proofs.Tests.{either}
-use Rattle.answers.specs.Rules.{said}
+use Rattle.answers.specs.Rules.{Ruling, said}
 use Rattle.answers.specs.Rules.Rule.{each}
 use Rattle.names.specs.Owed.{lowest}
 use Rattle.names.proofs.Lowest.{Fails, lowest-least, lowest-one}
 use Rattle.std.specs.Prelude.{Ok, Err}
+use Rattle.answers.specs.declared.Reason.{Reason}
 
 -- the test fails only below n, at r first; r is 65,535 where it fails nowhere
 pub record LowestNot (n : ℕ) (test : ℕ → Bool) (r : ℕ) : Type 0 where
@@ -61,7 +62,7 @@ lowest_and {n} {q} {r} {s} {u} a b = record {
     go (inr l) h = let e : min q r ≡ r = omega arith in rw (e, b.one (omega arith), and-false)
 
 -- what a rule says that makes this test at each place
-pub lowest_ruled : (m n : ℕ) (test : ℕ → Bool) (asked : ℕ → Type 0) {r : ℕ} → n ≤ 65535 → LowestNot n test r
+pub lowest_ruled : (m : Reason) (n : ℕ) (test : ℕ → Bool) (asked : ℕ → Type 0) {r : ℕ} → n ≤ 65535 → LowestNot n test r
     → choose (ltb r 65535) (Err (m, r)) (Ok tt) ≡ said (each m n test asked)
 unfolding said
 lowest_ruled m n test asked {r} few p = ⊎_elim found none (either r 65535)
@@ -73,13 +74,13 @@ lowest_ruled m n test asked {r} few p = ⊎_elim found none (either r 65535)
         go true e = refl
         go false e = absurd (h (p.least j e))
 
-    found : r < 65535 → choose (ltb r 65535) (Err (m, r)) (Ok tt) ≡ choose (ltb (first_not n test) n) (Err (m, first_not n test)) (Ok tt)
+    found : r < 65535 → ◌≡◌ {A = Ruling} (choose (ltb r 65535) (Err (m, r)) (Ok tt)) (choose (ltb (first_not n test) n) (Err (m, first_not n test)) (Ok tt))
     found l =
         let below : r < n = p.inside r (p.one l) in
         let e : first_not n test ≡ r = first_is n test (record { above = omega arith; inside = below; bad = p.one l; below = λ j g b. holds j (λ q. omega arith) }) in
         rw (e, lt-ltb r 65535 l, lt-ltb r n below)
 
-    none : 65535 ≤ r → choose (ltb r 65535) (Err (m, r)) (Ok tt) ≡ choose (ltb (first_not n test) n) (Err (m, first_not n test)) (Ok tt)
+    none : 65535 ≤ r → ◌≡◌ {A = Ruling} (choose (ltb r 65535) (Err (m, r)) (Ok tt)) (choose (ltb (first_not n test) n) (Err (m, first_not n test)) (Ok tt))
     none l =
         let e : first_not n test ≡ n = first_none n test (λ j g b. holds j (λ q. omega arith)) in
         rw (e, le-ltb r 65535 l, le-ltb n n (omega arith))

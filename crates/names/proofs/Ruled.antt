@@ -42,6 +42,6 @@ module _ {t defs outs firsts seconds o a b : List ℕ} (u : ResolveReady t defs 
   ruled twice out first second e f g h =
       let low : second ≡ min (lowest (again t defs) defs (length defs)) (min (nowhere outs) (min (nowhere firsts) (nowhere seconds))) = omega arith in
       rw low
-      (lowest_ruled 15 (length t) (λ i. once t defs i && defined t defs uses i) (NameOk t defs uses) (omega (arith, u.short))
+      (lowest_ruled BenchName (length t) (λ i. once t defs i && defined t defs uses i) (NameOk t defs uses) (omega (arith, u.short))
       (lowest_and (lowest_twice t defs u.defs_inside) lowest-used)
       ∙ sym (or_fine _))

@@ -3,7 +3,7 @@
 
 ghost use Rattle.std.specs.Prelude.{◌≡◌, ◌+◌, ◌*◌, ◌-◌, ◌<◌, ◌%◌, min, ltb, length, get_or};
 ghost use Rattle.ground.specs.Choose.{choose};
-ghost use Rattle.answers.specs.declared.Ruling.TheVariants.{Fine, Refused};
+ghost use Rattle.answers.specs.declared.Reason.TheVariants.{BenchName};
 ghost use Rattle.words.specs.Words.{word_at};
 ghost use Rattle.names.specs.Names.{definition};
 ghost use Rattle.names.specs.Owed.{Hash, Table, EnterReady, EnterDone, LookUpReady, LookUpDone, ResolveReady, ResolveDone};

@@ -7,7 +7,6 @@ use Rattle.words.specs.Words.{word_at}
 use Rattle.names.specs.Owed.{hash_from}
 use Rattle.names.proofs.Loops.{enter_none, enter_more, enter_all}
 use Rattle.names.proofs.enter.Goals as goal
-use Rattle.answers.proofs.Rules.{same_place}
 
 pub loop-n-init : goal.loop-n-init
 loop-n-init c = enter_none c.requires

@@ -6,7 +6,6 @@ use native.Mathlib.Omega.{arith}
 use Rattle.words.specs.Words.{word_at, same}
 use Rattle.names.proofs.Chain.{start, ended, inside, hit, more, falls}
 use Rattle.names.proofs.find.Goals as goal
-use Rattle.answers.proofs.Rules.{same_place}
 
 pub walk-init : goal.walk-init
 walk-init c = start c.requires.0 c.requires.1.0 c.requires.1.1 c.wide16-p.ensures.0
