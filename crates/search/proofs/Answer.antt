@@ -71,7 +71,7 @@ module _ {c f : List ℕ} {b : ℕ} {t w : List ℕ} where
   unfolding searched_numbers
   searches p = record {
     answer = p.answer;
-    numbers = ap searched_numbers p.answer ∙ numbers-told searched_numbers (λ x y. refl) (refusal (search_rules c f (length t) (length w))) _;
+    numbers = ap searched_numbers p.answer ∙ numbers-told _ (refusal (search_rules c f (length t) (length w))) _;
     test = memory_part (λ (lent : List ℕ × List ℕ). lent.0) p;
     work = memory_part (λ (lent : List ℕ × List ℕ). lent.1) p;
   }

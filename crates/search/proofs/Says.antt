@@ -7,7 +7,7 @@ use lib.ListN.{length}
 use Rattle.answers.specs.Rules.{Ruling}
 use Rattle.answers.specs.Rules.{Applies, AllSay}
 use Rattle.answers.specs.Answer.{answered}
-use Rattle.answers.proofs.Rules.{refused, both_say}
+use Rattle.answers.proofs.Rules.{refused, both_say, same_good}
 use Rattle.answers.proofs.Lent.{lent_says}
 use Rattle.answers.proofs.Answer as answer
 use Rattle.circuit.specs.Record.{lines_of, inputs_of}
@@ -35,8 +35,7 @@ search_says c f test work = both_say (circuit_rules c) _ (circuit_says c) (rest_
 pub was_found : {r : Ruling} {v due : Verdict} → Ok v ≡ answered r due → (r ≡ Ok tt) × (v ≡ due)
 was_found {r} {v} {due} e =
     let fine : r ≡ Ok tt = answer.was_ruled _ e refl in
-    let same : Ok v ≡ Ok due = e ∙ rw fine in
-    (fine, cc)
+    (fine, same_good (e ∙ rw fine))
 
 module _ {c f : List ℕ} {b : ℕ} {t w : List ℕ} {r : Result Verdict Refusal} {t' w' : List ℕ} (p : Searches c f b t w r t' w') (reason : Reason) (place : ℕ) where
   -- a refusal is the first that applies, with the lowest place
