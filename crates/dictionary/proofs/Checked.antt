@@ -5,14 +5,14 @@ use mathlib.Core.List.{List}
 use Prim.Native.Nat.{ℕ, ◌*◌}
 use Rattle.answers.specs.Rules.{Ruling}
 use Rattle.answers.specs.Rules.{refusal, AllSay}
-use Rattle.answers.proofs.Rules.{after_refused, after_fine, same_after, both_fine, both_say}
-use Rattle.answers.proofs.Answer.{was_ruled}
+use Rattle.answers.proofs.Rules.{after_refused, after_fine, same_after, both_fine, both_say, same_good}
+use Rattle.answers.proofs.Answer.{was_ruled, ruling_of}
 use Rattle.answers.proofs.Lent.{lent_says, lent_sizes, second_exact}
 use Rattle.circuit.specs.declared.Counts.{Counts}
 use Rattle.circuit.specs.Record.{lines_of, inputs_of, outputs_of}
 use Rattle.circuit.specs.Promise.{circuit_rules, counts_are}
 use Rattle.circuit.specs.Formed.{Good, Accepts}
-use Rattle.circuit.proofs.Says.{circuit_says, ruling_of, ruled}
+use Rattle.circuit.proofs.Says.{circuit_says}
 use Rattle.circuit.proofs.Accepted.{good}
 use Rattle.lists.specs.Faults.{fault_count, GoodFaults}
 use Rattle.lists.specs.Patterns.{pattern_count, GoodPatterns}
@@ -100,8 +100,8 @@ module _ {places : ℕ} {c fs ps : List ℕ} {table work : ℕ} where
     pub all_accepts : {n m o : ℕ} → r ≡ Ok (counts_are n m o) → Taken places c fs ps table work × (n ≡ lines_of c) × (m ≡ inputs_of c)
     all_accepts {n} {m} {o} told =
         let q : refusal (dictionary_rules places c fs ps table work) ≡ Ok tt = was ∙ ap ruling_of told in
-        let so : Ok (counts_are n m o) ≡ Ok (counts_are (lines_of c) (inputs_of c) (outputs_of c)) = sym told ∙ p.answer ∙ rw q in
-        (taken places c fs ps table work q, cc, cc)
+        let so : counts_are n m o ≡ counts_are (lines_of c) (inputs_of c) (outputs_of c) = same_good (sym told ∙ p.answer ∙ rw q) in
+        (taken places c fs ps table work q, ap (λ (a : Counts). a.lines) so, ap (λ (a : Counts). a.inputs) so)
 
 -- two engines refuse the same, where each has a work memory of its size and the tables are as long
 pub alike : (a b : ℕ) (c fs ps : List ℕ) {table table₂ work work₂ : ℕ}
