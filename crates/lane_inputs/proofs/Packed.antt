@@ -18,7 +18,6 @@ use Rattle.lanes.proofs.Bits.{lanes_spare, lanes_small}
 use Rattle.lists.specs.Patterns.{pattern_count}
 use Rattle.lists.proofs.Patterns.{part_fits}
 use Rattle.lane_inputs.specs.Owed.{GroupReady, input_lane}
-use Rattle.answers.specs.declared.Reason.TheVariants.{CircuitSize}
 
 module _ (m : ℕ) (ps : List ℕ) (input i : ℕ) where
   pub of_pattern : i < pattern_count m ps → input_lane m ps input i ≡ get_or ps (i * m + input) 0
@@ -79,7 +78,7 @@ module _ {m : ℕ} {ps : List ℕ} {input ones zeros at i : ℕ} (so : SoFar m p
 
   pub finished : pattern_count m ps ≤ i → record { ones = ones; zeros = zeros } ≡ laid (input_lane m ps input)
   unfolding lanes_of
-  finished l = ap₂ (λ (x y : ℕ). record { ones = x; zeros = y }) (whole CircuitSize (omega arith) so.ones_are) (whole 0 (omega arith) so.zeros_are)
+  finished l = ap₂ (λ (x y : ℕ). record { ones = x; zeros = y }) (whole 1 (omega arith) so.ones_are) (whole 0 (omega arith) so.zeros_are)
     where
       whole : (b : ℕ) {w : ℕ} → b < 2 → w ≡ lanes_to (λ j. eqb (input_lane m ps input j) b) i → w ≡ lanes_to (λ j. eqb (input_lane m ps input j) b) 64
       whole b c e =

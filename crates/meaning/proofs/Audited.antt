@@ -24,6 +24,7 @@ use Rattle.meaning.specs.Kept.{Serves}
 use Rattle.meaning.proofs.Kept.{sound_serve}
 use Rattle.std.specs.Prelude.{Ok, Result}
 use Rattle.answers.specs.declared.Refusal.{Refusal}
+use Rattle.findings.specs.declared.Finding.{Finding}
 
 -- the marks that the compactor leaves for a table are found sound, whatever was lent to it for them
 pub compacted_audited : {F P : ℕ} {t m m' : List ℕ} {r : Result Finding Refusal} → Compacts F P t m (Ok tt) m' → Audits F P t m' r → r ≡ Ok Sound

@@ -9,7 +9,6 @@ use Rattle.tables.specs.Entries.{Entries, entries_of}
 use Rattle.needs.specs.Needs.{whole, tells}
 use Rattle.needs.specs.Words.{Apart}
 use Rattle.needs.proofs.Words.{apart-is, is-apart}
-use Rattle.answers.specs.declared.Reason.TheVariants.{CircuitSize}
 
 -- rows FUP and FFF
 abbrev pub fup : Entries
@@ -29,7 +28,7 @@ first_second w = true≢false (sym (is-apart fup 2 whole 0 1 w))
 
 second_third : NotApart 1 2
 unfolding tells
-second_third w = true≢false (sym (is-apart fup 2 whole CircuitSize 2 w))
+second_third w = true≢false (sym (is-apart fup 2 whole 1 2 w))
 
 -- the first and the third are told apart, though neither is told from the second
 pub no_equivalence : Equivalence NotApart → ⊥

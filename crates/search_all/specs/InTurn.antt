@@ -7,6 +7,7 @@ use Rattle.lists.specs.Faults.{fault_count}
 use Rattle.lists.specs.Patterns.{pattern_at}
 use Rattle.search.specs.Promise.{searched_numbers, Searches}
 use Rattle.answers.specs.declared.Refusal.{Refusal}
+use Rattle.nodes.specs.declared.Verdict.{Verdict}
 
 -- the eight bytes of record i
 abbrev pub record_at : List ℕ → ℕ → List ℕ
