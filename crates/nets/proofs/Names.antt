@@ -1,4 +1,4 @@
--- Names that become numbers: what their look-up asks for, and that the net with numbers is one that can be read.
+-- Names that become numbers: that the net with numbers is one that can be read.
 -- Assumes nothing.
 use mathlib.Core.Path.{◌≡◌, sym, ap, ◌∙◌, subst}
 use mathlib.Core.Logic.{⊎_elim}
@@ -12,7 +12,7 @@ use Rattle.ground.proofs.Map.{map_at}
 use Rattle.answers.specs.Rules.{Ruling, refusal}
 use Rattle.words.specs.Words.{word_at}
 use Rattle.names.specs.Names.{named, name_rules, definition, name_number}
-use Rattle.names.specs.Owed.{Within, ResolveReady, ResolveDone}
+use Rattle.names.specs.Owed.{Within, ResolveDone}
 use Rattle.names.proofs.Last.{last_most}
 use Rattle.names.proofs.OneDefinition.{used-defined}
 use Rattle.records.specs.Net.{Net}
@@ -22,7 +22,6 @@ use Rattle.answers.proofs.Rules.{both_fine, not_fine}
 use Rattle.answers.proofs.Answer.{first_refused, first_fine}
 use Rattle.std.specs.Prelude.{Ok, Err, Result}
 use Rattle.answers.specs.declared.Refusal.{Refusal}
-use Rattle.answers.specs.declared.Reason.{Reason}
 
 within_both : (t l m : List ℕ) → Within t l → Within t m → Within t (l ++ m)
 within_both t l m p q k h = ⊎_elim first second (either k (length l))
@@ -37,20 +36,6 @@ within_both t l m p q k h = ⊎_elim first second (either k (length l))
         rw g (q (k - length l) (omega (arith, length-append l m)))
 
 module _ {t : List ℕ} {n : NamedNet} (p : ReadNamesReady t n) where
-  pub unresolved : {o a b : List ℕ} → length o ≡ length n.outs → length a ≡ length n.firsts → length b ≡ length n.seconds
-      → ResolveReady t n.defs n.outs n.firsts n.seconds o a b
-  unresolved eo ea eb = record {
-    short = p.short;
-    few = p.few_defs;
-    defs_inside = p.defs_inside;
-    outs_inside = p.outs_inside;
-    firsts_inside = p.firsts_inside;
-    seconds_inside = p.seconds_inside;
-    for_outs = eo;
-    for_firsts = ea;
-    for_seconds = eb;
-  }
-
   -- where some name is defined, of any name at all
   number_below : 0 < length n.defs → (i : ℕ) → name_number t n.defs n.numbers i < n.inputs + length n.firsts
   unfolding name_number definition

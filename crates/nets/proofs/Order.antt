@@ -22,7 +22,6 @@ use Rattle.answers.proofs.Rules.{both_fine, not_fine}
 use Rattle.answers.proofs.Answer.{first_refused, first_fine}
 use Rattle.std.specs.Prelude.{Ok, Err, Result}
 use Rattle.answers.specs.declared.Refusal.{Refusal}
-use Rattle.answers.specs.declared.Reason.{Reason}
 use Rattle.answers.specs.declared.Reason.TheVariants.{CircuitSize}
 
 pub ordered : {net : Net} {order : List ℕ} {r : Ruling} → ReadNetReady net → ArrangeDone net.firsts net.seconds order r → r ≡ Ok tt → ReadOrderReady net order
