@@ -27,15 +27,17 @@ use Rattle.letters.proofs.Lines.{lines_short}
 use Rattle.listing.proofs.Made.{table_is, fine_sized, full}
 use Rattle.std.specs.Prelude.{Ok, Err}
 use Rattle.answers.specs.declared.Reason.{Reason}
+use Rattle.answers.specs.declared.Refusal.{Refusal}
+use Rattle.answers.specs.Area.{number_of}
 
 -- ---- from a table of its size
 
 module _ {c fs ps t w w' : List ℕ} {r : ℕ} (room : 71680 ≤ length w) where
-  pub refused_lists : {x : Reason} {y : ℕ} {t' : List ℕ} → MakeDone c fs ps t (Err (x, y)) t' → Put w w' 0 (refused_text x y) r → PutMadeDone c fs ps t w r t' w'
+  pub refused_lists : {why : Refusal} {t' : List ℕ} → MakeDone c fs ps t (Err why) t' → Put w w' 0 (refused_text (number_of why.0) why.1) r → PutMadeDone c fs ps t w r t' w'
   unfolding output_of
-  refused_lists {x} {y} so p = record {
+  refused_lists {why} so p = record {
     written = rw (← so.answer) p;
-    fits = omega (arith, p.next_is, refused_short x y, put_long p);
+    fits = omega (arith, p.next_is, refused_short (number_of why.0) why.1, put_long p);
     table = so.table;
   }
 
@@ -51,11 +53,11 @@ module _ {c fs ps t w w' : List ℕ} {r : ℕ} (room : 71680 ≤ length w) where
 
   -- ---- the promise
 
-  pub circuit_listed : {x : Reason} {y : ℕ} → refusal (circuit_rules c) ≡ Err (x, y) → Put w w' 0 (refused_text x y) r → Listed c fs ps t w r t w'
+  pub circuit_listed : {why : Refusal} → refusal (circuit_rules c) ≡ Err why → Put w w' 0 (refused_text (number_of why.0) why.1) r → Listed c fs ps t w r t w'
   unfolding output_of
-  circuit_listed {x} {y} e p =
+  circuit_listed {why} e p =
       let q = after_refused (circuit_rules c) (list_rules c (inputs_of c) fs ps) e in
-      record { written = rw q p; fits = omega (arith, p.next_is, refused_short x y, put_long p); table = rw q }
+      record { written = rw q p; fits = omega (arith, p.next_is, refused_short (number_of why.0) why.1, put_long p); table = rw q }
 
 -- so much of the table was lent as it has entries
 pub listed : {c fs ps : List ℕ} (t : List ℕ) {t' w w' : List ℕ} {n m r size : ℕ}

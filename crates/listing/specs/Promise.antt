@@ -13,6 +13,7 @@ use Rattle.rows.specs.Table.{table_of}
 use Rattle.tables.specs.Entries.{entries_of}
 use Rattle.needs.specs.Needs as needs
 use Rattle.letters.specs.Text.{lines_to, refused_text}
+use Rattle.answers.specs.Area.{number_of}
 
 -- what can be refused: the circuit, the faults, the patterns; its own buffers are of their size
 abbrev pub program_rules : List ℕ → List ℕ → List ℕ → List Rule
@@ -32,7 +33,7 @@ lines_of_all c fs ps = table_text (fault_count fs) (pattern_count (inputs_of c) 
 -- a refusal prints only its own line
 abbrev pub text_by : Ruling → List ℕ → List ℕ
 text_by (Ok u) lines = lines
-text_by (Err why) lines = refused_text why.0 why.1
+text_by (Err why) lines = refused_text (number_of why.0) why.1
 
 unfoldable pub output_of : List ℕ → List ℕ → List ℕ → List ℕ
 output_of c fs ps = text_by (refusal (program_rules c fs ps)) (lines_of_all c fs ps)

@@ -157,7 +157,7 @@ pub fn of_read(v: Result<usize, Refusal>) -> Reply
     ensures { numbers_in result ≡ read_numbers v }
 {
     match v {
-        Ok(n) => success(n as u64, 0, 0),
+        Ok(records) => success(records as u64, 0, 0),
         Err(why) => refused(why),
     }
 }
@@ -166,7 +166,7 @@ pub fn of_unfolding(v: Result<usize, Refusal>) -> Reply
     ensures { numbers_in result ≡ unfolding_numbers v }
 {
     match v {
-        Ok(n) => success(n as u64, 0, 0),
+        Ok(lines) => success(lines as u64, 0, 0),
         Err(why) => refused(why),
     }
 }

@@ -4,10 +4,10 @@ use mathlib.Core.Path.{◌∙◌}
 use Rattle.circuit.specs.Promise.{checked_numbers}
 use Rattle.replies.proofs.of_checked.Goals as goal
 
-pub returns-in-Accepted : goal.returns-in-Accepted
+pub returns-in-Ok : goal.returns-in-Ok
 unfolding checked_numbers
-returns-in-Accepted c = c.success.ensures ∙ simp c.in-Accepted.is
+returns-in-Ok c = c.success.ensures ∙ simp c.in-Ok.is
 
-pub returns-in-Refused : goal.returns-in-Refused
+pub returns-in-Err : goal.returns-in-Err
 unfolding checked_numbers
-returns-in-Refused c = c.refused.ensures ∙ simp c.in-Refused.is
+returns-in-Err c = c.refused.ensures ∙ simp c.in-Err.is

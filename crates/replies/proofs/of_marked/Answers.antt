@@ -4,10 +4,10 @@ use mathlib.Core.Path.{◌∙◌}
 use Rattle.suspect_areas.specs.Promise.{marked_numbers}
 use Rattle.replies.proofs.of_marked.Goals as goal
 
-pub returns-in-Marks : goal.returns-in-Marks
+pub returns-in-Ok : goal.returns-in-Ok
 unfolding marked_numbers
-returns-in-Marks c = c.success.ensures ∙ simp c.in-Marks.is
+returns-in-Ok c = c.success.ensures ∙ simp c.in-Ok.is
 
-pub returns-in-Refused : goal.returns-in-Refused
+pub returns-in-Err : goal.returns-in-Err
 unfolding marked_numbers
-returns-in-Refused c = c.refused.ensures ∙ simp c.in-Refused.is
+returns-in-Err c = c.refused.ensures ∙ simp c.in-Err.is

@@ -4,10 +4,10 @@ use mathlib.Core.Path.{◌∙◌}
 use Rattle.suspects.specs.Promise.{narrowed_numbers}
 use Rattle.replies.proofs.of_narrowed.Goals as goal
 
-pub returns-in-Remaining : goal.returns-in-Remaining
+pub returns-in-Ok : goal.returns-in-Ok
 unfolding narrowed_numbers
-returns-in-Remaining c = c.success.ensures ∙ simp c.in-Remaining.is
+returns-in-Ok c = c.success.ensures ∙ simp c.in-Ok.is
 
-pub returns-in-Refused : goal.returns-in-Refused
+pub returns-in-Err : goal.returns-in-Err
 unfolding narrowed_numbers
-returns-in-Refused c = c.refused.ensures ∙ simp c.in-Refused.is
+returns-in-Err c = c.refused.ensures ∙ simp c.in-Err.is

@@ -4,10 +4,10 @@ use mathlib.Core.Path.{◌∙◌}
 use Rattle.search.specs.Promise.{searched_numbers}
 use Rattle.replies.proofs.of_searched.Goals as goal
 
-pub returns-in-Verdict : goal.returns-in-Verdict
+pub returns-in-Ok : goal.returns-in-Ok
 unfolding searched_numbers
-returns-in-Verdict c = c.of_verdict.ensures ∙ simp c.in-Verdict.is
+returns-in-Ok c = c.of_verdict.ensures ∙ simp c.in-Ok.is
 
-pub returns-in-Refused : goal.returns-in-Refused
+pub returns-in-Err : goal.returns-in-Err
 unfolding searched_numbers
-returns-in-Refused c = c.refused.ensures ∙ simp c.in-Refused.is
+returns-in-Err c = c.refused.ensures ∙ simp c.in-Err.is

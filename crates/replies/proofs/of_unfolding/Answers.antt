@@ -4,10 +4,10 @@ use mathlib.Core.Path.{◌∙◌}
 use Rattle.unfold.specs.Promise.{unfolding_numbers}
 use Rattle.replies.proofs.of_unfolding.Goals as goal
 
-pub returns-in-Lines : goal.returns-in-Lines
+pub returns-in-Ok : goal.returns-in-Ok
 unfolding unfolding_numbers
-returns-in-Lines c = c.success.ensures ∙ simp c.in-Lines.is
+returns-in-Ok c = c.success.ensures ∙ simp c.in-Ok.is
 
-pub returns-in-Refused : goal.returns-in-Refused
+pub returns-in-Err : goal.returns-in-Err
 unfolding unfolding_numbers
-returns-in-Refused c = c.refused.ensures ∙ simp c.in-Refused.is
+returns-in-Err c = c.refused.ensures ∙ simp c.in-Err.is

@@ -4,10 +4,10 @@ use mathlib.Core.Path.{◌∙◌}
 use Rattle.clauses.specs.Promise.{written_numbers}
 use Rattle.replies.proofs.of_written.Goals as goal
 
-pub returns-in-Success : goal.returns-in-Success
+pub returns-in-Ok : goal.returns-in-Ok
 unfolding written_numbers
-returns-in-Success c = c.success.ensures ∙ simp c.in-Success.is
+returns-in-Ok c = c.success.ensures ∙ simp c.in-Ok.is
 
-pub returns-in-Refused : goal.returns-in-Refused
+pub returns-in-Err : goal.returns-in-Err
 unfolding written_numbers
-returns-in-Refused c = c.refused.ensures ∙ simp c.in-Refused.is
+returns-in-Err c = c.refused.ensures ∙ simp c.in-Err.is
