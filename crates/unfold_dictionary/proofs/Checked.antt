@@ -7,8 +7,8 @@ use native.Mathlib.Nat.{mul-le-mul_right, one-mul}
 use native.Mathlib.Omega.{arith}
 use Rattle.answers.specs.Rules.{Ruling}
 use Rattle.answers.specs.Rules.{refusal, AllSay}
-use Rattle.answers.proofs.Rules.{after_refused, after_fine, both_fine, both_say}
-use Rattle.answers.proofs.Answer.{was_ruled}
+use Rattle.answers.proofs.Rules.{after_refused, after_fine, both_fine, both_say, same_good}
+use Rattle.answers.proofs.Answer.{was_ruled, ruling_of}
 use Rattle.circuit.specs.Record.{lines_of}
 use Rattle.simulate.proofs.Small.{all_small}
 use Rattle.rows.specs.Owed.{TableReady, FaultsInSteps}
@@ -17,7 +17,7 @@ use Rattle.dictionary.proofs.Checked.{RestTaken, rest_says, rest_taken}
 use Rattle.states.specs.declared.Clocked.{Clocked}
 use Rattle.states.specs.Rules.{lines_after, inputs_after, clocked_rules, clocked_are}
 use Rattle.states.proofs.Says.{clocked_says}
-use Rattle.states.proofs.Steps.{ruling_of, ruled, ClockedTaken, clocked_taken}
+use Rattle.states.proofs.Steps.{ClockedTaken, clocked_taken}
 use Rattle.unfolded.specs.Unfolded.{unfolded}
 use Rattle.unfolded.proofs.Accepted.{unfolded-formed}
 use Rattle.unfold_dictionary.specs.Promise.{rest_rules, steps_dictionary_rules}
@@ -97,5 +97,5 @@ module _ {c st : List ℕ} {k : ℕ} {fs ps : List ℕ} {table work : ℕ} where
     pub steps_accept : {n m : ℕ} → r ≡ Ok (clocked_are n m) → (refusal (steps_dictionary_rules c st k fs ps table work) ≡ Ok tt) × (n ≡ lines_of c) × (m ≡ inputs_after c st k)
     steps_accept {n} {m} told =
         let q : refusal (steps_dictionary_rules c st k fs ps table work) ≡ Ok tt = was ∙ ap ruling_of told in
-        let so : Ok (clocked_are n m) ≡ Ok (clocked_are (lines_of c) (inputs_after c st k)) = sym told ∙ p.answer ∙ rw q in
-        (q, cc, cc)
+        let so : clocked_are n m ≡ clocked_are (lines_of c) (inputs_after c st k) = same_good (sym told ∙ p.answer ∙ rw q) in
+        (q, ap (λ (a : Clocked). a.lines) so, ap (λ (a : Clocked). a.inputs) so)

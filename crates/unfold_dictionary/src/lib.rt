@@ -130,7 +130,7 @@ pub fn unfold_dictionary(
 ) -> Result<(), Refusal>
     ensures { StepsDictionary circuit.now states.now steps faults.now patterns.now table.old work.old result table.new work.new }
 {
-    let sizes = check_all_steps(
+    let checked = check_all_steps(
         circuit,
         states,
         steps,
@@ -138,7 +138,8 @@ pub fn unfold_dictionary(
         patterns,
         table.len(),
         work.len(),
-    )?;
+    );
+    let sizes = checked?;
     fill(
         circuit, states, sizes.lines, steps, sizes.inputs, faults, patterns, table, work,
     );
