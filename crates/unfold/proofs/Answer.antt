@@ -1,11 +1,10 @@
 -- From the checks to the promise: tests and words of the rules agree, what is not refused is ready; and that the promise allows one result only.
 -- Assumes nothing.
-use mathlib.Core.Path.{◌≡◌, refl, ap, ◌∙◌}
+use mathlib.Core.Path.{◌≡◌, ap, ◌∙◌}
 use mathlib.Core.List.{List}
 use Prim.Native.Nat.{ℕ, ◌*◌}
 use lib.ListN.{length}
 use borrow.Author.Tests.{eq-eqb, ne_eqb}
-use Rattle.answers.specs.Rules.{Ruling}
 use Rattle.answers.specs.Rules.{said, refusal, AllSay, AllHold}
 use Rattle.answers.specs.Owed.{RulesDone}
 use Rattle.answers.proofs.Rules.{all_hold, both_fine, both_say}
@@ -22,7 +21,6 @@ use Rattle.unfold.specs.Promise.{unfold_room_rules, unfold_rules, unfolding_numb
 use Rattle.unfold.specs.Owed.{UnfoldingReady, RoomDone}
 use Rattle.std.specs.Prelude.{Ok, Err, Result}
 use Rattle.answers.specs.declared.Refusal.{Refusal}
-use Rattle.answers.specs.declared.Reason.{Reason}
 use Rattle.answers.specs.declared.Reason.TheVariants.{BufferSize}
 
 -- ---- the rules
@@ -70,8 +68,7 @@ module _ {c st : List ℕ} {k : ℕ} {u : List ℕ} where
   unfolding unfolding_numbers
   by_rules d = record {
     answer = d.answer;
-    numbers =
-        ap unfolding_numbers d.answer ∙ numbers-told unfolding_numbers (λ x y. refl) (refusal (unfold_rules c st k (length u))) (Ok (lines_after c k));
+    numbers = ap unfolding_numbers d.answer ∙ numbers-told _ (refusal (unfold_rules c st k (length u))) (lines_after c k);
     buffer = d.memory;
   }
 

@@ -9,7 +9,7 @@ use Rattle.answers.specs.Rules.{unless, Applies}
 use Rattle.answers.specs.Answer.{answered}
 use Rattle.answers.proofs.Rules.{applies, refused, not_fine}
 use Rattle.answers.proofs.Answer as answer
-use Rattle.answers.proofs.Answer.{Ruled, was_ruled}
+use Rattle.answers.proofs.Answer.{ruling_of, was_ruled}
 use Rattle.states.specs.Rules.{lines_after}
 use Rattle.unfolded.specs.Unfolded.{unfolded}
 use Rattle.unfolded.proofs.Words.{unfolded_words, words_unfolded}
@@ -20,26 +20,18 @@ use Rattle.std.specs.Prelude.{Ok, Err, Result}
 use Rattle.answers.specs.declared.Refusal.{Refusal}
 use Rattle.answers.specs.declared.Reason.{Reason}
 
--- what was ruled, by the answer
-abbrev pub ruling_of : Result ℕ Refusal → Ruling
-ruling_of (Ok n) = Ok tt
-ruling_of (Err why) = Err why
-
-pub ruled : (n : ℕ) → Ruled ruling_of (Ok n)
-ruled n = record { refuses = λ x y. refl; accepts = refl }
-
 module _ {c st : List ℕ} {k : ℕ} {u : List ℕ} {r : Result ℕ Refusal} {u' : List ℕ} where
   module _ (d : UnfoldingMade c st k u r u') where
     was : {v : Ruling} → ruling_of r ≡ v → unfold_ruling c st k u ≡ v
-    was says = was_ruled (ruled (lines_after c k)) d.answer says
+    was says = was_ruled _ d.answer says
 
     -- a refusal is the first that applies, with the lowest place; and where one applies, it is given
     module _ (reason : Reason) (place : ℕ) where
       pub refused_applies : r ≡ Err (reason, place) → Applies (unfold_rules c st k (length u)) reason place
-      refused_applies = answer.refused_applies (ruled (lines_after c k)) _ (unfold_says c st k (length u)) d.answer reason place
+      refused_applies = answer.refused_applies _ _ (unfold_says c st k (length u)) d.answer reason place
 
       pub applies_refused : Applies (unfold_rules c st k (length u)) reason place → r ≡ Err (reason, place)
-      applies_refused = answer.applies_refused (ruled (lines_after c k)) _ (unfold_says c st k (length u)) d.answer reason place
+      applies_refused = answer.applies_refused _ _ (unfold_says c st k (length u)) d.answer reason place
 
     -- the promise meets the words
     pub in_words : UnfoldingInWords c st k u r u'
@@ -68,13 +60,13 @@ module _ {c st : List ℕ} {k : ℕ} {u : List ℕ} {r : Result ℕ Refusal} {u'
       given x y q = i.refuses x y (applies (unfold_rules c st k (length u)) (unfold_says c st k (length u)) x y q)
 
       told : (v : Ruling) → unfold_ruling c st k u ≡ v → (a : Result ℕ Refusal) → r ≡ a → r ≡ answered v (lines_after c k)
-      told (Ok u) q (Ok n) e = e ∙ ap Ok (i.made n e).0
-      told (Ok u) q (Err why) e = absurd (not_refused q why.0 why.1 e)
+      told (Ok _) q (Ok n) e = e ∙ ap Ok (i.made n e).0
+      told (Ok _) q (Err why) e = absurd (not_refused q why.0 why.1 e)
       told (Err why) q a e = given why.0 why.1 q
 
       held : (v : Ruling) → unfold_ruling c st k u ≡ v → (a : Result ℕ Refusal) → r ≡ a → u' ≡ unless v u (unfolded c st k)
-      held (Ok u) q (Ok n) e =
+      held (Ok _) q (Ok n) e =
           let t = unfold_taken c st k (length u) q in
           words_unfolded t.clocked.circuit_fine t.clocked.steps (i.made n e).1
-      held (Ok u) q (Err why) e = absurd (not_refused q why.0 why.1 e)
+      held (Ok _) q (Err why) e = absurd (not_refused q why.0 why.1 e)
       held (Err why) q a e = i.nothing why.0 why.1 (given why.0 why.1 q)

@@ -1,10 +1,10 @@
 -- The circuit unfolded over several clock steps: the refusals 1, 2, 4, 5, 21, 18, 19 and 10, what is answered, and what is promised.
 -- Assumes nothing.
-use Rattle.std.specs.Prelude.{◌≡◌, List, [], ◌∷◌, ◌++◌, ℕ, ◌*◌, length, Ok, Err, Result}
+use Rattle.std.specs.Prelude.{◌≡◌, List, [], ◌∷◌, ◌++◌, ℕ, ◌*◌, length, Result}
 use Rattle.answers.specs.Rules.{Ruling}
 use Rattle.answers.specs.Rules.{Rule, refusal, unless}
 use Rattle.answers.specs.Lent.{exact}
-use Rattle.answers.specs.Area.{Numbers, success, refused_at, told}
+use Rattle.answers.specs.Area.{Numbers, success, in_numbers, told}
 use Rattle.answers.specs.Answer.{answered}
 use Rattle.states.specs.Rules.{lines_after, clocked_rules}
 use Rattle.unfolded.specs.Unfolded.{unfolded}
@@ -24,8 +24,7 @@ unfold_ruling c st k u = refusal (unfold_rules c st k (length u))
 
 -- the paper's number and values for each case of the answer
 unfoldable pub unfolding_numbers : Result ℕ Refusal → Numbers
-unfolding_numbers (Ok n) = success n 0 0
-unfolding_numbers (Err why) = refused_at why.0 why.1
+unfolding_numbers = in_numbers (λ n. success n 0 0)
 
 -- the promise, whatever the bytes, where u was lent, and r and u' come back: the answer, its number and values, and every byte of the buffer
 pub record UnfoldingMade (c st : List ℕ) (k : ℕ) (u : List ℕ) (r : Result ℕ Refusal) (u' : List ℕ) : Type 0 where

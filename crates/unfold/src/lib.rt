@@ -227,7 +227,12 @@ fn unfold_checked(
 }
 
 // Writes the circuit unfolded over these steps, or gives the first refusal and writes nothing.
-pub fn unfold(circuit: &[u8], states: &[u8], steps: usize, buffer: &mut [u8]) -> Result<usize, Refusal>
+pub fn unfold(
+    circuit: &[u8],
+    states: &[u8],
+    steps: usize,
+    buffer: &mut [u8],
+) -> Result<usize, Refusal>
     ensures { UnfoldingMade circuit.now states.now steps buffer.old result buffer.new }
 {
     let sizes = check_clocked(circuit, states, steps)?;
