@@ -1,12 +1,12 @@
 -- What the promise of the audit says: one answer; a finding where nothing is refused, the one that the words say; and what sound means.
 -- Assumes nothing.
-use mathlib.Core.Path.{◌≡◌, refl, sym, ap, ◌∙◌}
+use mathlib.Core.Path.{◌≡◌, sym, ap, ◌∙◌}
 use mathlib.Core.Logic.{◌↔◌}
 use mathlib.Core.List.{List}
 use Prim.Native.Nat.{ℕ}
-use Rattle.answers.specs.Rules.{Ruling}
 use Rattle.answers.specs.Rules.{refusal}
 use Rattle.answers.specs.Answer.{answered}
+use Rattle.answers.proofs.Rules.{same_good}
 use Rattle.answers.proofs.Answer.{numbers-told, was_ruled}
 use Rattle.tables.specs.Entries.{entries_of}
 use Rattle.tables.specs.Marks.{kept_rules}
@@ -18,10 +18,8 @@ use Rattle.findings.specs.Words.{Finds, ZeroOrOne}
 use Rattle.findings.proofs.Finds.{finding_words}
 use Rattle.findings.proofs.Sound.{sound_words}
 use Rattle.audit.specs.Promise.{audited_numbers, Audits}
-use Rattle.audit.proofs.Says.{ruled}
 use Rattle.std.specs.Prelude.{Ok, Err, Result}
 use Rattle.answers.specs.declared.Refusal.{Refusal}
-use Rattle.answers.specs.declared.Reason.{Reason}
 
 module _ {F P : ℕ} {t m : List ℕ} where
   -- two answers that the promise allows are equal
@@ -35,9 +33,8 @@ module _ {F P : ℕ} {t m : List ℕ} where
     pub found_words : (x : Finding) → (r ≡ Ok x) ↔ ((refusal (kept_rules F P t m) ≡ Ok tt) × Finds (entries_of F t) F P m x)
     found_words x = (
       λ e.
-          let fine : refusal (kept_rules F P t m) ≡ Ok tt = was_ruled (ruled _) so.answer (rw e) in
-          let q : Ok (finding_of (entries_of F t) F P m) ≡ Ok x = sym (so.answer ∙ rw fine) ∙ e in
-          (fine, (finding_words (entries_of F t) F P m x).0 (cc)),
+          let fine : refusal (kept_rules F P t m) ≡ Ok tt = was_ruled _ so.answer (rw e) in
+          (fine, (finding_words (entries_of F t) F P m x).0 (same_good (sym (so.answer ∙ rw fine) ∙ e))),
       λ w. so.answer ∙ rw w.0 (ap Ok ((finding_words (entries_of F t) F P m x).1 w.1)),
     )
 
@@ -54,7 +51,7 @@ module _ {F P : ℕ} {t m : List ℕ} where
   unfolding audited_numbers
   audits e = record {
     answer = e;
-    numbers = ap audited_numbers e ∙ numbers-told audited_numbers (λ n k. refl) (refusal (kept_rules F P t m)) (Ok (finding_of (entries_of F t) F P m));
+    numbers = ap audited_numbers e ∙ numbers-told _ (refusal (kept_rules F P t m)) (finding_of (entries_of F t) F P m);
   }
 
   pub marks_refused : {why : Refusal} → refusal (kept_rules F P t m) ≡ Err why → Audits F P t m (Err why)

@@ -92,14 +92,14 @@ fn audit_table(faults: usize, patterns: usize, table: &[u8], marks: &[u8]) -> Fi
 }
 
 // The audit.
-pub fn audit(fault_count: u64, pattern_count: u64, table: &[u8], marks: &[u8]) -> Result<Finding, Refusal>
+pub fn audit(
+    fault_count: u64,
+    pattern_count: u64,
+    table: &[u8],
+    marks: &[u8],
+) -> Result<Finding, Refusal>
     ensures { Audits fault_count pattern_count table.now marks.now result }
 {
     check_marks(fault_count, pattern_count, table, marks)?;
-    Ok(audit_table(
-        fault_count as usize,
-        pattern_count as usize,
-        table,
-        marks,
-    ))
+    Ok(audit_table(fault_count as usize, pattern_count as usize, table, marks))
 }

@@ -1,6 +1,6 @@
 -- The promise of the clause writer: reached rule by rule, and met by one result only.
 -- Assumes nothing.
-use mathlib.Core.Path.{◌≡◌, refl, sym, ap, ◌∙◌}
+use mathlib.Core.Path.{◌≡◌, sym, ap, ◌∙◌}
 use mathlib.Core.Bool.{true, false}
 use mathlib.Core.List.{List}
 use Prim.Native.Nat.{ℕ, ◌≤◌, ◌<◌}
@@ -11,9 +11,7 @@ use lib.ListN.{length}
 use borrow.Author.Tests.{le-leb, lt-leb}
 use Rattle.ground.proofs.Counting.{count_most}
 use Rattle.ground.specs.Put.{laid_on}
-use Rattle.answers.specs.Rules.{Ruling}
 use Rattle.answers.specs.Rules.{said, refusal}
-use Rattle.answers.proofs.Answer as answer
 use Rattle.answers.proofs.Answer.{numbers-told, refused_done, fine_done}
 use Rattle.answers.proofs.Records.{one_record}
 use Rattle.circuit.specs.Record.{lines_of, inputs_of, is_output, outputs_before, Inside}
@@ -78,7 +76,7 @@ pub writes : {c fs : List ℕ} {w w' : List ℤ} {r : Result Written Refusal} �
 unfolding written_of written_numbers
 writes {c} {fs} {w} p = record {
   answer = p.answer;
-  numbers = ap written_numbers p.answer ∙ numbers-told written_numbers (λ x y. refl) (refusal (clause_rules c fs (length w))) _;
+  numbers = ap written_numbers p.answer ∙ numbers-told _ (refusal (clause_rules c fs (length w))) _;
   words = p.memory;
 }
 

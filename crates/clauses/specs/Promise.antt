@@ -1,10 +1,10 @@
 -- Part 5, the clause writer: its refusals, what it answers, and what the lent words hold afterwards.
 -- Assumes nothing.
-use Rattle.std.specs.Prelude.{◌≡◌, List, [], ◌∷◌, ◌++◌, ℕ, ◌≤◌, leb, ℤ, length, Ok, Err, Result}
+use Rattle.std.specs.Prelude.{◌≡◌, List, [], ◌∷◌, ◌++◌, ℕ, ◌≤◌, leb, ℤ, length, Result}
 use Rattle.ground.specs.Put.{laid_on}
 use Rattle.answers.specs.Rules.{Rule, refusal, unless}
 use Rattle.answers.specs.Rules.Rule.{whole}
-use Rattle.answers.specs.Area.{Numbers, success, refused_at, told}
+use Rattle.answers.specs.Area.{Numbers, success, in_numbers, told}
 use Rattle.answers.specs.Answer.{answered}
 use Rattle.circuit.specs.Record.{lines_of}
 use Rattle.circuit.specs.Promise.{circuit_rules}
@@ -31,16 +31,19 @@ words_for c fault = words_of (clauses_for c fault)
 abbrev pub clause_rules : List ℕ → List ℕ → ℕ → List Rule
 clause_rules c fs room = circuit_rules c ++ (fault_rules 1 c fs ++ room_rules (length (words_for c (fault_at fs 0))) room)
 
--- words, clauses and variables where all is fine
+-- so many words, clauses and variables
+abbrev pub written_are : ℕ → ℕ → ℕ → Written
+written_are w l v = record { words = w; clauses = l; variables = v }
+
+-- they are the answer where all is fine
 unfoldable pub written_of : List ℕ → List ℕ → ℕ → Result Written Refusal
 written_of c fs room =
     answered (refusal (clause_rules c fs room))
-    (Ok (written_are (length (words_for c (fault_at fs 0))) (length (clauses_for c (fault_at fs 0))) (variables_of c (lines_of c))))
+    (written_are (length (words_for c (fault_at fs 0))) (length (clauses_for c (fault_at fs 0))) (variables_of c (lines_of c)))
 
 -- the paper's number and values for each case of the answer
 unfoldable pub written_numbers : Result Written Refusal → Numbers
-written_numbers (Ok (written_are w l v)) = success w l v
-written_numbers (Err why) = refused_at why.0 why.1
+written_numbers = in_numbers (λ a. success a.words a.clauses a.variables)
 
 -- the promise, whatever the bytes and the words: the answer's case, its number and values, and every word; a refusal writes nothing
 pub record Writes (c fs : List ℕ) (w w' : List ℤ) (r : Result Written Refusal) : Type 0 where

@@ -138,7 +138,13 @@ fn put_all(circuit: &[u8], fault: Fault, n: usize, outputs: usize, words: &mut [
 // ---- the part
 
 // On an accepted circuit and a fault of it: the list, if it fits.
-fn fitted(circuit: &[u8], fault: Fault, n: usize, outputs: usize, words: &mut [i32]) -> Result<Written, Refusal>
+fn fitted(
+    circuit: &[u8],
+    fault: Fault,
+    n: usize,
+    outputs: usize,
+    words: &mut [i32],
+) -> Result<Written, Refusal>
     requires { WholeReady circuit.now n outputs }
     ensures { FitDone circuit.now fault n words.old words.new result }
 {
@@ -148,11 +154,21 @@ fn fitted(circuit: &[u8], fault: Fault, n: usize, outputs: usize, words: &mut [i
         return Err(Refusal(Reason::NoRoom, need));
     }
     put_all(circuit, fault, n, outputs, words);
-    Ok(Written { words: need, clauses: size.clauses, variables: 2 * n + 1 + outputs })
+    Ok(Written {
+        words: need,
+        clauses: size.clauses,
+        variables: 2 * n + 1 + outputs,
+    })
 }
 
 // On an accepted circuit: the fault's refusals, then the list.
-fn accepted(circuit: &[u8], fault: &[u8], n: usize, outputs: usize, words: &mut [i32]) -> Result<Written, Refusal>
+fn accepted(
+    circuit: &[u8],
+    fault: &[u8],
+    n: usize,
+    outputs: usize,
+    words: &mut [i32],
+) -> Result<Written, Refusal>
     requires { Accepts circuit.now n (inputs_of circuit.now) outputs }
     ensures { RestDone circuit.now fault.now n words.old words.new result }
 {

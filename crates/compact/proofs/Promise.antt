@@ -13,7 +13,6 @@ use Rattle.needs.specs.Words.{Detected, LastToFirst, Sound}
 use Rattle.needs.proofs.Sound.{compacted_so, compacted_sound, none_detected}
 use Rattle.compact.specs.Promise.{Compacts}
 use Rattle.std.specs.Prelude.{Ok, Err}
-use Rattle.answers.specs.declared.Reason.{Reason}
 use Rattle.answers.specs.declared.Refusal.{Refusal}
 
 module _ {F P : ℕ} {t m : List ℕ} where

@@ -117,7 +117,12 @@ fn mark_table(faults: usize, patterns: usize, table: &[u8], marks: &mut [u8])
 }
 
 // The compactor.
-pub fn compact(fault_count: u64, pattern_count: u64, table: &[u8], marks: &mut [u8]) -> Result<(), Refusal>
+pub fn compact(
+    fault_count: u64,
+    pattern_count: u64,
+    table: &[u8],
+    marks: &mut [u8],
+) -> Result<(), Refusal>
     ensures { Compacts fault_count pattern_count table.now marks.old result marks.new }
 {
     check_marks(fault_count, pattern_count, table, marks)?;

@@ -1,14 +1,13 @@
 -- Demand 3 about the very words that the clause writer writes: after success they are faithful to the circuit and the fault.
 -- Assumes nothing.
-use mathlib.Core.Path.{◌≡◌, refl, sym, ◌∙◌}
+use mathlib.Core.Path.{◌≡◌, refl, sym, ap, ◌∙◌}
 use mathlib.Core.List.{List}
 use Prim.Native.Nat.{ℕ}
 use lib.IntN.{ℤ}
 use lib.ListN.{length, take, drop}
 use lib.Seq.{take_at}
-use Rattle.answers.specs.Rules.{Ruling}
 use Rattle.answers.specs.Rules.{refusal}
-use Rattle.answers.proofs.Rules.{both_fine}
+use Rattle.answers.proofs.Rules.{both_fine, same_good}
 use Rattle.answers.proofs.Answer.{was_ruled}
 use Rattle.circuit.specs.Record.{lines_of}
 use Rattle.ground.specs.Put.{laid_on}
@@ -18,8 +17,8 @@ use Rattle.lists.specs.declared.Fault.{Fault}
 use Rattle.lists.specs.Faults.{fault_at}
 use Rattle.simulate.specs.Boolean.{Vector, Detects}
 use Rattle.line_clauses.specs.Clauses.{variables_of}
+use Rattle.clauses.specs.declared.Written.{Written}
 use Rattle.clauses.specs.Promise.{clauses_for, words_for, clause_rules, written_of, Writes, written_are}
-use Rattle.clauses.proofs.Says.{ruled}
 use Rattle.satisfied.specs.Satisfied.{FaithfulWords}
 use Rattle.satisfied.proofs.Faithful.{faithful}
 use Rattle.std.specs.Prelude.{Ok}
@@ -35,11 +34,11 @@ module _ {c fs : List ℕ} {w w' : List ℤ} {a b v : ℕ} (p : Writes c fs w w'
   succeeded : Succeeded
   unfolding written_of
   succeeded =
-      let q : refusal (clause_rules c fs (length w)) ≡ Ok tt = was_ruled (ruled _ _ _) p.answer refl in
-      let e : Ok (written_are a b v) ≡ Ok (written_are (length (words_for c (fault_at fs 0))) (length (clauses_for c (fault_at fs 0))) (variables_of c (lines_of c))) = p.answer ∙ rw q in
+      let q : refusal (clause_rules c fs (length w)) ≡ Ok tt = was_ruled _ p.answer refl in
+      let e : written_are a b v ≡ written_are (length (words_for c (fault_at fs 0))) (length (clauses_for c (fault_at fs 0))) (variables_of c (lines_of c)) = same_good (p.answer ∙ rw q) in
       let l : w' ≡ laid_on w (words_for c (fault_at fs 0)) = p.words ∙ rw q in
-      let n : a ≡ length (words_for c (fault_at fs 0)) = cc in
-      record { fine = q; words = rw l (take_at (words_for c (fault_at fs 0)) (drop (length (words_for c (fault_at fs 0))) w) a (sym n)); clauses = cc; variables = cc }
+      let n : a ≡ length (words_for c (fault_at fs 0)) = ap (λ (x : Written). x.words) e in
+      record { fine = q; words = rw l (take_at (words_for c (fault_at fs 0)) (drop (length (words_for c (fault_at fs 0))) w) a (sym n)); clauses = ap (λ (x : Written). x.clauses) e; variables = ap (λ (x : Written). x.variables) e }
 
   pub written_faithful : FaithfulWords c (fault_at fs 0) (take a w') b v
   written_faithful =
