@@ -1,6 +1,6 @@
 -- The promise of the reader: reached from what its steps leave, and met by one result only.
 -- Assumes nothing.
-use mathlib.Core.Path.{◌≡◌, refl, ap, ◌∙◌}
+use mathlib.Core.Path.{◌≡◌, ap, ◌∙◌}
 use mathlib.Core.List.{List}
 use Prim.Native.Nat.{ℕ}
 use lib.ListN.{length}
@@ -16,7 +16,7 @@ pub reads : {t p p' c c' : List ℕ} {r : Result ℕ Refusal} → PlacesDone (be
 unfolding read_of read_numbers
 reads {t} {c = c} d = record {
   answer = d.answer;
-  numbers = ap read_numbers d.answer ∙ numbers-told read_numbers (λ x y. refl) (refusal (bench_rules t (length c))) _;
+  numbers = ap read_numbers d.answer ∙ numbers-told _ (refusal (bench_rules t (length c))) _;
   circuit = memory_part (λ (lent : List ℕ × List ℕ). lent.1) d;
 }
 

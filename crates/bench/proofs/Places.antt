@@ -7,9 +7,9 @@ use native.Mathlib.Omega.{arith}
 use lib.ListN.{length, get_or}
 use Rattle.ground.specs.Put.{laid_on}
 use Rattle.ground.proofs.Grow.{grow-same}
-use Rattle.answers.specs.Rules.{Ruling, refusal}
+use Rattle.answers.specs.Rules.{refusal}
 use Rattle.answers.proofs.Rules.{both_fine}
-use Rattle.answers.proofs.Answer.{was_ruled}
+use Rattle.answers.proofs.Answer.{ruling_of, was_ruled}
 use Rattle.words.specs.Words.{words_in, ends_in}
 use Rattle.statements.proofs.Lengths.{numbers-length, defs_length}
 use Rattle.names.specs.Names.{name_rules}
@@ -24,24 +24,13 @@ use Rattle.texts.specs.Owed.{text_rules, UsesDone, DefsKnown}
 use Rattle.bench.specs.Promise.{records_in}
 use Rattle.bench.specs.Owed.{TextDone}
 use Rattle.texts.proofs.Numbers.{size_is, numbers_below, each_number}
-use Rattle.bench.proofs.Says.{ruling_of, ruled}
-use Rattle.std.specs.Prelude.{Ok, Err, Result}
+use Rattle.std.specs.Prelude.{Ok, Result}
 use Rattle.answers.specs.declared.Refusal.{Refusal}
-use Rattle.answers.specs.declared.Reason.{Reason}
 
--- where something is refused, no place is written
-pub unplaced : {t ws es fs defs numbers : List ℕ} {inputs : ℕ} → DefsKnown t ws es fs inputs defs numbers
-    → {order c c' p : List ℕ} {r : Result ℕ Refusal} {why : Refusal} → UsesDone t order c c' r → r ≡ Err why → TextDone t p p c c' (Err why)
-unplaced {t} u {c = c} {c'} {number = number} {place} o e =
-    let refused : refusal (text_rules t (length c)) ≡ Err (reason, place) = was_ruled (ruled _) o.done.answer (ap ruling_of e) in
-    let same : c' ≡ c = rw refused at o.done.memory in
-    record { answer = rw e at o.done.answer; memory = rw (refused, same) }
-
--- where nothing is
 module _ {t ws es fs defs numbers : List ℕ} {inputs : ℕ} (u : DefsKnown t ws es fs inputs defs numbers) {order c c' : List ℕ} {r : Result ℕ Refusal}
     (o : UsesDone t order c c' r) {n : ℕ} (e : r ≡ Ok n) where
   fine : refusal (text_rules t (length c)) ≡ Ok tt
-  fine = was_ruled (ruled _) o.done.answer (ap ruling_of e)
+  fine = was_ruled _ o.done.answer (ap ruling_of e)
 
   net_fine : refusal (net_rules (net_in t) (length c)) ≡ Ok tt
   net_fine = (both_fine (name_rules t (defs_in t) (uses_in t)) _ fine).1

@@ -1,10 +1,10 @@
 -- The reader of the bench notation: its refusals, what it answers, and what the lent buffer holds afterwards.
 -- Assumes nothing.
-use Rattle.std.specs.Prelude.{◌≡◌, List, ◌++◌, ℕ, length, Ok, Err, Result}
+use Rattle.std.specs.Prelude.{◌≡◌, List, ◌++◌, ℕ, length, Result}
 use Rattle.ground.specs.Put.{laid_on}
 use Rattle.answers.specs.Rules.{Rule, refusal, unless}
 use Rattle.answers.specs.Answer.{answered}
-use Rattle.answers.specs.Area.{Numbers, success, refused_at, told}
+use Rattle.answers.specs.Area.{Numbers, success, in_numbers, told}
 use Rattle.circuit.specs.Record.{lines_of}
 use Rattle.syntax.specs.Syntax.{syntax_rules}
 use Rattle.names.specs.Names.{name_rules}
@@ -26,8 +26,7 @@ read_of t room = answered (refusal (bench_rules t room)) (lines_of (records_in t
 
 -- the paper's number and values for each case of the answer
 unfoldable pub read_numbers : Result ℕ Refusal → Numbers
-read_numbers (Ok n) = success n 0 0
-read_numbers (Err why) = refused_at why.0 why.1
+read_numbers = in_numbers (λ n. success n 0 0)
 
 -- the promise, whatever the text and the buffer: the answer's case, its number and values, and every byte; a refusal writes nothing
 pub record Reads (t c c' : List ℕ) (r : Result ℕ Refusal) : Type 0 where
