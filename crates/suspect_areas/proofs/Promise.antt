@@ -8,7 +8,7 @@ use Rattle.answers.specs.Rules.{Ruling}
 use Rattle.answers.specs.Rules.{refusal, Applies, unless}
 use Rattle.answers.specs.Answer.{answered}
 use Rattle.answers.proofs.Rules.{after_refused, after_fine}
-use Rattle.answers.proofs.Answer.{Ruled, refused_applies, applies_refused}
+use Rattle.answers.proofs.Answer.{was_ruled, refused_applies, applies_refused}
 use Rattle.reports.specs.Reports.{Report}
 use Rattle.suspects.specs.declared.Suspects.{Suspects}
 use Rattle.suspects.specs.State.{Opened}
@@ -49,15 +49,13 @@ module _ (a : List ℕ) (q : Report) where
       go (Ok u) = refl
       go (Err why) = sym (fine_area a e).bytes
 
+  -- where the state refuses, the area is left too
+  pub report_refused : {s s' : Suspects} {why : Refusal} → refusal (area_rules a) ≡ Ok tt → s ≡ state_in a → Reports s q (Err why) s' → ReportsArea a q (Err why) a
+  report_refused e is p =
+      let rules = report_rules (state_in a) q.faults q.patterns q.table q.pattern in
+      is_refused (after_fine (area_rules a) rules e ∙ was_ruled _ (rw is at p).answer refl)
+
 -- ---- reading the marks
-
--- what was ruled, by the answer
-abbrev pub marked_ruling : Result Marked Refusal → Ruling
-marked_ruling (Ok (marked_are remaining faults patterns)) = Ok tt
-marked_ruling (Err why) = Err why
-
-pub marks_ruled : (x y z : ℕ) → Ruled marked_ruling (Ok (marked_are x y z))
-marks_ruled x y z = record { refuses = λ n k. refl; accepts = refl }
 
 module _ {a m : List ℕ} where
   -- two results that the promise allows are equal
@@ -66,10 +64,10 @@ module _ {a m : List ℕ} where
 
   module _ {r : Result Marked Refusal} {m' : List ℕ} (p : ReadsMarks a m r m') (reason : Reason) (place : ℕ) where
     pub reading_applies : r ≡ Err (reason, place) → Applies (marks_area_rules a m) reason place
-    reading_applies = refused_applies (marks_ruled _ _ _) (marks_area_rules a m) (marks_area_says a m) p.answer reason place
+    reading_applies = refused_applies _ (marks_area_rules a m) (marks_area_says a m) p.answer reason place
 
     pub applies_reading : Applies (marks_area_rules a m) reason place → r ≡ Err (reason, place)
-    applies_reading = applies_refused (marks_ruled _ _ _) (marks_area_rules a m) (marks_area_says a m) p.answer reason place
+    applies_reading = applies_refused _ (marks_area_rules a m) (marks_area_says a m) p.answer reason place
 
 -- ---- as the code comes to it
 

@@ -11,7 +11,7 @@ use Rattle.ground.specs.Below.{count_below}
 use Rattle.answers.specs.Rules.{Ruling}
 use Rattle.answers.specs.Rules.{refusal, unless}
 use Rattle.answers.specs.Answer.{answered}
-use Rattle.answers.proofs.Answer.{was_ruled}
+use Rattle.answers.proofs.Answer.{ruling_of, was_ruled}
 use Rattle.reports.specs.Reports.{Report, remains}
 use Rattle.reports.specs.Marks.{marks_of}
 use Rattle.reports.specs.Words.{Among, Remains}
@@ -28,7 +28,6 @@ use Rattle.suspect_areas.specs.Bytes.{bytes_of, state_in, Held}
 use Rattle.suspect_areas.specs.Promise.{AreaSession, marks_area_rules, ReadsMarks, marked_are}
 use Rattle.suspect_areas.proofs.Read.{read_bytes}
 use Rattle.suspect_areas.proofs.Says.{fine_open}
-use Rattle.suspect_areas.proofs.Promise.{marks_ruled, marked_ruling}
 use Rattle.std.specs.Prelude.{Ok, Result}
 use Rattle.answers.specs.declared.Refusal.{Refusal}
 
@@ -75,7 +74,7 @@ module _ (F P : ℕ) {rs : List Report} {a : List ℕ} (so : AreaSession F P rs 
   -- many these are, with both counts
   module _ {m m' : List ℕ} {r : Result Marked Refusal} {x y z : ℕ} (p : ReadsMarks a m r m') (e : r ≡ Ok (marked_are x y z)) where
     fine : refusal (marks_area_rules a m) ≡ Ok tt
-    fine = was_ruled (marks_ruled _ _ _) p.answer (ap marked_ruling e)
+    fine = was_ruled _ p.answer (ap ruling_of e)
 
     pub read_words : (f : ℕ) → f < F → (get_or m' f 0 ≡ 1) ↔ Remains rs f
     read_words f l =

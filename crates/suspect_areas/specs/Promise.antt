@@ -1,12 +1,12 @@
 -- The state in an area that is lent: opening it, reporting to it, and reading its marks. The refusals are 10 for an area that is not of 288
 -- bytes, then 22 for one that holds no opened state, and then those of the state.
 -- Assumes nothing.
-use Rattle.std.specs.Prelude.{◌≡◌, List, [], ◌∷◌, ◌++◌, ℕ, length, take, Ok, Err, Result}
+use Rattle.std.specs.Prelude.{◌≡◌, List, [], ◌∷◌, ◌++◌, ℕ, length, take, Result}
 use Rattle.answers.specs.Rules.{Rule, refusal, unless}
 use Rattle.answers.specs.Rules.Rule.{whole}
 use Rattle.answers.specs.Lent.{exact}
 use Rattle.answers.specs.Answer.{answered}
-use Rattle.answers.specs.Area.{Numbers, success, refused_at, told}
+use Rattle.answers.specs.Area.{Numbers, success, in_numbers, told}
 use Rattle.tables.specs.Table.{table_rules}
 use Rattle.reports.specs.Reports.{Report}
 use Rattle.suspects.specs.declared.Suspects.{Suspects}
@@ -52,10 +52,13 @@ room_rules s m = exact s.faults (length m) ∷ []
 abbrev pub marks_area_rules : List ℕ → List ℕ → List Rule
 marks_area_rules a m = area_rules a ++ room_rules (state_in a) m
 
+-- so many remain of so many faults, by so many patterns
+abbrev pub marked_are : ℕ → ℕ → ℕ → Marked
+marked_are remaining faults patterns = record { remaining = remaining; faults = faults; patterns = patterns }
+
 -- the paper's number and values for each case
 unfoldable pub marked_numbers : Result Marked Refusal → Numbers
-marked_numbers (Ok (marked_are remaining faults patterns)) = success remaining faults patterns
-marked_numbers (Err why) = refused_at why.0 why.1
+marked_numbers = in_numbers (λ a. success a.remaining a.faults a.patterns)
 
 -- the marks m become m': those of the faults that there are
 pub record ReadsMarks (a m : List ℕ) (r : Result Marked Refusal) (m' : List ℕ) : Type 0 where

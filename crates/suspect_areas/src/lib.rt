@@ -11,7 +11,7 @@ ghost use Rattle.suspect_areas.specs.Promise.{size_rules, held_area_rules, area_
 
 use answers::{Reason, Refusal, put_numbers};
 use little::pair_at;
-use suspects::{Suspects, all_remain, is_opened, reported_to};
+use suspects::{Suspects, all_remain, is_opened, report_to_opened};
 use tables::check_table;
 
 // How many bytes a state has.
@@ -108,7 +108,12 @@ fn check_size(area: &[u8]) -> Result<(), Refusal>
 }
 
 // All refusals of an opening: 10, then those of the table.
-fn check_opening(fault_count: u64, pattern_count: u64, table: &[u8], area: &[u8]) -> Result<(), Refusal>
+fn check_opening(
+    fault_count: u64,
+    pattern_count: u64,
+    table: &[u8],
+    area: &[u8],
+) -> Result<(), Refusal>
     ensures { result ≡ refusal (open_area_rules area.now fault_count pattern_count table.now) }
 {
     check_size(area)?;
@@ -147,7 +152,12 @@ fn check_room(state: Suspects, marks: &[u8]) -> Result<(), Refusal>
 // ---- the parts
 
 // Opens a state in an area, whatever it holds.
-pub fn open_area(fault_count: u64, pattern_count: u64, table: &[u8], area: &mut [u8]) -> Result<u64, Refusal>
+pub fn open_area(
+    fault_count: u64,
+    pattern_count: u64,
+    table: &[u8],
+    area: &mut [u8],
+) -> Result<u64, Refusal>
     ensures { OpensArea fault_count pattern_count table.now area.old result area.new }
 {
     check_opening(fault_count, pattern_count, table, area)?;
@@ -155,7 +165,7 @@ pub fn open_area(fault_count: u64, pattern_count: u64, table: &[u8], area: &mut 
     Ok(fault_count)
 }
 
-// Reports to the state in an area that a pattern failed, or passed. Where the state refuses, its own bytes are put back.
+// Reports to the state in an area that a pattern failed, or passed.
 pub fn report_area(
     fault_count: u64,
     pattern_count: u64,
@@ -167,16 +177,17 @@ pub fn report_area(
     ensures { ReportsArea area.old (report_of fault_count pattern_count table.now pattern failed) result area.new }
 {
     check_area(area)?;
-    let after = reported_to(
-        state_in(area),
+    let mut state = state_in(area);
+    let remaining = report_to_opened(
+        &mut state,
         fault_count,
         pattern_count,
         table,
         pattern,
         failed,
-    );
-    put_state(after.state, area);
-    after.answer
+    )?;
+    put_state(state, area);
+    Ok(remaining)
 }
 
 // Of a state, the marks of the faults that there are.
@@ -204,5 +215,9 @@ pub fn read_marks(area: &[u8], marks: &mut [u8]) -> Result<Marked, Refusal>
     check_reading(area, marks)?;
     let state = state_in(area);
     put_marks(state, marks);
-    Ok(Marked { remaining: state.remaining, faults: state.faults, patterns: state.patterns })
+    Ok(Marked {
+        remaining: state.remaining,
+        faults: state.faults,
+        patterns: state.patterns,
+    })
 }

@@ -2,6 +2,5 @@ pub mod State
 pub mod Says
 pub mod Promise
 pub mod Left
-pub mod Lent
 pub mod Sessions
 pub mod Reached

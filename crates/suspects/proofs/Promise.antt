@@ -1,17 +1,14 @@
 -- What the promises say: one result; and how the code comes to them.
 -- Assumes nothing.
-use mathlib.Core.Path.{◌≡◌, refl, sym, ap, ◌∙◌}
+use mathlib.Core.Path.{◌≡◌, sym, ap, ◌∙◌}
 use mathlib.Core.List.{List}
 use Prim.Native.Nat.{ℕ}
-use Rattle.answers.specs.Rules.{Ruling}
 use Rattle.answers.specs.Rules.{Rule, refusal, unless}
 use Rattle.answers.specs.Answer.{answered}
 use Rattle.answers.proofs.Answer.{numbers-told}
-use Rattle.suspects.specs.declared.Suspects.{Suspects}
 use Rattle.suspects.specs.Promise.{narrowed_numbers, Becomes}
 use Rattle.std.specs.Prelude.{Ok, Err, Result}
 use Rattle.answers.specs.declared.Refusal.{Refusal}
-use Rattle.answers.specs.declared.Reason.{Reason}
 
 module _ {M : Type 0} {rules : List Rule} {m new : M} {n : ℕ} where
   -- two results that a promise allows are equal
@@ -31,21 +28,4 @@ module _ {M : Type 0} {rules : List Rule} {m new : M} {n : ℕ} where
   -- of the answer alone
   pub told_so : {r : Result ℕ Refusal} {m' : M} → r ≡ answered (refusal rules) n → m' ≡ unless (refusal rules) m new → Becomes rules m new n r m'
   unfolding narrowed_numbers
-  told_so says is = record { answer = says; numbers = ap narrowed_numbers says ∙ numbers-told narrowed_numbers (λ k p. refl) (refusal rules) (Ok n); state = is }
-
--- of a state by value: a refusal, and the new state with how many remain in it
-pub state_refused : {rules : List Rule} {s new s' : Suspects} {n reason place : ℕ} {r : Result ℕ Refusal}
-    → refusal rules ≡ Err (reason, place)
-    → s' ≡ s
-    → r ≡ Err (reason, place)
-    → Becomes rules s new n r s'
-state_refused e is says = rw (is, says) (is_refused e)
-
-pub state_taken : {rules : List Rule} {s new s' x : Suspects} {n : ℕ} {r : Result ℕ Refusal}
-    → refusal rules ≡ Ok tt
-    → s' ≡ x
-    → r ≡ Ok x.remaining
-    → x ≡ new
-    → new.remaining ≡ n
-    → Becomes rules s new n r s'
-state_taken e is says new_is number = is_taken e (says ∙ ap (λ (z : Suspects). Ok z.remaining) new_is ∙ ap Ok number) (is ∙ new_is)
+  told_so says is = record { answer = says; numbers = ap narrowed_numbers says ∙ numbers-told _ (refusal rules) n; state = is }

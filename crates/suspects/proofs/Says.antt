@@ -6,12 +6,10 @@ use mathlib.Core.List.{List}
 use Prim.Native.Nat.{ℕ, ◌<◌}
 use lib.Dec.{eqb}
 use lib.ListN.{length}
-use Rattle.answers.specs.Rules.{Ruling}
 use Rattle.answers.specs.Rules.{Rule, said, refusal, Applies, AllSay, AllHold}
 use Rattle.answers.proofs.Rules.{all_hold, fine, after_refused, after_fine, both_fine, both_say}
 use Rattle.answers.proofs.Same.{lt_same, eq_same, and_same}
 use Rattle.answers.proofs.Answer as answer
-use Rattle.answers.proofs.Answer.{Ruled}
 use Rattle.tables.specs.Table.{Sized, table_rules}
 use Rattle.tables.proofs.Says.{table_says, fine_sized}
 use Rattle.suspects.specs.declared.Suspects.{Suspects}
@@ -39,21 +37,13 @@ given_say F P t p = both_say (table_rules F P t) (pattern_rules P p) (table_says
 pub report_says : (s : Suspects) (F P : ℕ) (t : List ℕ) (p : ℕ) → AllSay (report_rules s F P t p)
 report_says s F P t p = both_say (held_rules s F P) (given_rules F P t p) (held_say s F P) (given_say F P t p)
 
--- what was ruled, by the answer
-abbrev pub ruling_of : Result ℕ Refusal → Ruling
-ruling_of (Ok n) = Ok tt
-ruling_of (Err why) = Err why
-
-pub ruled : (n : ℕ) → Ruled ruling_of (Ok n)
-ruled n = record { refuses = λ m k. refl; accepts = refl }
-
 -- a refusal is the first that applies, with the lowest place; and where one applies, it is given
 module _ {M : Type 0} {rules : List Rule} {m new : M} {n : ℕ} {r : Result ℕ Refusal} {m' : M} (says : AllSay rules) (p : Becomes rules m new n r m') (reason : Reason) (place : ℕ) where
   pub refused_applies : r ≡ Err (reason, place) → Applies rules reason place
-  refused_applies = answer.refused_applies (ruled n) rules says p.answer reason place
+  refused_applies = answer.refused_applies _ rules says p.answer reason place
 
   pub applies_refused : Applies rules reason place → r ≡ Err (reason, place)
-  applies_refused = answer.applies_refused (ruled n) rules says p.answer reason place
+  applies_refused = answer.applies_refused _ rules says p.answer reason place
 
 -- ---- what is not refused
 

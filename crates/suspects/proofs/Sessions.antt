@@ -9,7 +9,7 @@ use lib.ListN.{get_or}
 use Rattle.ground.specs.Below.{count_below}
 use Rattle.answers.specs.Rules.{Ruling}
 use Rattle.answers.specs.Rules.{Rule, refusal, unless}
-use Rattle.answers.proofs.Answer.{was_ruled}
+use Rattle.answers.proofs.Answer.{ruling_of, was_ruled}
 use Rattle.tables.proofs.Says.{fine_sized}
 use Rattle.reports.specs.Reports.{Report, speaks_against, remains}
 use Rattle.reports.specs.Words.{Among, Remains}
@@ -21,21 +21,19 @@ use Rattle.suspects.specs.Promise.{Becomes, narrowed_state}
 use Rattle.suspects.specs.Sessions.{Session}
 use Rattle.suspects.specs.Sessions.Course.{begun, took, refused}
 use Rattle.suspects.proofs.State.{state_opened, same_state}
-use Rattle.suspects.proofs.Says.{ruled, ruling_of}
 use Rattle.std.specs.Prelude.{Ok, Err, Result}
 use Rattle.answers.specs.declared.Refusal.{Refusal}
-use Rattle.answers.specs.declared.Reason.{Reason}
 
 -- what an answer says was ruled
 module _ {M : Type 0} {rules : List Rule} {s new s' : M} {n : ℕ} {r : Result ℕ Refusal} (p : Becomes rules s new n r s') where
   pub was_taken : {k : ℕ} → r ≡ Ok k → (refusal rules ≡ Ok tt) × (s' ≡ new)
   was_taken {k} e =
-      let fine = was_ruled (ruled n) p.answer (ap ruling_of e) in
+      let fine = was_ruled _ p.answer (ap ruling_of e) in
       (fine, p.state ∙ ap (λ (v : Ruling). unless v s new) fine)
 
   pub was_refused : {why : Refusal} → r ≡ Err why → s' ≡ s
-  was_refused {number} {place} e =
-      let is : refusal rules ≡ Err (reason, place) = was_ruled (ruled n) p.answer (ap ruling_of e) in
+  was_refused {why} e =
+      let is : refusal rules ≡ Err why = was_ruled _ p.answer (ap ruling_of e) in
       p.state ∙ ap (λ (v : Ruling). unless v s new) is
 
 -- one report more, to the state that those before it left

@@ -1,10 +1,10 @@
 -- What opening a state and reporting to it promise: the answer, and the state afterwards.
 -- Assumes nothing.
-use Rattle.std.specs.Prelude.{◌≡◌, true, not, ◌&&◌, List, [], ◌∷◌, ◌++◌, ℕ, ◌<◌, eqb, ltb, Ok, Err, Result}
+use Rattle.std.specs.Prelude.{◌≡◌, true, not, ◌&&◌, List, [], ◌∷◌, ◌++◌, ℕ, ◌<◌, eqb, ltb, Result}
 use Rattle.answers.specs.Rules.{Rule, refusal, unless}
 use Rattle.answers.specs.Rules.Rule.{whole}
 use Rattle.answers.specs.Answer.{answered}
-use Rattle.answers.specs.Area.{Numbers, success, refused_at, told}
+use Rattle.answers.specs.Area.{Numbers, success, in_numbers, told}
 use Rattle.tables.specs.Table.{table_rules}
 use Rattle.reports.specs.Reports.{Report, speaks_against}
 use Rattle.suspects.specs.declared.Suspects.{Suspects}
@@ -14,8 +14,7 @@ use Rattle.answers.specs.declared.Reason.TheVariants.{TableSize, NoPattern, NotO
 
 -- the paper's number and values for each case
 unfoldable pub narrowed_numbers : Result ℕ Refusal → Numbers
-narrowed_numbers (Ok n) = success n 0 0
-narrowed_numbers (Err why) = refused_at why.0 why.1
+narrowed_numbers = in_numbers (λ n. success n 0 0)
 
 -- of a state that is held in m: it is `new` afterwards, unless a rule refuses, and so many remain
 pub record Becomes {M : Type 0} (rules : List Rule) (m new : M) (remaining : ℕ) (r : Result ℕ Refusal) (m' : M) : Type 0 where

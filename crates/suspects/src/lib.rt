@@ -21,33 +21,6 @@ pub struct Suspects {
     pub remaining: u64,
 }
 
-// What an opening and a report answer, how many remain or a refusal, and the state after it.
-#[derive(Clone, Copy)]
-pub struct After {
-    pub state: Suspects,
-    pub answer: Result<u64, Refusal>,
-}
-
-// Where nothing is refused, how many remain is the answer.
-fn with_answer(state: Suspects) -> After
-    ensures { (result.state ≡ state) × (result.answer ≡ Ok state.remaining) }
-{
-    After {
-        state,
-        answer: Ok(state.remaining),
-    }
-}
-
-// A refusal leaves the state.
-fn refused(state: Suspects, why: Refusal) -> After
-    ensures { (result.state ≡ state) × (result.answer ≡ Err why) }
-{
-    After {
-        state,
-        answer: Err(why),
-    }
-}
-
 // ---- opening
 
 // The state in which all faults remain.
@@ -66,13 +39,17 @@ pub fn all_remain(fault_count: u64, pattern_count: u64) -> Suspects
 }
 
 // Opens a state, whatever it holds.
-pub fn opened(state: Suspects, fault_count: u64, pattern_count: u64, table: &[u8]) -> After
-    ensures { Opens fault_count pattern_count table.now state result.answer result.state }
+pub fn open(
+    state: &mut Suspects,
+    fault_count: u64,
+    pattern_count: u64,
+    table: &[u8],
+) -> Result<u64, Refusal>
+    ensures { Opens fault_count pattern_count table.now state.old result state.new }
 {
-    match check_table(fault_count, pattern_count, table) {
-        Err(why) => refused(state, why),
-        Ok(()) => with_answer(all_remain(fault_count, pattern_count)),
-    }
+    check_table(fault_count, pattern_count, table)?;
+    *state = all_remain(fault_count, pattern_count);
+    Ok(fault_count)
 }
 
 // ---- a report
@@ -106,7 +83,12 @@ fn check_pattern(pattern_count: u64, pattern: u64) -> Result<(), Refusal>
 }
 
 // What is asked of what is lent with a report: refusals 12 and 13, then 17.
-fn check_given(fault_count: u64, pattern_count: u64, table: &[u8], pattern: u64) -> Result<(), Refusal>
+fn check_given(
+    fault_count: u64,
+    pattern_count: u64,
+    table: &[u8],
+    pattern: u64,
+) -> Result<(), Refusal>
     ensures { result ≡ refusal (given_rules fault_count pattern_count table.now pattern) }
 {
     check_table(fault_count, pattern_count, table)?;
@@ -153,53 +135,24 @@ fn narrow_state(state: Suspects, table: &[u8], pattern: u64, failed: bool) -> Su
     }
 }
 
-// A report to an opened state that a pattern failed, or passed.
-pub fn reported_to(
-    state: Suspects,
+// Reports to an opened state that a pattern failed, or passed.
+pub fn report_to_opened(
+    state: &mut Suspects,
     fault_count: u64,
     pattern_count: u64,
     table: &[u8],
     pattern: u64,
     failed: bool,
-) -> After
-    requires { Opened state }
-    ensures { Reports state (report_of fault_count pattern_count table.now pattern failed) result.answer result.state }
+) -> Result<u64, Refusal>
+    requires { Opened state.old }
+    ensures { Reports state.old (report_of fault_count pattern_count table.now pattern failed) result state.new }
 {
-    match check_report(state, fault_count, pattern_count, table, pattern) {
-        Err(why) => refused(state, why),
-        Ok(()) => with_answer(narrow_state(state, table, pattern, failed)),
-    }
+    check_report(*state, fault_count, pattern_count, table, pattern)?;
+    *state = narrow_state(*state, table, pattern, failed);
+    Ok(state.remaining)
 }
 
 // The same to any state: refusal 22 where it is not opened.
-pub fn reported(
-    state: Suspects,
-    fault_count: u64,
-    pattern_count: u64,
-    table: &[u8],
-    pattern: u64,
-    failed: bool,
-) -> After
-    ensures { Reports state (report_of fault_count pattern_count table.now pattern failed) result.answer result.state }
-{
-    if is_opened(state) {
-        return reported_to(state, fault_count, pattern_count, table, pattern, failed);
-    }
-    refused(state, Refusal(Reason::NotOpened, 0))
-}
-
-// ---- the state where it stands
-
-// Opens a state.
-pub fn open(state: &mut Suspects, fault_count: u64, pattern_count: u64, table: &[u8]) -> Result<u64, Refusal>
-    ensures { Opens fault_count pattern_count table.now state.old result state.new }
-{
-    let after = opened(*state, fault_count, pattern_count, table);
-    *state = after.state;
-    after.answer
-}
-
-// Reports that a pattern failed, or passed.
 pub fn report(
     state: &mut Suspects,
     fault_count: u64,
@@ -210,7 +163,8 @@ pub fn report(
 ) -> Result<u64, Refusal>
     ensures { Reports state.old (report_of fault_count pattern_count table.now pattern failed) result state.new }
 {
-    let after = reported(*state, fault_count, pattern_count, table, pattern, failed);
-    *state = after.state;
-    after.answer
+    if !is_opened(*state) {
+        return Err(Refusal(Reason::NotOpened, 0));
+    }
+    report_to_opened(state, fault_count, pattern_count, table, pattern, failed)
 }

@@ -2,15 +2,17 @@
 -- Assumes nothing.
 use mathlib.Core.Path.{sym, ◌∙◌}
 use Rattle.answers.proofs.Rules.{after_refused, after_fine}
+use Rattle.answers.proofs.Answer.{handed_on}
 use Rattle.suspect_areas.specs.Promise.{size_rules, held_area_rules}
 use Rattle.suspect_areas.proofs.Says.{fine_size}
 use Rattle.suspect_areas.proofs.check_area.Goals as goal
 
 pub check_held-requires : goal.check_held-requires
-check_held-requires c = fine_size _ (sym c.check_size.ensures ∙ c.in-Fine.is)
+check_held-requires c = fine_size _ (sym c.check_size.ensures ∙ c.in_ok-check_size.was)
 
-pub returns-in-Refused : goal.returns-in-Refused
-returns-in-Refused c = sym (after_refused (size_rules _) (held_area_rules _) (sym c.check_size.ensures ∙ c.in-Refused.is))
+pub returns-in_err-check_size : goal.returns-in_err-check_size
+returns-in_err-check_size c =
+    handed_on c.from_residual.ensures.1 ∙ sym (after_refused (size_rules _) (held_area_rules _) (sym c.check_size.ensures ∙ c.in_err-check_size.was))
 
-pub returns-in-Fine : goal.returns-in-Fine
-returns-in-Fine c = c.check_held.ensures ∙ sym (after_fine (size_rules _) (held_area_rules _) (sym c.check_size.ensures ∙ c.in-Fine.is))
+pub returns : goal.returns
+returns c = c.check_held.ensures ∙ sym (after_fine (size_rules _) (held_area_rules _) (sym c.check_size.ensures ∙ c.in_ok-check_size.was))

@@ -1,26 +1,39 @@
 -- `suspect_areas::report_area` meets its contract: what is asked of the area first, then the report to the state that stands there.
 -- Assumes nothing.
 use mathlib.Core.Path.{sym, ◌∙◌}
+use Rattle.answers.proofs.Answer.{handed_on}
 use Rattle.reports.specs.Reports.{report_of}
 use Rattle.suspect_areas.proofs.Says.{fine_area}
-use Rattle.suspect_areas.proofs.Promise.{still_opened, area_refused, area_reported}
+use Rattle.suspect_areas.proofs.Promise.{still_opened, area_refused, report_refused, area_reported}
 use Rattle.suspect_areas.proofs.report_area.Goals as goal
 
-pub state_in-requires : goal.state_in-requires
-state_in-requires c = (fine_area c.args.area.now (sym c.check_area.ensures ∙ c.in-Fine.is)).size
+pub state_in-state-requires : goal.state_in-state-requires
+state_in-state-requires c = (fine_area c.args.area.now (sym c.check_area.ensures ∙ c.in_ok-check_area.was)).size
 
-pub reported_to-after-requires : goal.reported_to-after-requires
-reported_to-after-requires c = rw c.state_in.ensures (fine_area c.args.area.now (sym c.check_area.ensures ∙ c.in-Fine.is)).opened
+pub report_to_opened-requires : goal.report_to_opened-requires
+report_to_opened-requires c = rw c.state_in-state.ensures (fine_area c.args.area.now (sym c.check_area.ensures ∙ c.in_ok-check_area.was)).opened
 
 pub put_state-requires : goal.put_state-requires
 put_state-requires c =
-    let held = fine_area c.args.area.now (sym c.check_area.ensures ∙ c.in-Fine.is) in
-    (still_opened (report_of c.args.fault_count c.args.pattern_count c.args.table.now c.args.pattern c.args.failed) (rw c.state_in.ensures held.opened) c.reported_to-after.ensures, held.size)
+    let a = c.args in
+    let held = fine_area a.area.now (sym c.check_area.ensures ∙ c.in_ok-check_area.was) in
+    (still_opened (report_of a.fault_count a.pattern_count a.table.now a.pattern a.failed) (rw c.state_in-state.ensures held.opened) c.report_to_opened.ensures, held.size)
 
-pub returns-in-Refused : goal.returns-in-Refused
-returns-in-Refused c =
-    area_refused c.args.area.now (report_of c.args.fault_count c.args.pattern_count c.args.table.now c.args.pattern c.args.failed) (sym c.check_area.ensures ∙ c.in-Refused.is)
+pub returns-in_err-check_area : goal.returns-in_err-check_area
+returns-in_err-check_area c =
+    let a = c.args in
+    rw (handed_on c.from_residual.ensures.1)
+    (area_refused a.area.now (report_of a.fault_count a.pattern_count a.table.now a.pattern a.failed) (sym c.check_area.ensures ∙ c.in_err-check_area.was))
 
-pub returns-in-Fine : goal.returns-in-Fine
-returns-in-Fine c =
-    area_reported c.args.area.now (report_of c.args.fault_count c.args.pattern_count c.args.table.now c.args.pattern c.args.failed) (sym c.check_area.ensures ∙ c.in-Fine.is) c.state_in.ensures c.reported_to-after.ensures c.put_state.ensures
+pub returns-in_err-remaining : goal.returns-in_err-remaining
+returns-in_err-remaining c =
+    let a = c.args in
+    rw (handed_on c.from_residual-in_err-remaining.ensures.1)
+    (report_refused a.area.now (report_of a.fault_count a.pattern_count a.table.now a.pattern a.failed) (sym c.check_area.ensures ∙ c.in_ok-check_area.was)
+    c.state_in-state.ensures (rw c.in_err-remaining.was at c.report_to_opened.ensures))
+
+pub returns : goal.returns
+returns c =
+    let a = c.args in
+    area_reported a.area.now (report_of a.fault_count a.pattern_count a.table.now a.pattern a.failed) (sym c.check_area.ensures ∙ c.in_ok-check_area.was)
+    c.state_in-state.ensures (rw c.in_ok-remaining.was at c.report_to_opened.ensures) c.put_state.ensures
