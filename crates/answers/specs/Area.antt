@@ -51,15 +51,14 @@ success a b c = record { number = 0; values = record { first = a; second = b; th
 abbrev pub refused_at : ℕ → ℕ → Numbers
 refused_at number place = record { number = number; values = record { first = place; second = 0; third = 0; fourth = 0 } }
 
--- the numbers by what the rules say, where s are those of success
-abbrev pub told : Ruling → Numbers → Numbers
-told (Ok u) s = s
-told (Err why) s = refused_at (number_of why.0) why.1
-
--- the same of a part's whole answer, where `good` gives the numbers of its good case
+-- those of a part's answer, where `good` gives the numbers of its good case
 abbrev pub in_numbers : {A : Type 0} → (A → Numbers) → Result A Refusal → Numbers
 in_numbers good (Ok a) = good a
 in_numbers good (Err why) = refused_at (number_of why.0) why.1
+
+-- and by what the rules say, where s are those of success
+abbrev pub told : Ruling → Numbers → Numbers
+told v s = in_numbers (λ u. s) v
 
 -- those of a part that answers only that it is done
 abbrev pub done : Numbers

@@ -45,8 +45,11 @@ unfoldable pub check_of : List ℕ → Result Counts Refusal
 check_of c = answered (refusal (circuit_rules c)) (counts_are (lines_of c) (inputs_of c) (outputs_of c))
 
 -- the paper's number and values for each case of the answer
+abbrev pub counts_numbers : Counts → Numbers
+counts_numbers a = success a.lines a.inputs a.outputs
+
 unfoldable pub checked_numbers : Result Counts Refusal → Numbers
-checked_numbers = in_numbers (λ a. success a.lines a.inputs a.outputs)
+checked_numbers = in_numbers counts_numbers
 
 -- the promise, whatever the bytes: the answer's case, and its number and values
 pub record Checks (c : List ℕ) (r : Result Counts Refusal) : Type 0 where

@@ -10,7 +10,7 @@ use bench_names::bench_names;
 use circuit::check;
 use clauses::clauses;
 use control::control;
-use replies::{AREA, OTHER_SIZE, of_checked, of_read, of_ruling, of_searched, of_written, report};
+use replies::{AREA, OTHER_SIZE, of_answer, report};
 use search::search;
 use search_all::search_all;
 use search_heads::search_heads;
@@ -19,7 +19,7 @@ pub fn enter_check(circuit: &[u8], answer: &mut [u8]) -> u32
     ensures { Entered answer.old (check_numbers circuit.now) result answer.new }
 {
     let v = check(circuit);
-    report(of_checked(v), answer)
+    report(of_answer(v), answer)
 }
 
 pub fn enter_search(
@@ -37,7 +37,7 @@ pub fn enter_search(
         return OTHER_SIZE;
     }
     let v = search(circuit, fault, budget, test, work);
-    report(of_searched(v), answer)
+    report(of_answer(v), answer)
 }
 
 pub fn enter_search_heads(
@@ -55,7 +55,7 @@ pub fn enter_search_heads(
         return OTHER_SIZE;
     }
     let v = search_heads(circuit, fault, budget, test, work);
-    report(of_searched(v), answer)
+    report(of_answer(v), answer)
 }
 
 pub fn enter_search_all(
@@ -76,7 +76,7 @@ pub fn enter_search_all(
         return OTHER_SIZE;
     }
     let v = search_all(circuit, faults, budgets, outcomes, counts, tests, work);
-    report(of_ruling(v), answer)
+    report(of_answer(v), answer)
 }
 
 pub fn enter_clauses(circuit: &[u8], fault: &[u8], words: &mut [i32], answer: &mut [u8]) -> u32
@@ -87,7 +87,7 @@ pub fn enter_clauses(circuit: &[u8], fault: &[u8], words: &mut [i32], answer: &m
         return OTHER_SIZE;
     }
     let v = clauses(circuit, fault, words);
-    report(of_written(v), answer)
+    report(of_answer(v), answer)
 }
 
 pub fn enter_control(circuit: &[u8], ones: &mut [f64], zeros: &mut [f64], answer: &mut [u8]) -> u32
@@ -98,7 +98,7 @@ pub fn enter_control(circuit: &[u8], ones: &mut [f64], zeros: &mut [f64], answer
         return OTHER_SIZE;
     }
     let v = control(circuit, ones, zeros);
-    report(of_ruling(v), answer)
+    report(of_answer(v), answer)
 }
 
 pub fn enter_bench(text: &[u8], circuit: &mut [u8], answer: &mut [u8]) -> u32
@@ -109,7 +109,7 @@ pub fn enter_bench(text: &[u8], circuit: &mut [u8], answer: &mut [u8]) -> u32
         return OTHER_SIZE;
     }
     let v = bench(text, circuit);
-    report(of_read(v), answer)
+    report(of_answer(v), answer)
 }
 
 pub fn enter_bench_names(text: &[u8], places: &mut [u32], answer: &mut [u8]) -> u32
@@ -120,5 +120,5 @@ pub fn enter_bench_names(text: &[u8], places: &mut [u32], answer: &mut [u8]) -> 
         return OTHER_SIZE;
     }
     let v = bench_names(text, places);
-    report(of_read(v), answer)
+    report(of_answer(v), answer)
 }

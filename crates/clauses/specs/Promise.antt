@@ -42,8 +42,11 @@ written_of c fs room =
     (written_are (length (words_for c (fault_at fs 0))) (length (clauses_for c (fault_at fs 0))) (variables_of c (lines_of c)))
 
 -- the paper's number and values for each case of the answer
+abbrev pub list_numbers : Written → Numbers
+list_numbers a = success a.words a.clauses a.variables
+
 unfoldable pub written_numbers : Result Written Refusal → Numbers
-written_numbers = in_numbers (λ a. success a.words a.clauses a.variables)
+written_numbers = in_numbers list_numbers
 
 -- the promise, whatever the bytes and the words: the answer's case, its number and values, and every word; a refusal writes nothing
 pub record Writes (c fs : List ℕ) (w w' : List ℤ) (r : Result Written Refusal) : Type 0 where

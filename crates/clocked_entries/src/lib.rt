@@ -3,7 +3,7 @@
 
 ghost use Rattle.clocked_entries.specs.Entries.{UnfoldEntered, UnfoldDictionaryEntered};
 
-use replies::{AREA, OTHER_SIZE, of_ruling, of_unfolding, report};
+use replies::{AREA, OTHER_SIZE, of_answer, report};
 use unfold::unfold;
 use unfold_dictionary::unfold_dictionary;
 
@@ -21,7 +21,7 @@ pub fn enter_unfold(
         return OTHER_SIZE;
     }
     let v = unfold(circuit, states, steps as usize, unfolded);
-    report(of_unfolding(v), answer)
+    report(of_answer(v), answer)
 }
 
 pub fn enter_unfold_dictionary(
@@ -49,5 +49,5 @@ pub fn enter_unfold_dictionary(
         table,
         work,
     );
-    report(of_ruling(v), answer)
+    report(of_answer(v), answer)
 }

@@ -1,18 +1,14 @@
-// Answers as C gets them: each part's answer as a number and three values, and these as the 32 bytes of the answer area.
+// Answers as C gets them: each part's answer as a number and three values, by what its good case says, and these as the 32 bytes of the answer area.
 #![tactic(auto)]
 
 ghost use Rattle.std.specs.Prelude.{◌≡◌};
-ghost use Rattle.answers.specs.Area.{number_of, refused_at, told, done, Entered};
+ghost use Rattle.answers.specs.Area.{Numbers, in_numbers, number_of, refused_at, done, Entered};
 ghost use Rattle.answers.specs.Area as answering;
-ghost use Rattle.circuit.specs.Promise.{checked_numbers};
+ghost use Rattle.circuit.specs.Promise.{counts_numbers};
 ghost use Rattle.findings.specs.Findings.{finding_numbers};
-ghost use Rattle.audit.specs.Promise.{audited_numbers};
-ghost use Rattle.suspects.specs.Promise.{narrowed_numbers};
-ghost use Rattle.suspect_areas.specs.Promise.{marked_numbers};
-ghost use Rattle.search.specs.Promise.{verdict_numbers, searched_numbers};
-ghost use Rattle.clauses.specs.Promise.{written_numbers};
-ghost use Rattle.bench.specs.Promise.{read_numbers};
-ghost use Rattle.unfold.specs.Promise.{unfolding_numbers};
+ghost use Rattle.suspect_areas.specs.Promise.{marks_numbers};
+ghost use Rattle.search.specs.Promise.{verdict_numbers};
+ghost use Rattle.clauses.specs.Promise.{list_numbers};
 ghost use Rattle.replies.specs.Replies.{numbers_in};
 
 use answers::{Refusal, put_numbers};
@@ -60,113 +56,97 @@ fn refused(why: Refusal) -> Reply
     }
 }
 
-pub fn of_ruling(v: Result<(), Refusal>) -> Reply
-    ensures { numbers_in result ≡ told v done }
-{
-    match v {
-        Ok(()) => success(0, 0, 0),
-        Err(why) => refused(why),
+// What the good case of an answer says in numbers.
+pub trait Reported {
+    ghost numbers: { Self → Numbers };
+
+    fn reply(self) -> Reply
+        ensures { numbers_in result ≡ numbers self };
+}
+
+// A part that only is done.
+impl Reported for () {
+    ghost numbers = { λ nothing. done };
+
+    fn reply(self) -> Reply {
+        success(0, 0, 0)
     }
 }
 
-pub fn of_checked(v: Result<Counts, Refusal>) -> Reply
-    ensures { numbers_in result ≡ checked_numbers v }
-{
-    match v {
-        Ok(counts) => success(
-            counts.lines as u64,
-            counts.inputs as u64,
-            counts.outputs as u64,
-        ),
-        Err(why) => refused(why),
+// How many records were written, or lines.
+impl Reported for usize {
+    ghost numbers = { λ n. answering.success n 0 0 };
+
+    fn reply(self) -> Reply {
+        success(self as u64, 0, 0)
     }
 }
 
-fn of_finding(v: Finding) -> Reply
-    ensures { numbers_in result ≡ finding_numbers v }
-{
-    match v {
-        Finding::Sound => success(0, 0, 0),
-        Finding::BadMark(mark) => success(1, mark as u64, 0),
-        Finding::LostFault(fault) => success(2, fault as u64, 0),
-        Finding::LostPair(first, second) => success(3, first as u64, second as u64),
-        Finding::SparePattern(pattern) => success(4, pattern as u64, 0),
+// How many faults remain.
+impl Reported for u64 {
+    ghost numbers = { λ n. answering.success n 0 0 };
+
+    fn reply(self) -> Reply {
+        success(self, 0, 0)
     }
 }
 
-pub fn of_audited(v: Result<Finding, Refusal>) -> Reply
-    ensures { numbers_in result ≡ audited_numbers v }
-{
-    match v {
-        Ok(finding) => of_finding(finding),
-        Err(why) => refused(why),
+impl Reported for Counts {
+    ghost numbers = { counts_numbers };
+
+    fn reply(self) -> Reply {
+        success(self.lines as u64, self.inputs as u64, self.outputs as u64)
     }
 }
 
-fn of_verdict(v: Verdict) -> Reply
-    ensures { numbers_in result ≡ verdict_numbers v }
-{
-    match v {
-        Verdict::Test(nodes) => success(0, nodes, 0),
-        Verdict::Redundant(nodes) => success(1, nodes, 0),
-        Verdict::GivenUp(nodes) => success(2, nodes, 0),
+impl Reported for Written {
+    ghost numbers = { list_numbers };
+
+    fn reply(self) -> Reply {
+        success(self.words as u64, self.clauses as u64, self.variables as u64)
     }
 }
 
-pub fn of_searched(v: Result<Verdict, Refusal>) -> Reply
-    ensures { numbers_in result ≡ searched_numbers v }
-{
-    match v {
-        Ok(found) => of_verdict(found),
-        Err(why) => refused(why),
+impl Reported for Marked {
+    ghost numbers = { marks_numbers };
+
+    fn reply(self) -> Reply {
+        success(self.remaining, self.faults, self.patterns)
     }
 }
 
-pub fn of_narrowed(v: Result<u64, Refusal>) -> Reply
-    ensures { numbers_in result ≡ narrowed_numbers v }
-{
-    match v {
-        Ok(faults) => success(faults, 0, 0),
-        Err(why) => refused(why),
+impl Reported for Finding {
+    ghost numbers = { finding_numbers };
+
+    fn reply(self) -> Reply {
+        match self {
+            Finding::Sound => success(0, 0, 0),
+            Finding::BadMark(mark) => success(1, mark as u64, 0),
+            Finding::LostFault(fault) => success(2, fault as u64, 0),
+            Finding::LostPair(first, second) => success(3, first as u64, second as u64),
+            Finding::SparePattern(pattern) => success(4, pattern as u64, 0),
+        }
     }
 }
 
-pub fn of_marked(v: Result<Marked, Refusal>) -> Reply
-    ensures { numbers_in result ≡ marked_numbers v }
-{
-    match v {
-        Ok(marked) => success(marked.remaining, marked.faults, marked.patterns),
-        Err(why) => refused(why),
+impl Reported for Verdict {
+    ghost numbers = { verdict_numbers };
+
+    fn reply(self) -> Reply {
+        match self {
+            Verdict::Test(nodes) => success(0, nodes, 0),
+            Verdict::Redundant(nodes) => success(1, nodes, 0),
+            Verdict::GivenUp(nodes) => success(2, nodes, 0),
+        }
     }
 }
 
-pub fn of_written(v: Result<Written, Refusal>) -> Reply
-    ensures { numbers_in result ≡ written_numbers v }
+// A part's answer in numbers.
+pub fn of_answer<A: Reported>(answer: Result<A, Refusal>) -> Reply
+    ensures { numbers_in result ≡ in_numbers A.numbers answer }
 {
-    match v {
-        Ok(written) => success(
-            written.words as u64,
-            written.clauses as u64,
-            written.variables as u64,
-        ),
-        Err(why) => refused(why),
-    }
-}
-
-pub fn of_read(v: Result<usize, Refusal>) -> Reply
-    ensures { numbers_in result ≡ read_numbers v }
-{
-    match v {
-        Ok(records) => success(records as u64, 0, 0),
-        Err(why) => refused(why),
-    }
-}
-
-pub fn of_unfolding(v: Result<usize, Refusal>) -> Reply
-    ensures { numbers_in result ≡ unfolding_numbers v }
-{
-    match v {
-        Ok(lines) => success(lines as u64, 0, 0),
+    match answer {
+        Ok(good) => good.reply(),
         Err(why) => refused(why),
     }
 }

@@ -51,7 +51,7 @@ verdict_numbers (verdict.Redundant k) = success 1 k 0
 verdict_numbers (verdict.GivenUp k) = success 2 k 0
 
 unfoldable pub searched_numbers : Result Verdict Refusal → Numbers
-searched_numbers = in_numbers (λ v. verdict_numbers v)
+searched_numbers = in_numbers verdict_numbers
 
 -- the promise, whatever the bytes, where t and w were lent, and t' and w' come back
 pub record Searches (c f : List ℕ) (b : ℕ) (t w : List ℕ) (r : Result Verdict Refusal) (t' w' : List ℕ) : Type 0 where

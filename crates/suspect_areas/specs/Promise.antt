@@ -57,8 +57,11 @@ abbrev pub marked_are : ℕ → ℕ → ℕ → Marked
 marked_are remaining faults patterns = record { remaining = remaining; faults = faults; patterns = patterns }
 
 -- the paper's number and values for each case
+abbrev pub marks_numbers : Marked → Numbers
+marks_numbers a = success a.remaining a.faults a.patterns
+
 unfoldable pub marked_numbers : Result Marked Refusal → Numbers
-marked_numbers = in_numbers (λ a. success a.remaining a.faults a.patterns)
+marked_numbers = in_numbers marks_numbers
 
 -- the marks m become m': those of the faults that there are
 pub record ReadsMarks (a m : List ℕ) (r : Result Marked Refusal) (m' : List ℕ) : Type 0 where

@@ -9,7 +9,7 @@ use audit::audit;
 use compact::compact;
 use dictionary::dictionary;
 use dictionary_lanes::dictionary_lanes;
-use replies::{AREA, OTHER_SIZE, of_audited, of_marked, of_narrowed, of_ruling, report};
+use replies::{AREA, OTHER_SIZE, of_answer, report};
 use suspect_areas::{open_area, read_marks, report_area};
 
 pub fn enter_dictionary(
@@ -27,7 +27,7 @@ pub fn enter_dictionary(
         return OTHER_SIZE;
     }
     let v = dictionary(circuit, faults, patterns, table, work);
-    report(of_ruling(v), answer)
+    report(of_answer(v), answer)
 }
 
 pub fn enter_dictionary_lanes(
@@ -45,7 +45,7 @@ pub fn enter_dictionary_lanes(
         return OTHER_SIZE;
     }
     let v = dictionary_lanes(circuit, faults, patterns, table, work);
-    report(of_ruling(v), answer)
+    report(of_answer(v), answer)
 }
 
 pub fn enter_compact(
@@ -62,7 +62,7 @@ pub fn enter_compact(
         return OTHER_SIZE;
     }
     let v = compact(fault_count, pattern_count, table, marks);
-    report(of_ruling(v), answer)
+    report(of_answer(v), answer)
 }
 
 pub fn enter_audit(
@@ -76,7 +76,7 @@ pub fn enter_audit(
         result answer.new }
 {
     let v = audit(fault_count, pattern_count, table, marks);
-    report(of_audited(v), answer)
+    report(of_answer(v), answer)
 }
 
 pub fn enter_suspects_open(
@@ -93,7 +93,7 @@ pub fn enter_suspects_open(
         return OTHER_SIZE;
     }
     let v = open_area(fault_count, pattern_count, table, state);
-    report(of_narrowed(v), answer)
+    report(of_answer(v), answer)
 }
 
 pub fn enter_suspects_report(
@@ -119,7 +119,7 @@ pub fn enter_suspects_report(
         failed != 0,
         state,
     );
-    report(of_narrowed(v), answer)
+    report(of_answer(v), answer)
 }
 
 pub fn enter_suspects_marks(state: &[u8], marks: &mut [u8], answer: &mut [u8]) -> u32
@@ -130,5 +130,5 @@ pub fn enter_suspects_marks(state: &[u8], marks: &mut [u8], answer: &mut [u8]) -
         return OTHER_SIZE;
     }
     let v = read_marks(state, marks);
-    report(of_marked(v), answer)
+    report(of_answer(v), answer)
 }

@@ -1,5 +1,6 @@
 -- `circuit_entries::enter_clauses` meets its contract: an area of another size first, else the answer and the words of the part.
 -- Assumes nothing.
+use Rattle.clauses.specs.Promise.{written_numbers}
 use borrow.Author.Tests.{eq-eqb, ne_eqb}
 use Rattle.replies.proofs.Lent.{nothing_lent, lent_reported}
 use Rattle.circuit_entries.proofs.enter_clauses.Goals as goal
@@ -9,6 +10,7 @@ returns-then-answer-ne-AREA c = nothing_lent (ne_eqb _ _ c.if-answer-ne-AREA.tru
 
 -- the places, the last first: the report, the answer in numbers, the part, the test of the size
 pub returns : goal.returns
+unfolding written_numbers
 returns c =
     let done = c.clauses-v.ensures in
-    lent_reported (eq-eqb _ _ c.if-answer-ne-AREA.false) c.report.ensures c.of_written.ensures done.numbers done.words
+    lent_reported (eq-eqb _ _ c.if-answer-ne-AREA.false) c.report.ensures c.of_answer.ensures done.numbers done.words

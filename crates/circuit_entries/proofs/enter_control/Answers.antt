@@ -15,7 +15,7 @@ returns c =
     let right = eq-eqb _ _ c.if-answer-ne-AREA.false in
     let done = c.control-v.ensures in
     record {
-      answer = reported c.report.ensures c.of_ruling.ensures done.numbers;
+      answer = reported c.report.ensures c.of_answer.ensures done.numbers;
       ones_are = becomes _ right done.ones_are;
       zeros_are = becomes _ right done.zeros_are;
     }

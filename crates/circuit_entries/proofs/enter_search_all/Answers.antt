@@ -15,7 +15,7 @@ returns c =
     let right = eq-eqb _ _ c.if-answer-ne-AREA.false in
     let done = c.search_all-v.ensures in
     record {
-      answer = reported c.report.ensures c.of_ruling.ensures done.numbers;
+      answer = reported c.report.ensures c.of_answer.ensures done.numbers;
       outcomes = becomes _ right done.outcomes;
       counts = becomes _ right done.counts;
       tests = becomes _ right done.tests;

@@ -11,4 +11,4 @@ returns-then-answer-ne-AREA c = nothing_made (ne_eqb _ _ c.if-answer-ne-AREA.tru
 pub returns : goal.returns
 returns c =
     let done = c.unfold_dictionary-v.ensures in
-    made_reported (eq-eqb _ _ c.if-answer-ne-AREA.false) c.report.ensures c.of_ruling.ensures done.numbers done.table done.work
+    made_reported (eq-eqb _ _ c.if-answer-ne-AREA.false) c.report.ensures c.of_answer.ensures done.numbers done.table done.work

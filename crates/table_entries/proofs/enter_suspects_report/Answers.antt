@@ -1,5 +1,6 @@
 -- `table_entries::enter_suspects_report` meets its contract: an area of another size first, else the answer and the state of the part.
 -- Assumes nothing.
+use Rattle.suspects.specs.Promise.{narrowed_numbers}
 use borrow.Author.Tests.{eq-eqb, ne_eqb}
 use Rattle.replies.proofs.Lent.{nothing_lent, lent_reported}
 use Rattle.table_entries.proofs.enter_suspects_report.Goals as goal
@@ -9,6 +10,7 @@ returns-then-answer-ne-AREA c = nothing_lent (ne_eqb _ _ c.if-answer-ne-AREA.tru
 
 -- the places, the last first: the report, the answer in numbers, the part, the test of the size
 pub returns : goal.returns
+unfolding narrowed_numbers
 returns c =
     let done = c.report_area-v.ensures in
-    lent_reported (eq-eqb _ _ c.if-answer-ne-AREA.false) c.report.ensures c.of_narrowed.ensures done.numbers done.state
+    lent_reported (eq-eqb _ _ c.if-answer-ne-AREA.false) c.report.ensures c.of_answer.ensures done.numbers done.state
