@@ -80,12 +80,5 @@ fn no_mark(mark: u8, f: usize, n: usize) -> bool
 pub fn some_no_mark(marks: &[u8], n: usize) -> bool
     ensures { result ≡ any_below (length marks.now) (no_mark n marks.now) }
 {
-    let mut f = 0;
-    while f < marks.len() {
-        if no_mark(marks[f], f, n) {
-            return true;
-        }
-        f += 1;
-    }
-    false
+    (0..marks.len()).any(|f| no_mark(marks[f], f, n))
 }

@@ -1,0 +1,123 @@
+-- What `any`, `all`, `find` and `position` return, over the numbers below n and over a list of numbers. In each lemma t is the test that the
+-- closure computes, and its last two facts say so: what is known of t where the closure gives true, and where it gives false. A call after which
+-- the search goes on leaves the closure as it was. Over the numbers below n each fact may use that its number is below n.
+-- Assumes nothing.
+use mathlib.Core.Path.{◌≡◌, refl, sym, ◌∙◌}
+use mathlib.Core.Bool.{Bool, true, false, true≢false}
+use mathlib.Core.List.{List}
+use Prim.Native.Nat.{ℕ, ◌≤◌, ◌<◌}
+use native.Mathlib.Omega.{arith}
+use lib.ListN.{length, get_or}
+use denote.Ref.{Bor}
+use denote.Param.Members.{Mut}
+use borrow.Author.Tests.{lt-ltb, le-ltb}
+use Rattle.std.specs.declared.ops.Range.{Range}
+use Rattle.std.specs.declared.slice.Iter.{Iter}
+use Rattle.std.specs.Prelude.{Option, Some, None}
+use Rattle.std.specs.Bool.{⊤, MatchBool}
+use Rattle.std.specs.Option.{MatchOption}
+use Rattle.std.specs.Fn.{Called, CalledAt}
+use Rattle.std.specs.Iterator.{YieldsThen}
+use Rattle.std.specs.List.{FoldsTo, AllWithin, HoldsAt, range_with_len}
+use Rattle.std.specs.Slice.Iter.{iter_rest}
+use Rattle.std.proofs.iter.Yields.{fronts, nat_range_steps}
+use Rattle.std.proofs.lemmas.Iterator.{YieldsList-from_range, YieldsList-from_slice, cases_from_any, cases_from_all, first_from_Range, IsFirst-from_position}
+use Rattle.std.proofs.lemmas.List.FromFn.{length-range_with_len, get_or-range_with_len}
+use Rattle.ground.specs.Below.{any_below, all_below, first_failing}
+use Rattle.ground.proofs.Tests.{T-is, is_T}
+use Rattle.ground.proofs.Below.{any_some, none_any, every_all, at_below}
+use Rattle.ground.proofs.First.{Every, Lowest, first_is, first_none}
+
+-- ---- one answer
+
+module _ (n : ℕ) (t : ℕ → Bool) where
+  all_is : ((k : ℕ) → k < n → t k ≡ true) → true ≡ all_below n t
+  all_is h = sym (T-is (all_below n t) (every_all n t (λ k l. is_T (t k) (h k l))))
+
+  not-all : (k : ℕ) → k < n → t k ≡ false → false ≡ all_below n t
+  not-all k l e = go (all_below n t) refl
+    where
+      go : (b : Bool) → all_below n t ≡ b → false ≡ b
+      go false q = refl
+      go true q = absurd (true≢false (sym (T-is (t k) (at_below n t (is_T (all_below n t) q) k l)) ∙ e))
+
+  pub Some-failing : {k : ℕ} → Lowest t 0 n k → Some k ≡ first_failing n t
+  Some-failing {k} p = rw (first_is n t p, lt-ltb k n p.inside)
+
+  pub None-failing : Every t 0 n → None ≡ first_failing n t
+  None-failing h = rw (first_none n t h, le-ltb n n (omega arith))
+
+-- ---- over the numbers below n
+
+at : (n k : ℕ) → k < n → get_or (range_with_len 0 n) k 0 ≡ k
+at n k l = get_or-range_with_len 0 n k 0 l ∙ omega arith
+
+module _ {F : Type 0} {g : Mut F (ℕ × Unit {0}) Bool} {n : ℕ} (t : ℕ → Bool) (u : Range ℕ) (f : F) (r : Bool) where
+  pub any_over : (xs : List ℕ) × (o : Option ℕ) × (j : F) × YieldsThen nat_range_steps (record { start = 0; end = n }) xs o u × FoldsTo (λ p x q. Called g p (x, tt) false q) f xs j × MatchOption o (r ≡ false) (λ x. (r ≡ true) × ((h : F) × Called g j (x, tt) true h))
+      → ((x : ℕ) (q : F) → Called g f (x, tt) true q → x < n → t x ≡ true)
+      → ((x : ℕ) (q : F) → Called g f (x, tt) false q → (q ≡ f) × (x < n → t x ≡ false))
+      → r ≡ any_below n t
+  any_over d yes' no' = go r (cases_from_any u f r (λ x. x < n → t x ≡ true) (λ x. x < n → t x ≡ false) d (YieldsList-from_range 0 n n refl (omega arith)) yes' no')
+    where
+      go : (b : Bool) → MatchBool b ((k : ℕ) × (k < length (range_with_len 0 n)) × HoldsAt (λ x. x < n → t x ≡ true) (range_with_len 0 n) k) (AllWithin (λ x. x < n → t x ≡ false) (range_with_len 0 n) 0 (length (range_with_len 0 n))) → b ≡ any_below n t
+      go true h = let l : h.0 < n = omega (arith, h.1, length-range_with_len 0 n) in sym (any_some n t h.0 l (rw (at n h.0 l) at (h.2 0) (omega arith)))
+      go false h = sym (none_any n t (λ k l. rw (at n k l) at (h k 0 (omega arith) (omega (arith, length-range_with_len 0 n, l))) l))
+
+  pub all_over : (xs : List ℕ) × (o : Option ℕ) × (j : F) × YieldsThen nat_range_steps (record { start = 0; end = n }) xs o u × FoldsTo (λ p x q. Called g p (x, tt) true q) f xs j × MatchOption o (r ≡ true) (λ x. (r ≡ false) × ((h : F) × Called g j (x, tt) false h))
+      → ((x : ℕ) (q : F) → Called g f (x, tt) true q → (q ≡ f) × (x < n → t x ≡ true))
+      → ((x : ℕ) (q : F) → Called g f (x, tt) false q → x < n → t x ≡ false)
+      → r ≡ all_below n t
+  all_over d yes' no' = go r (cases_from_all u f r (λ x. x < n → t x ≡ true) (λ x. x < n → t x ≡ false) d (YieldsList-from_range 0 n n refl (omega arith)) yes' no')
+    where
+      go : (b : Bool) → MatchBool b (AllWithin (λ x. x < n → t x ≡ true) (range_with_len 0 n) 0 (length (range_with_len 0 n))) ((k : ℕ) × (k < length (range_with_len 0 n)) × HoldsAt (λ x. x < n → t x ≡ false) (range_with_len 0 n) k) → b ≡ all_below n t
+      go true h = all_is n t (λ k l. rw (at n k l) at (h k 0 (omega arith) (omega (arith, length-range_with_len 0 n, l))) l)
+      go false h = let l : h.0 < n = omega (arith, h.1, length-range_with_len 0 n) in not-all n t h.0 l (rw (at n h.0 l) at (h.2 0) (omega arith))
+
+module _ {F : Type 0} {g : Mut F (Bor ℕ × Unit {0}) Bool} {n : ℕ} (t : ℕ → Bool) (u : Range ℕ) (f : F) (r : Option ℕ) where
+  -- it looks for a place at which t fails
+  pub find_over : (xs : List ℕ) × (j : F) × YieldsThen nat_range_steps (record { start = 0; end = n }) xs r u × FoldsTo (λ p x q. CalledAt g p x false q) f xs j × MatchOption r ⊤ (λ x. (h : F) × CalledAt g j x true h)
+      → ((x : ℕ) (q : F) → CalledAt g f x true q → x < n → t x ≡ false)
+      → ((x : ℕ) (q : F) → CalledAt g f x false q → (q ≡ f) × (x < n → t x ≡ true))
+      → r ≡ first_failing n t
+  find_over d yes' no' = go r (first_from_Range (record { start = 0; end = n }) u f r (λ x. x < n → t x ≡ false) (λ x. x < n → t x ≡ true) d yes' no')
+    where
+      go : (o : Option ℕ) → MatchOption o ((k : ℕ) → 0 ≤ k → k < n → k < n → t k ≡ true) (λ i. (0 ≤ i) × (i < n) × (i < n → t i ≡ false) × ((k : ℕ) → 0 ≤ k → k < i → k < n → t k ≡ true)) → o ≡ first_failing n t
+      go None h = None-failing n t (λ j a b. h j a b b)
+      go (Some i) h = Some-failing n t (record { above = omega arith; inside = h.1; bad = h.2 h.1; below = λ j a b. h.3 j a b (omega (arith, h.1)) })
+
+-- ---- over a list of numbers
+
+module _ {F : Type 0} {g : Mut F (Bor ℕ × Unit {0}) Bool} {l : List ℕ} {s : Iter ℕ} (t : ℕ → Bool) (u : Iter ℕ) (f : F) where
+  pub any_along : (r : Bool) → iter_rest s ≡ l
+      → (xs : List (Bor ℕ)) × (o : Option (Bor ℕ)) × (j : F) × YieldsThen fronts s xs o u × FoldsTo (λ p x q. Called g p (x, tt) false q) f xs j × MatchOption o (r ≡ false) (λ x. (r ≡ true) × ((h : F) × Called g j (x, tt) true h))
+      → ((x : Bor ℕ) (q : F) → Called g f (x, tt) true q → t x.now ≡ true)
+      → ((x : Bor ℕ) (q : F) → Called g f (x, tt) false q → (q ≡ f) × (t x.now ≡ false))
+      → r ≡ any_below (length l) (λ k. t (get_or l k 0))
+  any_along r e d yes' no' = go r (cases_from_any u f r (λ x. t x ≡ true) (λ x. t x ≡ false) d (YieldsList-from_slice l e) yes' no')
+    where
+      go : (b : Bool) → MatchBool b ((k : ℕ) × (k < length l) × HoldsAt (λ x. t x ≡ true) l k) (AllWithin (λ x. t x ≡ false) l 0 (length l)) → b ≡ any_below (length l) (λ k. t (get_or l k 0))
+      go true h = sym (any_some (length l) _ h.0 h.1 (h.2 0))
+      go false h = sym (none_any (length l) _ (λ k b. h k 0 (omega arith) b))
+
+  pub all_along : (r : Bool) → iter_rest s ≡ l
+      → (xs : List (Bor ℕ)) × (o : Option (Bor ℕ)) × (j : F) × YieldsThen fronts s xs o u × FoldsTo (λ p x q. Called g p (x, tt) true q) f xs j × MatchOption o (r ≡ true) (λ x. (r ≡ false) × ((h : F) × Called g j (x, tt) false h))
+      → ((x : Bor ℕ) (q : F) → Called g f (x, tt) true q → (q ≡ f) × (t x.now ≡ true))
+      → ((x : Bor ℕ) (q : F) → Called g f (x, tt) false q → t x.now ≡ false)
+      → r ≡ all_below (length l) (λ k. t (get_or l k 0))
+  all_along r e d yes' no' = go r (cases_from_all u f r (λ x. t x ≡ true) (λ x. t x ≡ false) d (YieldsList-from_slice l e) yes' no')
+    where
+      go : (b : Bool) → MatchBool b (AllWithin (λ x. t x ≡ true) l 0 (length l)) ((k : ℕ) × (k < length l) × HoldsAt (λ x. t x ≡ false) l k) → b ≡ all_below (length l) (λ k. t (get_or l k 0))
+      go true h = all_is (length l) _ (λ k b. h k 0 (omega arith) b)
+      go false h = not-all (length l) _ h.0 h.1 (h.2 0)
+
+  -- it looks for a number at which t fails
+  pub position_along : (r : Option ℕ) → iter_rest s ≡ l
+      → (xs : List (Bor ℕ)) × (o : Option (Bor ℕ)) × (j : F) × YieldsThen fronts s xs o u × FoldsTo (λ p x q. Called g p (x, tt) false q) f xs j × MatchOption o (r ≡ None) (λ x. (r ≡ Some (length xs)) × ((h : F) × Called g j (x, tt) true h))
+      → ((x : Bor ℕ) (q : F) → Called g f (x, tt) true q → t x.now ≡ false)
+      → ((x : Bor ℕ) (q : F) → Called g f (x, tt) false q → (q ≡ f) × (t x.now ≡ true))
+      → r ≡ first_failing (length l) (λ k. t (get_or l k 0))
+  position_along r e d yes' no' = go r (IsFirst-from_position u f r (λ x. t x ≡ false) (λ x. t x ≡ true) d (YieldsList-from_slice l e) yes' no')
+    where
+      go : (o : Option ℕ) → MatchOption o (AllWithin (λ x. t x ≡ true) l 0 (length l)) (λ i. (i < length l) × HoldsAt (λ x. t x ≡ false) l i × AllWithin (λ x. t x ≡ true) l 0 i) → o ≡ first_failing (length l) (λ k. t (get_or l k 0))
+      go None h = None-failing (length l) _ (λ j a b. h j 0 a b)
+      go (Some i) h = Some-failing (length l) _ (record { above = omega arith; inside = h.0; bad = h.1 0; below = λ j a b. h.2 j 0 a b })
