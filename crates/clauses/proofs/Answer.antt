@@ -13,7 +13,6 @@ use Rattle.ground.proofs.Counting.{count_most}
 use Rattle.ground.specs.Put.{laid_on}
 use Rattle.answers.specs.declared.Ruling.{Ruling}
 use Rattle.answers.specs.Rules.{said, refusal}
-use Rattle.answers.proofs.Answer as answer
 use Rattle.answers.proofs.Answer.{numbers-told, refused_done, fine_done}
 use Rattle.answers.proofs.Records.{one_record}
 use Rattle.circuit.specs.Record.{lines_of, inputs_of, is_output, outputs_before, Inside}
