@@ -2,30 +2,38 @@
 -- closure computes, and its last two facts say so: what is known of t where the closure gives true, and where it gives false. A call after which
 -- the search goes on leaves the closure as it was. Over the numbers below n each fact may use that its number is below n.
 -- Assumes nothing.
-use mathlib.Core.Path.{◌≡◌, refl, sym, ◌∙◌}
-use mathlib.Core.Bool.{Bool, true, false, true≢false}
+use mathlib.Core.Path.{◌≡◌, refl, sym, ap, ◌∙◌}
+use mathlib.Core.Bool.{cond, Bool, true, false, true≢false}
 use mathlib.Core.List.{List}
-use Prim.Native.Nat.{ℕ, ◌≤◌, ◌<◌}
+use Prim.Native.Nat.{ℕ, zero, suc, ◌≤◌, ◌<◌}
+use native.Mathlib.Numerals.{add-one}
 use native.Mathlib.Omega.{arith}
-use lib.ListN.{length, get_or}
+use lib.ListN.{length, get_or, take}
+use lib.Seq.{take_all, take-length}
 use denote.Ref.{Bor}
 use denote.Param.Members.{Mut}
 use borrow.Author.Tests.{lt-ltb, le-ltb}
 use Rattle.std.specs.declared.ops.Range.{Range}
 use Rattle.std.specs.declared.slice.Iter.{Iter}
+use Rattle.std.specs.declared.iter.Filter.{Filter}
+use Rattle.std.specs.Iterator.Adapters.{filter_source, filter_callee, filter_steps}
+use Rattle.std.proofs.lemmas.Iterator.Consumers.{YieldsList-from_filter, YieldsList-at, count_from_yields_List}
+use Rattle.std.proofs.lemmas.List.Sums.{length-filter, sum_by_more}
 use Rattle.std.specs.Prelude.{Option, Some, None}
 use Rattle.std.specs.Bool.{⊤, MatchBool}
 use Rattle.std.specs.Option.{MatchOption}
 use Rattle.std.specs.Fn.{Called, CalledAt}
-use Rattle.std.specs.Iterator.{YieldsThen}
-use Rattle.std.specs.List.{FoldsTo, AllWithin, HoldsAt, range_with_len}
+use Rattle.std.specs.Iterator.{YieldsThen, Drains}
+use Rattle.std.specs.List.{filter, FoldsTo, AllWithin, HoldsAt, range_with_len}
 use Rattle.std.specs.Slice.Iter.{iter_rest}
 use Rattle.std.proofs.iter.Yields.{fronts, nat_range_steps}
 use Rattle.std.proofs.lemmas.Iterator.{YieldsList-from_range, YieldsList-from_slice, cases_from_any, cases_from_all, first_from_Range, IsFirst-from_position}
 use Rattle.std.proofs.lemmas.List.FromFn.{length-range_with_len, get_or-range_with_len}
-use Rattle.ground.specs.Below.{any_below, all_below, first_failing}
+use Rattle.ground.specs.Choose.{one}
+use Rattle.ground.specs.Below.{any_below, all_below, count_below, first_failing}
 use Rattle.ground.proofs.Tests.{T-is, is_T}
 use Rattle.ground.proofs.Below.{any_some, none_any, every_all, at_below}
+use Rattle.ground.proofs.Counting.{count_same}
 use Rattle.ground.proofs.First.{Every, Lowest, first_is, first_none}
 
 -- ---- one answer
@@ -121,3 +129,45 @@ module _ {F : Type 0} {g : Mut F (Bor ℕ × Unit {0}) Bool} {l : List ℕ} {s :
       go : (o : Option ℕ) → MatchOption o (AllWithin (λ x. t x ≡ true) l 0 (length l)) (λ i. (i < length l) × HoldsAt (λ x. t x ≡ false) l i × AllWithin (λ x. t x ≡ true) l 0 i) → o ≡ first_failing (length l) (λ k. t (get_or l k 0))
       go None h = None-failing (length l) _ (λ j a b. h j 0 a b)
       go (Some i) h = Some-failing (length l) _ (record { above = omega arith; inside = h.0; bad = h.1 0; below = λ j a b. h.2 j 0 a b })
+
+-- ---- how many: `filter(..).count()`
+
+module _ (t : ℕ → Bool) where
+  one-cond : (b : Bool) → cond b 1 0 ≡ one b
+  one-cond true = refl
+  one-cond false = refl
+
+  -- those of the first n of a list that pass
+  passing : (l : List ℕ) (n : ℕ) → n ≤ length l → length (filter t (take n l)) ≡ count_below n (λ k. t (get_or l k 0))
+  unfolding count_below
+  passing l zero h = length-filter t (take 0 l)
+  passing l (suc n) h =
+      rw (length-filter t (take (suc n) l), ← add-one n, sum_by_more (λ x. cond (t x) 1 0) l n 0 (omega arith), ← length-filter t (take n l), passing l n (omega arith), one-cond (t (get_or l n 0)))
+
+  module _ {F : Type 0} {g : Mut F (Bor (Bor ℕ) × Unit {0}) Bool} {s : Filter (Iter ℕ) F} {it : Iter ℕ} {f : F} {r : ℕ} (source : filter_source s ≡ it)
+      (closure : filter_callee s ≡ f) (ran : (xs : List (Bor ℕ)) × Drains (filter_steps fronts g) s xs × (r ≡ length xs))
+      (tells : (x : Bor ℕ) (b : Bool) (q : F) → CalledAt g f x b q → (q ≡ f) × (b ≡ t x.now))
+    where
+      passed-on : (l : List ℕ) → iter_rest it ≡ l → r ≡ length (filter t l)
+      passed-on l e = count_from_yields_List s r ran (YieldsList-from_filter g t (YieldsList-at source (YieldsList-from_slice l e)) closure tells)
+
+      pub count_along : (l : List ℕ) → iter_rest it ≡ l → r ≡ count_below (length l) (λ k. t (get_or l k 0))
+      count_along l e = passed-on l e ∙ rw (take-length l) at (passing l (length l) (omega arith))
+
+      -- of the first n of a list
+      pub count_front : (l : List ℕ) (n : ℕ) → iter_rest it ≡ take n l → n ≤ length l → r ≡ count_below n (λ k. t (get_or l k 0))
+      count_front l n e h = passed-on (take n l) e ∙ passing l n h
+
+  -- of the numbers below n
+  numbered : (n : ℕ) → length (filter t (range_with_len 0 n)) ≡ count_below n t
+  numbered n =
+      let e = length-range_with_len 0 n in
+      rw (take_all n (range_with_len 0 n) (omega (arith, e))) at (passing (range_with_len 0 n) n (omega (arith, e)))
+      ∙ count_same n _ t (λ k l. ap t (at n k l))
+
+  pub count_over : {F : Type 0} {g : Mut F (Bor ℕ × Unit {0}) Bool} {s : Filter (Range ℕ) F} {n : ℕ} {f : F} {r : ℕ} → filter_source s ≡ record { start = 0; end = n } → filter_callee s ≡ f
+      → (xs : List ℕ) × Drains (filter_steps nat_range_steps g) s xs × (r ≡ length xs)
+      → ((x : ℕ) (b : Bool) (q : F) → CalledAt g f x b q → (q ≡ f) × (b ≡ t x))
+      → r ≡ count_below n t
+  count_over {g = g} {s} {n} source closure ran tells =
+      count_from_yields_List s _ ran (YieldsList-from_filter g t (YieldsList-from_range 0 n n source (omega arith)) closure tells) ∙ numbered n
