@@ -14,7 +14,7 @@ ghost use Rattle.clauses.specs.Owed.{WholeReady, ClauseLinesReady, PutAllReady, 
 
 use answers::Ruling;
 use circuit::{Checked, check, equal};
-use cnf::{Size, minus, plus, put_single};
+use cnf::{Size, minus, plus, put_clause};
 use line_clauses::{line_size, put_difference, put_faulty, put_good};
 use lists::{Fault, check_faults, read_fault};
 
@@ -96,9 +96,9 @@ fn put_stuck(fault: Fault, n: usize, words: &mut [i32], at: usize) -> usize
     ensures { Put words.old words.new at (single (stuck_literal fault n)) result }
 {
     if fault.value == PLAIN {
-        return put_single(words, at, plus(2 * n + 1));
+        return put_clause(words, at, &[plus(2 * n + 1)]);
     }
-    put_single(words, at, minus(2 * n + 1))
+    put_clause(words, at, &[minus(2 * n + 1)])
 }
 
 // The clause of all differences.
