@@ -8,25 +8,25 @@ pub returns-then-n-line : goal.returns-then-n-line
 unfolding fault_ok
 returns-then-n-line c = simp (le-ltb _ _ (rw c.pair_at-line.ensures at c.if-n-line.true))
 
-pub returns-then-pins-wide : goal.returns-then-pins-wide
+pub returns-then-pins-from : goal.returns-then-pins-from
 unfolding fault_ok
-returns-then-pins-wide c =
+returns-then-pins-from c =
     let line_kept = lt-ltb _ _ (rw c.pair_at-line.ensures at c.if-n-line.false) in
-    let site_lost = lt-leb _ _ (rw (c.wide.ensures.0, c.pins.ensures, c.pair_at-line.ensures) at c.if-pins-wide.true) in
+    let site_lost = lt-leb _ _ (rw (c.from.ensures, c.pins.ensures, c.pair_at-line.ensures) at c.if-pins-from.true) in
     simp (line_kept, site_lost)
 
 pub returns-then-faults-j-gt-LARGEST_VALUE : goal.returns-then-faults-j-gt-LARGEST_VALUE
 unfolding fault_ok
 returns-then-faults-j-gt-LARGEST_VALUE c =
     let line_kept = lt-ltb _ _ (rw c.pair_at-line.ensures at c.if-n-line.false) in
-    let site_kept = le-leb _ _ (rw (c.wide.ensures.0, c.pins.ensures, c.pair_at-line.ensures) at c.if-pins-wide.false) in
+    let site_kept = le-leb _ _ (rw (c.from.ensures, c.pins.ensures, c.pair_at-line.ensures) at c.if-pins-from.false) in
     simp (line_kept, site_kept, lt-leb _ _ c.if-faults-j-gt-LARGEST_VALUE.true)
 
 pub returns-then-pair_at-ne0 : goal.returns-then-pair_at-ne0
 unfolding fault_ok
 returns-then-pair_at-ne0 c =
     let line_kept = lt-ltb _ _ (rw c.pair_at-line.ensures at c.if-n-line.false) in
-    let site_kept = le-leb _ _ (rw (c.wide.ensures.0, c.pins.ensures, c.pair_at-line.ensures) at c.if-pins-wide.false) in
+    let site_kept = le-leb _ _ (rw (c.from.ensures, c.pins.ensures, c.pair_at-line.ensures) at c.if-pins-from.false) in
     let low-lost = ne_eqb _ _ (rw c.pair_at.ensures at c.if-pair_at-ne0.true) in
     simp (line_kept, site_kept, le-leb _ _ c.if-faults-j-gt-LARGEST_VALUE.false, low-lost)
 
@@ -34,6 +34,6 @@ pub returns : goal.returns
 unfolding fault_ok
 returns c =
     let line_kept = lt-ltb _ _ (rw c.pair_at-line.ensures at c.if-n-line.false) in
-    let site_kept = le-leb _ _ (rw (c.wide.ensures.0, c.pins.ensures, c.pair_at-line.ensures) at c.if-pins-wide.false) in
+    let site_kept = le-leb _ _ (rw (c.from.ensures, c.pins.ensures, c.pair_at-line.ensures) at c.if-pins-from.false) in
     let low-kept = eq-eqb _ _ (rw c.pair_at.ensures at c.if-pair_at-ne0.false) in
     simp (line_kept, site_kept, le-leb _ _ c.if-faults-j-gt-LARGEST_VALUE.false, low-kept) (cc)
