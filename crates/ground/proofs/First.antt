@@ -9,6 +9,7 @@ use native.Mathlib.Omega.{arith}
 use lib.Dec.{ltb}
 use borrow.Author.Tests.{ltb-true, ltb-false}
 use Rattle.std.specs.Prelude.{Some, None}
+use Rattle.std.specs.Option.{unwrap_or}
 use Rattle.ground.specs.Choose.{choose}
 use Rattle.ground.specs.Below.{first_from, first_not, first_failing}
 use Rattle.ground.proofs.Tests.{either}
@@ -74,6 +75,14 @@ first_same n t u h =
 
 -- what an answer of `first_failing` says
 module _ (n : ℕ) (t : ℕ → Bool) where
+  pub or-failing : unwrap_or (first_failing n t) n ≡ first_not n t
+  or-failing = go (ltb (first_not n t) n) refl (first_cases n t)
+    where
+      go : (b : Bool) → ltb (first_not n t) n ≡ b → Lowest t 0 n (first_not n t) ⊎ ((first_not n t ≡ n) × Every t 0 n) → unwrap_or (choose b (Some (first_not n t)) None) n ≡ first_not n t
+      go true l d = refl
+      go false l (inl p) = absurd (omega (arith, ltb-false (first_not n t) n l, p.inside))
+      go false l (inr a) = sym a.0
+
   pub some_fails : {k : ℕ} → Some k ≡ first_failing n t → (k ≡ first_not n t) × (k < n)
   some_fails {k} e = go (ltb (first_not n t) n) refl e
     where

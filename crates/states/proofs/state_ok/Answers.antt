@@ -1,13 +1,15 @@
 -- `states::state_ok` meets its contract: one answer for each part of the layout.
 -- Assumes nothing.
-use mathlib.Core.Path.{◌≡◌}
-use mathlib.Core.Bool.{true}
-use lib.Dec.{ltb}
-use borrow.Author.Tests.{eq-eqb, ne_eqb, lt-ltb, le-ltb}
+use mathlib.Core.Path.{◌≡◌, ap}
+use mathlib.Core.Bool.{Bool, true, not}
+use Prim.Native.Nat.{ℕ}
+use lib.Dec.{eqb, ltb}
+use Rattle.std.proofs.Common.{rules}
+use borrow.Author.Tests.{tests, eq-eqb, ne_eqb, lt-ltb, le-ltb}
 use Rattle.circuit.specs.Record.{lines_of}
 use Rattle.states.specs.States.{data_line, state_line}
 use Rattle.states.specs.Rules.{state_ok}
-use Rattle.states.proofs.Seen.{not_seen}
+use Rattle.ground.proofs.Search.{any_over}
 use Rattle.states.proofs.state_ok.Goals as goal
 use Rattle.states.proofs.state_ok.Goals.{Else-n-data_line, Else-n-m}
 
@@ -35,5 +37,6 @@ returns-then-circuit-m-ne0 c =
 pub returns : goal.returns
 unfolding state_ok
 returns c =
+    let seen : ℕ → Bool = λ q. eqb (state_line c.args.states.now q) (state_line c.args.states.now c.args.r) in
     simp (data-kept (goal.at.returns c).Else-n-data_line, state-kept (goal.at.returns c).Else-n-m, eq-eqb _ _ (rw c.state_line-m.ensures at c.if-circuit-m-ne0.false))
-    (rw (c.first_with.ensures, c.state_line-m.ensures) (not_seen c.args.states.now c.args.r (state_line c.args.states.now c.args.r)))
+    (ap not (any_over seen _ _ _ c.any.ensures.ran (λ x q k l. search (rules, tests)) (λ x q k. search (rules, tests))))
