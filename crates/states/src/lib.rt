@@ -58,17 +58,11 @@ fn state_ok(circuit: &[u8], states: &[u8], r: usize) -> bool
     ensures { result ≡ state_ok circuit.now states.now r }
 {
     let n = circuit.len() / 8;
-    if n <= data_line(states, r) {
-        return false;
-    }
     let m = state_line(states, r);
-    if n <= m {
-        return false;
-    }
-    if circuit[8 * m] != 0 {
-        return false;
-    }
-    !(0..r).any(|q| state_line(states, q) == m)
+    data_line(states, r) < n
+        && m < n
+        && circuit[8 * m] == 0
+        && !(0..r).any(|q| state_line(states, q) == m)
 }
 
 // The first of n records that is bad.
