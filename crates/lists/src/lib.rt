@@ -40,21 +40,13 @@ fn fault_ok(circuit: &[u8], faults: &[u8], j: usize) -> bool
     requires { Inside faults.now j }
     ensures { result ≡ fault_ok circuit.now faults.now j }
 {
-    let line = pair_at(faults, 8 * j);
     let n = circuit.len() / 8;
-    if n <= line {
-        return false;
-    }
-    if pins(circuit[8 * line]) < usize::from(faults[8 * j + 2]) {
-        return false;
-    }
-    if LARGEST_VALUE < faults[8 * j + 3] {
-        return false;
-    }
-    if pair_at(faults, 8 * j + 4) != 0 {
-        return false;
-    }
-    pair_at(faults, 8 * j + 6) == 0
+    let line = pair_at(faults, 8 * j);
+    line < n
+        && usize::from(faults[8 * j + 2]) <= pins(circuit[8 * line])
+        && faults[8 * j + 3] <= LARGEST_VALUE
+        && pair_at(faults, 8 * j + 4) == 0
+        && pair_at(faults, 8 * j + 6) == 0
 }
 
 // The first of n fault records that is bad.
