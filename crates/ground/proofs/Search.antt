@@ -3,6 +3,7 @@
 -- the search goes on leaves the closure as it was. Over the numbers below n each fact may use that its number is below n.
 -- Assumes nothing.
 use mathlib.Core.Path.{◌≡◌, refl, sym, ap, ◌∙◌}
+use mathlib.Core.Logic.{⊎_elim}
 use mathlib.Core.Bool.{cond, Bool, true, false, true≢false}
 use mathlib.Core.List.{List}
 use Prim.Native.Nat.{ℕ, zero, suc, ◌≤◌, ◌<◌}
@@ -21,7 +22,7 @@ use Rattle.std.proofs.lemmas.Iterator.Consumers.{YieldsList-from_filter, YieldsL
 use Rattle.std.proofs.lemmas.List.Sums.{length-filter, sum_by_more}
 use Rattle.std.specs.Prelude.{Option, Some, None}
 use Rattle.std.specs.Bool.{⊤, MatchBool}
-use Rattle.std.specs.Option.{MatchOption}
+use Rattle.std.specs.Option.{MatchOption, unwrap_or}
 use Rattle.std.specs.Fn.{Called, CalledAt}
 use Rattle.std.specs.Iterator.{YieldsThen, Drains}
 use Rattle.std.specs.List.{filter, FoldsTo, AllWithin, HoldsAt, range_with_len}
@@ -30,11 +31,11 @@ use Rattle.std.proofs.iter.Yields.{fronts, nat_range_steps}
 use Rattle.std.proofs.lemmas.Iterator.{YieldsList-from_range, YieldsList-from_slice, cases_from_any, cases_from_all, first_from_Range, IsFirst-from_position}
 use Rattle.std.proofs.lemmas.List.FromFn.{length-range_with_len, get_or-range_with_len}
 use Rattle.ground.specs.Choose.{one}
-use Rattle.ground.specs.Below.{any_below, all_below, count_below, first_failing}
-use Rattle.ground.proofs.Tests.{T-is, is_T}
+use Rattle.ground.specs.Below.{any_below, all_below, count_below, first_not, first_failing}
+use Rattle.ground.proofs.Tests.{either, T-is, is_T}
 use Rattle.ground.proofs.Below.{any_some, none_any, every_all, at_below}
 use Rattle.ground.proofs.Counting.{count_same}
-use Rattle.ground.proofs.First.{Every, Lowest, first_is, first_none}
+use Rattle.ground.proofs.First.{Every, Lowest, first_cases, first_is, first_none}
 
 -- ---- one answer
 
@@ -82,16 +83,30 @@ module _ {F : Type 0} {g : Mut F (ℕ × Unit {0}) Bool} {n : ℕ} (t : ℕ → 
       go false h = let l : h.0 < n = omega (arith, h.1, length-range_with_len 0 n) in not-all n t h.0 l (rw (at n h.0 l) at (h.2 0) (omega arith))
 
 module _ {F : Type 0} {g : Mut F (Bor ℕ × Unit {0}) Bool} {n : ℕ} (t : ℕ → Bool) (u : Range ℕ) (f : F) (r : Option ℕ) where
-  -- it looks for a place at which t fails
+  -- it looks for a place at which t fails, from a on, where t holds below a
+  pub find_from : (a : ℕ) → ((x : ℕ) → x < a → t x ≡ true)
+      → (xs : List ℕ) × (j : F) × YieldsThen nat_range_steps (record { start = a; end = n }) xs r u × FoldsTo (λ p x q. CalledAt g p x false q) f xs j × MatchOption r ⊤ (λ x. (h : F) × CalledAt g j x true h)
+      → ((x : ℕ) (q : F) → CalledAt g f x true q → a ≤ x → x < n → t x ≡ false)
+      → ((x : ℕ) (q : F) → CalledAt g f x false q → (q ≡ f) × (a ≤ x → x < n → t x ≡ true))
+      → r ≡ first_failing n t
+  find_from a before d yes' no' = go r (first_from_Range (record { start = a; end = n }) u f r (λ x. a ≤ x → x < n → t x ≡ false) (λ x. a ≤ x → x < n → t x ≡ true) d yes' no')
+    where
+      go : (o : Option ℕ) → MatchOption o ((k : ℕ) → a ≤ k → k < n → a ≤ k → k < n → t k ≡ true) (λ i. (a ≤ i) × (i < n) × (a ≤ i → i < n → t i ≡ false) × ((k : ℕ) → a ≤ k → k < i → a ≤ k → k < n → t k ≡ true)) → o ≡ first_failing n t
+      go None h = None-failing n t (λ j _ b. ⊎_elim (before j) (λ l. h j l b l b) (either j a))
+      go (Some i) h =
+          Some-failing n t (record {
+            above = omega arith;
+            inside = h.1;
+            bad = h.2 h.0 h.1;
+            below = λ j _ b. ⊎_elim (before j) (λ l. h.3 j l b l (omega (arith, h.1))) (either j a);
+          })
+
   pub find_over : (xs : List ℕ) × (j : F) × YieldsThen nat_range_steps (record { start = 0; end = n }) xs r u × FoldsTo (λ p x q. CalledAt g p x false q) f xs j × MatchOption r ⊤ (λ x. (h : F) × CalledAt g j x true h)
       → ((x : ℕ) (q : F) → CalledAt g f x true q → x < n → t x ≡ false)
       → ((x : ℕ) (q : F) → CalledAt g f x false q → (q ≡ f) × (x < n → t x ≡ true))
       → r ≡ first_failing n t
-  find_over d yes' no' = go r (first_from_Range (record { start = 0; end = n }) u f r (λ x. x < n → t x ≡ false) (λ x. x < n → t x ≡ true) d yes' no')
-    where
-      go : (o : Option ℕ) → MatchOption o ((k : ℕ) → 0 ≤ k → k < n → k < n → t k ≡ true) (λ i. (0 ≤ i) × (i < n) × (i < n → t i ≡ false) × ((k : ℕ) → 0 ≤ k → k < i → k < n → t k ≡ true)) → o ≡ first_failing n t
-      go None h = None-failing n t (λ j a b. h j a b b)
-      go (Some i) h = Some-failing n t (record { above = omega arith; inside = h.1; bad = h.2 h.1; below = λ j a b. h.3 j a b (omega (arith, h.1)) })
+  find_over d yes' no' =
+      find_from 0 (λ x l. absurd (omega arith)) d (λ x q k _. yes' x q k) (λ x q k. let w = no' x q k in (w.0, λ _. w.1))
 
 -- ---- over a list of numbers
 
@@ -171,3 +186,8 @@ module _ (t : ℕ → Bool) where
       → r ≡ count_below n t
   count_over {g = g} {s} {n} source closure ran tells =
       count_from_yields_List s _ ran (YieldsList-from_filter g t (YieldsList-from_range 0 n n source (omega arith)) closure tells) ∙ numbered n
+
+-- ---- `unwrap_or` of what is found
+
+pub unwrap_first : (n : ℕ) (t : ℕ → Bool) → unwrap_or (first_failing n t) n ≡ first_not n t
+unwrap_first n t = ⊎_elim (λ p. rw (lt-ltb _ n p.inside)) (λ a. rw (a.0, le-ltb n n (omega arith))) (first_cases n t)

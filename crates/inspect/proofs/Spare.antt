@@ -7,7 +7,6 @@ use Prim.Native.Nat.{ℕ, ◌*◌, ◌<◌}
 use lib.ListN.{get_or}
 use borrow.Author.Tests.{eq-eqb, ne_eqb}
 use Rattle.tables.specs.Entries.{entries_of}
-use Rattle.needs.specs.Needs.{kept}
 use Rattle.counts.specs.Owed.{needed_of}
 use Rattle.counts.proofs.Detected.{seen-whole}
 use Rattle.counts.proofs.Decided.{decided}
