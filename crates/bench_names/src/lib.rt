@@ -6,7 +6,6 @@ ghost use Rattle.bench_names.specs.Promise.{TellsNames};
 ghost use Rattle.bench_names.specs.Owed.{HandOverDone};
 
 use bench::read_text;
-use ground::wide16;
 use nets::Read;
 
 // How many places are lent.
@@ -20,12 +19,10 @@ fn hand_over(found: &[u16], places: &mut [u32]) -> Read
     if places.len() != PLACES {
         return Read::Refused(10, 0);
     }
-    let mut k = 0;
-    while k < found.len() {
-        places[k] = wide16(found[k]) as u32;
-        k += 1;
+    for (k, &place) in found.iter().enumerate() {
+        places[k] = u32::from(place);
     }
-    Read::Records(k)
+    Read::Records(found.len())
 }
 
 // In memory for the places and for the records, which the reader checks.
