@@ -1,6 +1,6 @@
 -- The last of the rules: the places' size, or the places in them.
 -- Assumes nothing.
-use mathlib.Core.Path.{◌≡◌, ap}
+use mathlib.Core.Path.{◌≡◌, refl}
 use mathlib.Core.List.{List}
 use Prim.Native.Nat.{ℕ, ◌≤◌}
 use native.Mathlib.Omega.{arith}
@@ -18,7 +18,7 @@ pub other_count : {room : ℕ} → (room ≡ 2048 → ⊥) → refusal (place_co
 unfolding place_count_rules refusal said
 other_count {room} n = rw (ne_eqb room 2048 n)
 
-pub all_over : {found p p' : List ℕ} {k : ℕ} → Partly found p 0 p' k → length p ≡ 2048 → length found ≤ 2048 → length found ≤ k → HandOverDone found p p' (Ok k)
+pub all_over : {found p p' : List ℕ} {k : ℕ} → Partly found p 0 p' k → length p ≡ 2048 → length found ≤ 2048 → length found ≤ k → HandOverDone found p p' (Ok (length found))
 unfolding place_count_rules refusal said
 all_over {p = p} s e few l =
-    fine_done (rw (eq-eqb (length p) 2048 e)) (ap Ok (omega (arith, s.at_most))) (put_whole (partly_all s l) (omega arith))
+    fine_done (rw (eq-eqb (length p) 2048 e)) refl (put_whole (partly_all s l) (omega arith))

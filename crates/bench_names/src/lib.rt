@@ -7,7 +7,6 @@ ghost use Rattle.bench_names.specs.Owed.{HandOverDone};
 
 use answers::{Reason, Refusal};
 use bench::read_text;
-use ground::wide16;
 
 // How many places are lent.
 const PLACES: usize = 2048;
@@ -20,12 +19,10 @@ fn hand_over(found: &[u16], places: &mut [u32]) -> Result<usize, Refusal>
     if places.len() != PLACES {
         return Err(Refusal(Reason::BufferSize, 0));
     }
-    let mut k = 0;
-    while k < found.len() {
-        places[k] = wide16(found[k]) as u32;
-        k += 1;
+    for (k, &place) in found.iter().enumerate() {
+        places[k] = u32::from(place);
     }
-    Ok(k)
+    Ok(found.len())
 }
 
 // In memory for the places and for the records, which the reader checks.

@@ -12,7 +12,6 @@ ghost use Rattle.circuit.specs.Promise.{count_rules, counted_of, Checks};
 
 use answers::{Reason, Refusal, records_ok};
 use gates::{LAST_KIND, pins};
-use ground::wide;
 use little::pair_at;
 
 // The most inputs of a circuit.
@@ -101,8 +100,7 @@ fn count_lines(circuit: &[u8], n: usize) -> LineCounts
 {
     let mut inputs = 0;
     let mut outputs = 0;
-    let mut k = 0;
-    while k < n {
+    for k in 0..n {
         let byte = bad_byte(circuit, k);
         if byte < 8 {
             return LineCounts {
@@ -112,9 +110,8 @@ fn count_lines(circuit: &[u8], n: usize) -> LineCounts
                 byte,
             };
         }
-        inputs += equal(circuit[8 * k], 0);
-        outputs += wide(circuit[8 * k + 1]);
-        k += 1;
+        inputs += usize::from(circuit[8 * k] == 0);
+        outputs += usize::from(circuit[8 * k + 1]);
     }
     LineCounts {
         lines: n,

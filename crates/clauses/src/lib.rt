@@ -14,7 +14,7 @@ ghost use Rattle.clauses.specs.Owed.{WholeReady, ClauseLinesReady, PutAllReady, 
 
 use answers::{Reason, Refusal};
 use circuit::{check, equal};
-use cnf::{Size, minus, plus, put_single};
+use cnf::{Size, minus, plus, put_clause};
 use line_clauses::{line_size, put_difference, put_faulty, put_good};
 use lists::{Fault, check_faults, read_fault};
 
@@ -35,12 +35,10 @@ fn whole_size(circuit: &[u8], fault: Fault, n: usize, outputs: usize) -> Size
 {
     let mut words = 0;
     let mut clauses = 0;
-    let mut k = 0;
-    while k < n {
+    for k in 0..n {
         let line = line_size(circuit, fault, n, k);
         words += line.words;
         clauses += line.clauses;
-        k += 1;
     }
     Size {
         words: words + 17 * outputs + 3,
@@ -56,10 +54,8 @@ fn put_goods(circuit: &[u8], n: usize, words: &mut [i32], at: usize) -> usize
     ensures { Put words.old words.new at (words_of (gather (good_clauses circuit.now) n)) result }
 {
     let mut next = at;
-    let mut k = 0;
-    while k < n {
+    for k in 0..n {
         next = put_good(circuit, n, k, words, next);
-        k += 1;
     }
     next
 }
@@ -70,10 +66,8 @@ fn put_faulties(circuit: &[u8], fault: Fault, n: usize, words: &mut [i32], at: u
     ensures { Put words.old words.new at (words_of (gather (faulty_clauses circuit.now fault n) n)) result }
 {
     let mut next = at;
-    let mut k = 0;
-    while k < n {
+    for k in 0..n {
         next = put_faulty(circuit, fault, n, k, words, next);
-        k += 1;
     }
     next
 }
@@ -85,11 +79,9 @@ fn put_differences(circuit: &[u8], n: usize, words: &mut [i32], at: usize) -> us
 {
     let mut next = at;
     let mut j = 0;
-    let mut k = 0;
-    while k < n {
+    for k in 0..n {
         next = put_difference(circuit, n, k, j, words, next);
         j += equal(circuit[8 * k + 1], 1);
-        k += 1;
     }
     next
 }
@@ -103,9 +95,9 @@ fn put_stuck(fault: Fault, n: usize, words: &mut [i32], at: usize) -> usize
     ensures { Put words.old words.new at (single (stuck_literal fault n)) result }
 {
     if fault.value == PLAIN {
-        return put_single(words, at, plus(2 * n + 1));
+        return put_clause(words, at, &[plus(2 * n + 1)]);
     }
-    put_single(words, at, minus(2 * n + 1))
+    put_clause(words, at, &[minus(2 * n + 1)])
 }
 
 // The clause of all differences.
@@ -113,11 +105,8 @@ fn put_last(n: usize, outputs: usize, words: &mut [i32], at: usize) -> usize
     requires { (n ≤ 2048) × (outputs ≤ 2048) × (at + outputs + 1 ≤ length words.old) }
     ensures { Put words.old words.new at (differences n outputs ++ (ℤ.pos 0 ∷ [])) result }
 {
-    let mut j = 0;
-    while j < outputs {
-        let z = plus(2 * n + 2 + j);
-        words[at + j] = z;
-        j += 1;
+    for j in 0..outputs {
+        words[at + j] = plus(2 * n + 2 + j);
     }
     words[at + outputs] = 0;
     at + outputs + 1

@@ -14,7 +14,10 @@ pub record Variable (v : ℕ) : Type 0 where
 unfoldable pub signed : Bool → ℕ → ℤ
 signed negated v = choose negated (neg_ℤ (pos v)) (pos v)
 
--- ---- clauses of one literal, of two, of three
+-- ---- clauses as words, each closed by a 0: of any literals, of one, of two, of three
+
+abbrev pub closed : List ℤ → List ℤ
+closed literals = literals ++ (pos 0 ∷ [])
 
 abbrev pub single : ℤ → List ℤ
 single p = p ∷ pos 0 ∷ []

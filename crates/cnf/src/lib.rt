@@ -5,7 +5,7 @@ ghost use Rattle.std.specs.Prelude.{◌≡◌, ◌+◌, ◌≤◌, ◌<◌, ℤ,
 ghost use Rattle.gates.specs.Gate.{last_kind, selector};
 ghost use Rattle.cnf.specs.Table.{clause_table, sites};
 ghost use Rattle.ground.specs.Put.{Put};
-ghost use Rattle.cnf.specs.Owed.{Variable, signed, single, pair, triple, buffer_words, and_words, xor_words, by_shape, shape_words, is_one_of, gate_words, GateClausesReady, Takes};
+ghost use Rattle.cnf.specs.Owed.{Variable, signed, closed, buffer_words, and_words, xor_words, by_shape, shape_words, is_one_of, gate_words, GateClausesReady, Takes};
 
 // What some clauses take: words, the closing 0s included, and clauses.
 #[derive(Clone, Copy)]
@@ -39,35 +39,15 @@ fn literal(v: usize, negated: bool) -> i32
     plus(v)
 }
 
-// A clause of one literal, of two, of three, closed by a 0. Each writer answers the place after what it wrote.
-pub fn put_single(words: &mut [i32], at: usize, p: i32) -> usize
-    requires { at + 2 ≤ length words.old }
-    ensures { Put words.old words.new at (single p) result }
+// A clause, closed by a 0. Each writer answers the place after what it wrote.
+pub fn put_clause(words: &mut [i32], at: usize, literals: &[i32]) -> usize
+    requires { at + length literals.now < length words.old }
+    ensures { Put words.old words.new at (closed literals.now) result }
 {
-    words[at] = p;
-    words[at + 1] = 0;
-    at + 2
-}
-
-fn put_pair(words: &mut [i32], at: usize, p: i32, q: i32) -> usize
-    requires { at + 3 ≤ length words.old }
-    ensures { Put words.old words.new at (pair p q) result }
-{
-    words[at] = p;
-    words[at + 1] = q;
-    words[at + 2] = 0;
-    at + 3
-}
-
-fn put_triple(words: &mut [i32], at: usize, p: i32, q: i32, r: i32) -> usize
-    requires { at + 4 ≤ length words.old }
-    ensures { Put words.old words.new at (triple p q r) result }
-{
-    words[at] = p;
-    words[at + 1] = q;
-    words[at + 2] = r;
-    words[at + 3] = 0;
-    at + 4
+    let end = at + literals.len();
+    words[at..end].copy_from_slice(literals);
+    words[end] = 0;
+    end + 1
 }
 
 // y = a, y = a AND b, y = a XOR b. Each literal comes with its opposite.
@@ -75,8 +55,8 @@ fn put_buffer(words: &mut [i32], at: usize, y: i32, not_y: i32, a: i32, not_a: i
     requires { at + 6 ≤ length words.old }
     ensures { Put words.old words.new at (buffer_words y not_y a not_a) result }
 {
-    let next = put_pair(words, at, not_y, a);
-    put_pair(words, next, y, not_a)
+    let next = put_clause(words, at, &[not_y, a]);
+    put_clause(words, next, &[y, not_a])
 }
 
 fn put_and(
@@ -92,9 +72,9 @@ fn put_and(
     requires { at + 10 ≤ length words.old }
     ensures { Put words.old words.new at (and_words y not_y a not_a b not_b) result }
 {
-    let second = put_pair(words, at, not_y, a);
-    let third = put_pair(words, second, not_y, b);
-    put_triple(words, third, y, not_a, not_b)
+    let second = put_clause(words, at, &[not_y, a]);
+    let third = put_clause(words, second, &[not_y, b]);
+    put_clause(words, third, &[y, not_a, not_b])
 }
 
 fn put_xor(
@@ -110,10 +90,10 @@ fn put_xor(
     requires { at + 16 ≤ length words.old }
     ensures { Put words.old words.new at (xor_words y not_y a not_a b not_b) result }
 {
-    let second = put_triple(words, at, not_y, a, b);
-    let third = put_triple(words, second, not_y, not_a, not_b);
-    let fourth = put_triple(words, third, y, not_a, b);
-    put_triple(words, fourth, y, a, not_b)
+    let second = put_clause(words, at, &[not_y, a, b]);
+    let third = put_clause(words, second, &[not_y, not_a, not_b]);
+    let fourth = put_clause(words, third, &[y, not_a, b]);
+    put_clause(words, fourth, &[y, a, not_b])
 }
 
 // The clauses of a gate with at most two pins, by its kind. Its literals come as they stand in those of a buffer, an AND or a XOR.
@@ -140,20 +120,24 @@ fn put_shape(
     put_xor(words, at, y, not_y, a, not_a, b, not_b)
 }
 
-// Whether a kind is one of these three.
-fn is_one_of(kind: u8, a: u8, b: u8, c: u8) -> bool
-    ensures { result ≡ is_one_of kind a b c }
+// NAND, OR and XNOR negate the gate itself.
+#[tactic(auto, unfolding(crate::specs::Owed::is_one_of))]
+fn negates_gate(kind: u8) -> bool
+    ensures { result ≡ is_one_of kind 4 5 8 }
 {
-    if kind == a {
-        return true;
-    }
-    if kind == b {
-        return true;
-    }
-    kind == c
+    matches!(kind, 4 | 5 | 8)
+}
+
+// NOT, OR and NOR negate its pins.
+#[tactic(auto, unfolding(crate::specs::Owed::is_one_of))]
+fn negates_pins(kind: u8) -> bool
+    ensures { result ≡ is_one_of kind 2 5 6 }
+{
+    matches!(kind, 2 | 5 | 6)
 }
 
 // The clauses of a selector: where its select s is 0 it is as its first source a, where s is 1 as its second, b.
+#[tactic(auto, unfolding(crate::specs::Table::gate_clauses, crate::specs::Table::clause_table))]
 pub fn put_selector(words: &mut [i32], at: usize, y: usize, a: usize, b: usize, s: usize) -> usize
     requires { GateClausesReady words.old at selector y a b s }
     ensures { Put words.old words.new at (gate_words selector (sites y a b s)) result }
@@ -162,15 +146,14 @@ pub fn put_selector(words: &mut [i32], at: usize, y: usize, a: usize, b: usize, 
     let not_own = minus(y);
     let select = plus(s);
     let not_select = minus(s);
-    let second = put_triple(words, at, select, not_own, plus(a));
-    let third = put_triple(words, second, select, own, minus(a));
-    let fourth = put_triple(words, third, not_select, not_own, plus(b));
-    put_triple(words, fourth, not_select, own, minus(b))
+    let second = put_clause(words, at, &[select, not_own, plus(a)]);
+    let third = put_clause(words, second, &[select, own, minus(a)]);
+    let fourth = put_clause(words, third, &[not_select, not_own, plus(b)]);
+    put_clause(words, fourth, &[not_select, own, minus(b)])
 }
 
 // The clauses of a gate with at most two pins, by its kind, with variable y, whose pins read the variables a and b; what is at a pin that
-// the kind lacks is in none of them. NAND, OR and XNOR negate y, and NOT, OR and NOR negate a and b, so that three shapes serve the eight
-// kinds.
+// the kind lacks is in none of them. With its literals negated as the kind says, three shapes serve the eight kinds.
 pub fn put_gate(words: &mut [i32], at: usize, kind: u8, y: usize, a: usize, b: usize) -> usize
     requires { (kind < selector) × GateClausesReady words.old at kind y a b b }
     ensures { Put words.old words.new at (gate_words kind (sites y a b b)) result }
@@ -178,8 +161,8 @@ pub fn put_gate(words: &mut [i32], at: usize, kind: u8, y: usize, a: usize, b: u
     if kind == 0 {
         return at;
     }
-    let own = is_one_of(kind, 4, 5, 8);
-    let pins = is_one_of(kind, 2, 5, 6);
+    let own = negates_gate(kind);
+    let pins = negates_pins(kind);
     let p = literal(y, own);
     let not_p = literal(y, !own);
     let q = literal(a, pins);

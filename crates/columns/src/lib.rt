@@ -20,12 +20,10 @@ pub fn put_column(table: &mut [u8], width: usize, count: usize, j: usize, entrie
     let mut fails = entries.fails;
     let mut unknowns = entries.unknowns;
     let mut at = j;
-    let mut i = 0;
-    while i < count {
+    for _lane in 0..count {
         table[at] = (fails % 2 + 2 * (unknowns % 2)) as u8;
         fails = fails >> 1;
         unknowns = unknowns >> 1;
         at += width;
-        i += 1;
     }
 }

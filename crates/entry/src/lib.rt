@@ -62,15 +62,13 @@ pub fn entry_by(masks: bool, circuit: &[u8], work: &[u8], n: usize) -> u8
     requires { EntryRoom circuit.now n (length work.now) }
     ensures { result ≡ entry_by (output_test masks) circuit.now (take n work.now) (drop n work.now) n }
 {
-    let mut k = 0;
     let mut r = PASS;
-    while k < n {
+    for k in 0..n {
         let s = status(masks, circuit, work, n, k);
         if s == FAIL {
             return FAIL;
         }
         r = joined(r, s);
-        k += 1;
     }
     r
 }

@@ -1,8 +1,8 @@
 -- What is wrong with a kept list: of four things the first that holds, at its lowest place; where none holds, the list is sound.
 -- Assumes nothing.
-use Rattle.std.specs.Prelude.{Bool, not, ◌&&◌, List, ℕ, ltb, get_or, set}
+use Rattle.std.specs.Prelude.{Bool, Option, not, ◌&&◌, List, ℕ, ltb, get_or, set}
 use Rattle.ground.specs.Choose.{choose}
-use Rattle.ground.specs.Below.{any_below, first_not}
+use Rattle.ground.specs.Below.{any_below, first_not, first_failing}
 use Rattle.answers.specs.Area.{Numbers, success}
 use Rattle.tables.specs.Entries.{Entries}
 use Rattle.needs.specs.Needs.{lost, lost_pair, meets, kept}
@@ -28,6 +28,10 @@ spare E F P m p = kept m p && meets E F P (kept (set m p 0))
 -- the lowest place below n at which the test holds, or n
 abbrev pub first_where : ℕ → (ℕ → Bool) → ℕ
 first_where n t = first_not n (λ k. not (t k))
+
+-- that place, if there is one
+abbrev pub place_where : ℕ → (ℕ → Bool) → Option ℕ
+place_where n t = first_failing n (λ k. not (t k))
 
 -- what is found at that place; where the test holds at none, what comes next
 abbrev pub firstly : ℕ → (ℕ → Bool) → (ℕ → Finding) → Finding → Finding

@@ -12,7 +12,7 @@ unfolding start_at
 first_line es zero e = refl
 first_line es (suc k) e = absurd (omega arith)
 
-pub later-line : (es : List ℕ) (k : ℕ) → (k ≡ 0 → ⊥) → get_or es (k - 1) 0 ≡ start_at es k
+pub later_line : (es : List ℕ) (k : ℕ) → (k ≡ 0 → ⊥) → get_or es (k - 1) 0 ≡ start_at es k
 unfolding start_at
-later-line es zero n = absurd (n refl)
-later-line es (suc k) n = let e : suc k - 1 ≡ k = omega arith in ap (λ (i : ℕ). get_or es i 0) e
+later_line es zero n = absurd (n refl)
+later_line es (suc k) n = let e : suc k - 1 ≡ k = omega arith in ap (λ (i : ℕ). get_or es i 0) e

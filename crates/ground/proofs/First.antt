@@ -6,8 +6,12 @@ use mathlib.Core.Bool.{Bool, true, false, true≢false}
 use Prim.Native.Nat.{ℕ, zero, suc, ◌+◌, ◌≤◌, ◌<◌}
 use native.Mathlib.Nat.{eq-or-lt_of_le, zero-add}
 use native.Mathlib.Omega.{arith}
+use lib.Dec.{ltb}
+use borrow.Author.Tests.{ltb-true, ltb-false}
+use Rattle.std.specs.Prelude.{Some, None}
+use Rattle.std.specs.Option.{unwrap_or}
 use Rattle.ground.specs.Choose.{choose}
-use Rattle.ground.specs.Below.{first_from, first_not}
+use Rattle.ground.specs.Below.{first_from, first_not, first_failing}
 use Rattle.ground.proofs.Tests.{either}
 
 -- the test holds at every place from `from` on and below k
@@ -68,6 +72,30 @@ first_same n t u h =
     })))
     (λ a. a.0 ∙ sym (first_none n u (λ j l b. sym (h j b) ∙ a.1 j l b)))
     (first_cases n t)
+
+-- what an answer of `first_failing` says
+module _ (n : ℕ) (t : ℕ → Bool) where
+  pub or-failing : unwrap_or (first_failing n t) n ≡ first_not n t
+  or-failing = go (ltb (first_not n t) n) refl (first_cases n t)
+    where
+      go : (b : Bool) → ltb (first_not n t) n ≡ b → Lowest t 0 n (first_not n t) ⊎ ((first_not n t ≡ n) × Every t 0 n) → unwrap_or (choose b (Some (first_not n t)) None) n ≡ first_not n t
+      go true l d = refl
+      go false l (inl p) = absurd (omega (arith, ltb-false (first_not n t) n l, p.inside))
+      go false l (inr a) = sym a.0
+
+  pub some_fails : {k : ℕ} → Some k ≡ first_failing n t → (k ≡ first_not n t) × (k < n)
+  some_fails {k} e = go (ltb (first_not n t) n) refl e
+    where
+      go : (b : Bool) → ltb (first_not n t) n ≡ b → Some k ≡ choose b (Some (first_not n t)) None → (k ≡ first_not n t) × (k < n)
+      go true l q = let is : k ≡ first_not n t = cc in (is, rw is (ltb-true (first_not n t) n l))
+      go false l q = absurd (cc)
+
+  pub none_fails : None ≡ first_failing n t → n ≤ first_not n t
+  none_fails e = go (ltb (first_not n t) n) refl e
+    where
+      go : (b : Bool) → ltb (first_not n t) n ≡ b → None ≡ choose b (Some (first_not n t)) None → n ≤ first_not n t
+      go true l q = absurd (cc)
+      go false l q = ltb-false (first_not n t) n l
 
 -- ---- a loop that counts up to the first place at which the test fails
 

@@ -1,12 +1,15 @@
 -- A loop that lays n numbers at the front, a function of their place: its invariant, that the first k stand.
 -- Assumes nothing.
-use mathlib.Core.Path.{◌≡◌, refl, ◌∙◌}
-use mathlib.Core.List.{List}
-use Prim.Native.Nat.{ℕ, ◌+◌, ◌≤◌, ◌<◌}
+use mathlib.Core.Path.{◌≡◌, refl, sym, ap, ◌∙◌}
+use mathlib.Core.List.{List, [], ◌∷◌, ◌++◌}
+use Prim.Native.Nat.{ℕ, zero, suc, ◌+◌, ◌≤◌, ◌<◌}
 use native.Mathlib.Nat.{zero-add}
 use native.Mathlib.Omega.{arith}
-use lib.ListN.{length, set}
-use Rattle.ground.specs.Lists.{table}
+use lib.ListN.{length, set, take, drop, replicate}
+use lib.Seq.{length-take-le}
+use native.Mathlib.Numerals.{add-one}
+use Rattle.std.proofs.lemmas.List.{replicate_more}
+use Rattle.ground.specs.Lists.{grow, table}
 use Rattle.ground.specs.Put.{laid_on}
 use Rattle.ground.proofs.Grow.{table-length, table_at}
 use Rattle.ground.proofs.Put.{Partly, partly_none, partly_more, partly_long, partly_all, put_whole}
@@ -27,3 +30,14 @@ module _ {g : ℕ → ℕ} {n : ℕ} {w₀ w : List ℕ} {k : ℕ} (so : Laying 
 
   pub laying_all : n ≤ k → n ≤ length w₀ → w ≡ laid_on w₀ (table g n)
   laying_all l room = put_whole (partly_all so.laid (rw (table-length g n) l)) (rw (table-length g n) room)
+
+-- ---- what `fill` leaves of a front part
+
+replicate-table : (n x : ℕ) → replicate n x ≡ table (λ _. x) n
+unfolding grow
+replicate-table zero x = refl
+replicate-table (suc n) x =
+    ap (λ (m : ℕ). replicate m x) (sym (add-one n)) ∙ sym (replicate_more n x) ∙ ap (λ (l : List ℕ). l ++ (x ∷ [])) (replicate-table n x)
+
+pub laid_filled : (w : List ℕ) (n x : ℕ) {v : List ℕ} → v ≡ replicate (length (take n w)) x → n ≤ length w → v ++ drop n w ≡ laid_on w (table (λ _. x) n)
+laid_filled w n x e room = rw (e, length-take-le n w room, replicate-table n x, table-length (λ _. x) n)

@@ -2,6 +2,7 @@ pub mod Tests
 pub mod Below
 pub mod Counting
 pub mod First
+pub mod Search
 pub mod Put
 pub mod Filled
 pub mod Map

@@ -1,13 +1,14 @@
 -- Pieces written one after the other are written as one.
 -- Assumes nothing.
 use mathlib.Core.Path.{◌≡◌, refl, sym, ap, ◌∙◌}
-use mathlib.Core.List.{List, [], ◌∷◌, ◌++◌, append-nil}
-use Prim.Native.Nat.{ℕ, suc, ◌+◌, ◌≤◌, ◌<◌}
+use mathlib.Core.List.{List, [], ◌∷◌, ◌++◌, append-nil, append_assoc}
+use Prim.Native.Nat.{ℕ, suc, ◌+◌, ◌-◌, ◌≤◌, ◌<◌}
 use native.Mathlib.Nat.{add-zero, zero-add, add-suc, suc-add}
 use native.Mathlib.Numerals.{add-one}
 use native.Mathlib.Omega.{arith}
 use lib.ListN.{length, get_or, take, drop, set, length-append, drop_of_length-le}
-use lib.Seq.{sets, length-sets, sets-eq, take-suc, take_all, take-length, length-take-le}
+use borrow.Rule.Slice.PartMut.{put_mid}
+use lib.Seq.{sets, drop-drop, length-sets, sets-eq, take-suc, take_all, take-length, length-take-le}
 use Rattle.ground.specs.Put.{Put}
 
 module _ {A : Type 0} where
@@ -46,6 +47,15 @@ module _ {A : Type 0} where
   -- from the start on: what is written, and then what stood there
   pub put_whole : {w w' a : List A} {n : ℕ} → Put w w' 0 a n → length a ≤ length w → w' ≡ a ++ drop (length a) w
   put_whole {w} {w'} {a} p l = p.written ∙ sets-eq a w 0 (rw zero-add l) ∙ rw zero-add
+
+  -- what a copy of v into n places from `at` on leaves
+  pub part_sets : (w v : List A) (at n : ℕ) → length v ≡ n → at + n ≤ length w → put_mid at n w v ≡ sets w at v
+  part_sets w v at n e l = rw (drop-drop, ← e) (sym (sets-eq v w at (rw e l) ∙ append_assoc (take at w) v _))
+
+  pub put_part : (w : List A) (at n : ℕ) {u v : List A} → u ≡ v → length v ≡ n → at + n ≤ length w → Put w (put_mid at (at + n - at) w u) at v (at + n)
+  put_part w at n e f l =
+      let k : at + n - at ≡ n = omega arith in
+      record { written = rw (k, e) (part_sets w _ at n f l); next_is = rw f }
 
 -- ---- a loop that writes v element by element: its invariant, that the first i stand
 

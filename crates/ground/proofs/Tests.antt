@@ -8,6 +8,7 @@ use native.Mathlib.Omega.{arith}
 use lib.Bits.{bit_and, bit_or}
 use lib.Dec.{T, eqb, ltb, leb}
 use borrow.Author.Tests.{ltb-true, ltb-false, le-leb}
+use Rattle.std.specs.Int.{from_bool}
 use Rattle.ground.specs.Choose.{one}
 
 pub either : (a b : ℕ) → (a < b) ⊎ (b ≤ a)
@@ -63,6 +64,15 @@ some n h = le-leb 1 n (omega arith)
 pub one_most : (b : Bool) → one b ≤ 1
 one_most true = omega arith
 one_most false = omega arith
+
+-- what `usize::from` gives of a test
+pub from_bool-one : (b : Bool) → from_bool b ≡ one b
+from_bool-one true = refl
+from_bool-one false = refl
+
+pub from_bool_most : (b : Bool) → from_bool b ≤ 1
+from_bool_most true = omega arith
+from_bool_most false = omega arith
 
 pub one-either : (a b : Bool) → (a && b) ≡ false → one (a || b) ≡ one a + one b
 one-either true b e = rw e

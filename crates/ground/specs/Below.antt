@@ -1,7 +1,7 @@
 -- A test at the numbers below n: at each, at some, at how many, and the first at which it fails.
 -- The first three are built from the top, as a loop that counts up meets them.
 -- Assumes nothing.
-use Rattle.std.specs.Prelude.{ℕ, zero, suc, ◌+◌, Bool, true, false, ◌&&◌, ◌||◌}
+use Rattle.std.specs.Prelude.{ℕ, zero, suc, ◌+◌, Bool, true, false, ◌&&◌, ◌||◌, ltb, Option, Some, None}
 use Rattle.ground.specs.Choose.{choose, one}
 
 abbrev pub all_below : ℕ → (ℕ → Bool) → Bool
@@ -24,3 +24,7 @@ first_from t k (suc n) = choose (t k) (first_from t (suc k) n) k
 -- the lowest place below n at which the test fails, or n
 unfoldable pub first_not : ℕ → (ℕ → Bool) → ℕ
 first_not n t = first_from t 0 n
+
+-- the lowest place below n at which the test fails, if there is one
+abbrev pub first_failing : ℕ → (ℕ → Bool) → Option ℕ
+first_failing n t = choose (ltb (first_not n t) n) (Some (first_not n t)) None

@@ -30,12 +30,10 @@ fn fill_group(
     good_words(circuit, inputs, patterns, work, n);
     let width = faults.len() / 8;
     let count = patterns.len() / inputs;
-    let mut j = 0;
-    while j < width {
+    for j in 0..width {
         let fault = read_fault(faults, j);
         let entries = fault_entries(circuit, fault, step, work, n);
         put_column(table, width, count, j, entries);
-        j += 1;
     }
 }
 
@@ -78,11 +76,7 @@ fn group_rows(from: usize, count: usize) -> usize
     requires { from < count }
     ensures { Next from result count }
 {
-    let left = count - from;
-    if left < 64 {
-        return left;
-    }
-    64
+    (count - from).min(64)
 }
 
 // How many groups so many patterns make; the last may be a partial one.
@@ -90,7 +84,7 @@ fn group_count(count: usize) -> usize
     requires { count ≤ 256 }
     ensures { GroupCount count result }
 {
-    (count + 63) / 64
+    count.div_ceil(64)
 }
 
 // Fills the table, group by group, where each fault is in each step of so many lines.
@@ -108,15 +102,12 @@ pub fn fill_groups_in_steps(
     ensures { GroupsDone (stuck_in_steps step) circuit.now n inputs faults.now patterns.now table.new work.new }
 {
     let count = patterns.len() / inputs;
-    let groups = group_count(count);
-    let mut g = 0;
-    while g < groups {
+    for g in 0..group_count(count) {
         let from = 64 * g;
         let rows = group_rows(from, count);
         put_group(
             circuit, n, step, inputs, faults, patterns, from, rows, table, work,
         );
-        g += 1;
     }
 }
 

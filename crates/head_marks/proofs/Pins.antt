@@ -1,4 +1,4 @@
--- The pins of a line: whether one reads a line that binds, and the marks of what they read.
+-- The marks of what the pins of a line read.
 -- Assumes nothing.
 use mathlib.Core.Path.{◌≡◌, refl, sym, ap, ◌∙◌}
 use mathlib.Core.Bool.{Bool, true, false, ◌||◌, or-true, or-false}
@@ -12,33 +12,10 @@ use lib.ListN.{length, get_or, set, length-set}
 use lib.Seq.{get_or-set_same, get_or-set_other}
 use borrow.Author.Tests.{eq-eqb, ne_eqb}
 use Rattle.ground.specs.Below.{any_below}
-use Rattle.ground.proofs.Below.{None, found, none_more, not_found}
 use Rattle.gates.specs.Gate.{pins_of}
 use Rattle.circuit.specs.Record.{kind_at, pin_at}
 use Rattle.heads.specs.Heads.{some_pin}
-use Rattle.head_marks.specs.Owed.{binds, mark_by, ReadsMore, MarkedBy, MarksMore, PinMarked, SourcesMarked}
-
--- ---- whether some pin reads a line that binds
-
-abbrev pub pin_binds : List ℕ → List ℕ → List ℕ → ℕ → ℕ → Bool
-pin_binds c reads marks k i = binds reads marks (pin_at c k (suc i))
-
-module _ (c reads marks : List ℕ) (k : ℕ) {has s : ℕ} (so : None (pin_binds c reads marks k) has s) {i : ℕ} {b : Bool} (is : i ≡ pin_at c k (s + 1)) (says : b ≡ binds reads marks i) where
-  at_pin : b ≡ pin_binds c reads marks k s
-  at_pin = says ∙ rw (is, add-one s)
-
-  pub binds_yes : s < has → has ≡ pins_of (kind_at c k) → b ≡ true → true ≡ some_pin c k (binds reads marks)
-  unfolding some_pin
-  binds_yes l e t = found so l at_pin t ∙ rw e
-
-  pub binds-not : s < has → b ≡ false → None (pin_binds c reads marks k) has (s + 1)
-  binds-not l t = none_more so l at_pin t
-
-pub binds_none : (c reads marks : List ℕ) (k : ℕ) {has s : ℕ} → None (pin_binds c reads marks k) has s → has ≤ s → has ≡ pins_of (kind_at c k) → false ≡ some_pin c k (binds reads marks)
-unfolding some_pin
-binds_none c reads marks k so l e = not_found so l ∙ rw e
-
--- ---- the marks of the sources
+use Rattle.head_marks.specs.Owed.{mark_by, ReadsMore, MarkedBy, MarksMore, PinMarked, SourcesMarked}
 
 pub stays_bound : {mark : ℕ} → mark ≡ 2 → ReadsMore mark 2
 stays_bound z true r e = refl

@@ -2,6 +2,7 @@
 #![tactic(auto)]
 
 ghost use Rattle.std.specs.Prelude.{◌≡◌, ◌≤◌, ◌<◌, length};
+ghost use Rattle.circuit.specs.Record.{pin_at};
 ghost use Rattle.reads.specs.Owed.{Sourced};
 ghost use Rattle.heads.specs.Heads.{some_pin};
 ghost use Rattle.heads.specs.Marks.{Marked};
@@ -11,15 +12,13 @@ use circuit::source;
 use gates::pins;
 use reads::count_reads;
 
-// A line that reads line i is bound: it branches or is bound itself.
-fn binding(reads: &[u8], marks: &[u8], i: usize) -> bool
-    requires { (i < length reads.now) × (i < length marks.now) }
-    ensures { result ≡ binds reads.now marks.now i }
+// Pin s of line k makes it bound: what it reads branches or is bound itself.
+fn binding(circuit: &[u8], reads: &[u8], marks: &[u8], k: usize, s: usize) -> bool
+    requires { Sourced circuit.now (length marks.now) × (length reads.now ≡ length marks.now) × (k < length marks.now) × (1 ≤ s) × (s ≤ 3) }
+    ensures { result ≡ binds reads.now marks.now (pin_at circuit.now k s) }
 {
-    if reads[i] == 2 {
-        return true;
-    }
-    marks[i] == 2
+    let i = source(circuit, k, s);
+    reads[i] == 2 || marks[i] == 2
 }
 
 // Line k is bound, where the lines below it are marked.
@@ -27,26 +26,14 @@ fn is_bound(circuit: &[u8], reads: &[u8], marks: &[u8], k: usize) -> bool
     requires { Sourced circuit.now (length marks.now) × (length reads.now ≡ length marks.now) × (k < length marks.now) }
     ensures { result ≡ some_pin circuit.now k (binds reads.now marks.now) }
 {
-    let has = pins(circuit[8 * k]);
-    let mut s = 0;
-    while s < has {
-        let i = source(circuit, k, s + 1);
-        if binding(reads, marks, i) {
-            return true;
-        }
-        s += 1;
-    }
-    false
+    (0..pins(circuit[8 * k])).any(|s| binding(circuit, reads, marks, k, s + 1))
 }
 
 // The mark of a line that a bound line reads.
 fn read_by_bound(mark: u8) -> u8
     ensures { ReadsMore mark result }
 {
-    if mark == 2 {
-        return 2;
-    }
-    1
+    if mark == 2 { 2 } else { 1 }
 }
 
 // Line k is bound, and reads the source of its pin s.
@@ -55,8 +42,7 @@ fn mark_source(circuit: &[u8], k: usize, s: usize, marks: &mut [u8])
     ensures { PinMarked circuit.now k s marks.old marks.new }
 {
     let i = source(circuit, k, s);
-    let mark = read_by_bound(marks[i]);
-    marks[i] = mark;
+    marks[i] = read_by_bound(marks[i]);
 }
 
 // And those of all its pins.
@@ -64,11 +50,8 @@ fn mark_sources(circuit: &[u8], k: usize, marks: &mut [u8])
     requires { Sourced circuit.now (length marks.old) × (k < length marks.old) }
     ensures { SourcesMarked circuit.now k marks.old marks.new }
 {
-    let has = pins(circuit[8 * k]);
-    let mut s = 0;
-    while s < has {
+    for s in 0..pins(circuit[8 * k]) {
         mark_source(circuit, k, s + 1, marks);
-        s += 1;
     }
 }
 
@@ -80,7 +63,6 @@ fn mark_line(circuit: &[u8], reads: &[u8], k: usize, marks: &mut [u8])
     if is_bound(circuit, reads, marks, k) {
         marks[k] = 2;
         mark_sources(circuit, k, marks);
-        return;
     }
 }
 
@@ -90,9 +72,7 @@ pub fn mark_lines(circuit: &[u8], reads: &mut [u8], marks: &mut [u8])
     ensures { Marked circuit.now (length marks.old) marks.new }
 {
     count_reads(circuit, reads);
-    let mut k = 0;
-    while k < marks.len() {
+    for k in 0..marks.len() {
         mark_line(circuit, reads, k, marks);
-        k += 1;
     }
 }

@@ -3,10 +3,9 @@
 #![tactic(auto)]
 
 ghost use Rattle.std.specs.Prelude.{◌≡◌, ◌+◌, ◌≤◌, ◌<◌, length};
-ghost use Rattle.ground.specs.Below.{any_below};
 ghost use Rattle.tables.specs.Entries.{entries_of};
-ghost use Rattle.findings.specs.Findings.{bad_mark, spare, first_where, finding_of};
-ghost use Rattle.inspect.specs.Owed.{lost_in, pair_in, PairsRoom, SpareReady, FindReady};
+ghost use Rattle.findings.specs.Findings.{bad_mark, spare, first_where, place_where, finding_of};
+ghost use Rattle.inspect.specs.Owed.{lost_in, pair_in, pair_where, PairsRoom, SpareReady, FindReady};
 
 use counts::needed;
 use findings::Finding;
@@ -15,14 +14,10 @@ use findings::Finding;
 pub fn first_bad(marks: &[u8]) -> usize
     ensures { result ≡ first_where (length marks.now) (bad_mark marks.now) }
 {
-    let mut k = 0;
-    while k < marks.len() {
-        if 1 < marks[k] {
-            return k;
-        }
-        k += 1;
-    }
-    marks.len()
+    marks
+        .iter()
+        .position(|&mark| 1 < mark)
+        .unwrap_or(marks.len())
 }
 
 // ---- lost faults
@@ -32,25 +27,15 @@ fn is_lost(kept: &[u8], dropped: &[u8], f: usize) -> bool
     requires { (f < length kept.now) × (f < length dropped.now) }
     ensures { result ≡ lost_in kept.now dropped.now f }
 {
-    if dropped[f] != 1 {
-        return false;
-    }
-    kept[f] != 1
+    dropped[f] == 1 && kept[f] != 1
 }
 
-// The lowest fault that is lost, or the number of faults.
-fn first_lost(kept: &[u8], dropped: &[u8], faults: usize) -> usize
+// The lowest fault that is lost.
+fn first_lost(kept: &[u8], dropped: &[u8], faults: usize) -> Option<usize>
     requires { (faults ≤ length kept.now) × (faults ≤ length dropped.now) }
-    ensures { result ≡ first_where faults (lost_in kept.now dropped.now) }
+    ensures { result ≡ place_where faults (lost_in kept.now dropped.now) }
 {
-    let mut f = 0;
-    while f < faults {
-        if is_lost(kept, dropped, f) {
-            return f;
-        }
-        f += 1;
-    }
-    faults
+    (0..faults).find(|&f| is_lost(kept, dropped, f))
 }
 
 // ---- lost pairs
@@ -61,47 +46,29 @@ fn is_lost_pair(kept: &[u8], dropped: &[u8], seen: &[u8], f: usize, g: usize) ->
     requires { PairsRoom kept.now dropped.now seen.now (g + 1) × (f < g) }
     ensures { result ≡ pair_in kept.now dropped.now seen.now f g }
 {
-    if seen[f] != 1 {
-        return false;
-    }
-    let higher = seen[g];
-    if higher != 1 {
-        return false;
-    }
-    if kept[256 * g + f] != 0 {
-        return false;
-    }
-    dropped[256 * g + f] != 0
+    let pair = 256 * g + f;
+    seen[f] == 1 && seen[g] == 1 && kept[pair] == 0 && dropped[pair] != 0
 }
 
-// The lowest fault with which f makes a lost pair, as its lower one, or the number of faults.
-fn lost_with(kept: &[u8], dropped: &[u8], seen: &[u8], faults: usize, f: usize) -> usize
+// The lowest fault with which f makes a lost pair, as its lower one.
+fn lost_with(kept: &[u8], dropped: &[u8], seen: &[u8], faults: usize, f: usize) -> Option<usize>
     requires { PairsRoom kept.now dropped.now seen.now faults × (f < faults) }
-    ensures { result ≡ first_where faults (pair_in kept.now dropped.now seen.now f) }
+    ensures { result ≡ place_where faults (pair_in kept.now dropped.now seen.now f) }
 {
-    let mut g = f + 1;
-    while g < faults {
-        if is_lost_pair(kept, dropped, seen, f, g) {
-            return g;
-        }
-        g += 1;
-    }
-    faults
+    (f + 1..faults).find(|&g| is_lost_pair(kept, dropped, seen, f, g))
 }
 
-// The lowest fault that is the lower one of a lost pair, or the number of faults.
-fn first_paired(kept: &[u8], dropped: &[u8], seen: &[u8], faults: usize) -> usize
+// The lowest fault that is the lower one of a lost pair, and the lowest one with which it makes one.
+fn first_paired(kept: &[u8], dropped: &[u8], seen: &[u8], faults: usize) -> Option<(usize, usize)>
     requires { PairsRoom kept.now dropped.now seen.now faults }
-    ensures { result ≡ first_where faults (λ f. any_below faults (pair_in kept.now dropped.now seen.now f)) }
+    ensures { result ≡ pair_where faults (pair_in kept.now dropped.now seen.now) }
 {
-    let mut f = 0;
-    while f < faults {
-        if lost_with(kept, dropped, seen, faults, f) < faults {
-            return f;
+    for lower in 0..faults {
+        if let Some(higher) = lost_with(kept, dropped, seen, faults, lower) {
+            return Some((lower, higher));
         }
-        f += 1;
     }
-    faults
+    None
 }
 
 // ---- spare patterns
@@ -119,13 +86,10 @@ fn is_spare(
     requires { SpareReady table.now faults patterns marks.now counts.now seen.now × (p < patterns) }
     ensures { result ≡ spare (entries_of faults table.now) faults patterns marks.now p }
 {
-    if marks[p] != 1 {
-        return false;
-    }
-    !needed(counts, seen, table, p * faults, faults)
+    marks[p] == 1 && !needed(counts, seen, table, p * faults, faults)
 }
 
-// The lowest kept pattern that can be spared, or the number of patterns.
+// The lowest kept pattern that can be spared.
 fn first_spare(
     counts: &[u8],
     seen: &[u8],
@@ -133,18 +97,11 @@ fn first_spare(
     faults: usize,
     patterns: usize,
     marks: &[u8],
-) -> usize
+) -> Option<usize>
     requires { SpareReady table.now faults patterns marks.now counts.now seen.now }
-    ensures { result ≡ first_where patterns (spare (entries_of faults table.now) faults patterns marks.now) }
+    ensures { result ≡ place_where patterns (spare (entries_of faults table.now) faults patterns marks.now) }
 {
-    let mut p = 0;
-    while p < patterns {
-        if is_spare(counts, seen, table, faults, patterns, marks, p) {
-            return p;
-        }
-        p += 1;
-    }
-    patterns
+    (0..patterns).find(|&p| is_spare(counts, seen, table, faults, patterns, marks, p))
 }
 
 // ---- in order
@@ -163,18 +120,14 @@ pub fn find(
     requires { FindReady table.now faults patterns marks.now kept_counts.now kept_seen.now dropped_counts.now dropped_seen.now }
     ensures { result ≡ finding_of (entries_of faults table.now) faults patterns marks.now }
 {
-    let lost = first_lost(kept_seen, dropped_seen, faults);
-    if lost < faults {
-        return Finding::LostFault(lost);
+    if let Some(fault) = first_lost(kept_seen, dropped_seen, faults) {
+        return Finding::LostFault(fault);
     }
-    let paired = first_paired(kept_counts, dropped_counts, kept_seen, faults);
-    if paired < faults {
-        let other = lost_with(kept_counts, dropped_counts, kept_seen, faults, paired);
-        return Finding::LostPair(paired, other);
+    if let Some((lower, higher)) = first_paired(kept_counts, dropped_counts, kept_seen, faults) {
+        return Finding::LostPair(lower, higher);
     }
-    let spare = first_spare(kept_counts, kept_seen, table, faults, patterns, marks);
-    if spare < patterns {
-        return Finding::SparePattern(spare);
+    if let Some(pattern) = first_spare(kept_counts, kept_seen, table, faults, patterns, marks) {
+        return Finding::SparePattern(pattern);
     }
     Finding::Sound
 }

@@ -55,10 +55,8 @@ fn entries_from(circuit: &[u8], work: &[u64], n: usize, start: usize) -> EntryLa
         fails: 0,
         misses: 0,
     };
-    let mut k = start;
-    while k < n {
+    for k in start..n {
         so = next_line(circuit, work, n, k, so);
-        k += 1;
     }
     EntryLanes {
         fails: so.fails,

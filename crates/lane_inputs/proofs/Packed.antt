@@ -4,7 +4,6 @@ use mathlib.Core.Path.{◌≡◌, refl, sym, ap, ap₂, ◌∙◌}
 use mathlib.Core.Bool.{Bool}
 use mathlib.Core.List.{List}
 use Prim.Native.Nat.{ℕ, suc, ◌+◌, ◌*◌, ◌-◌, ◌^◌, ◌≤◌, ◌<◌}
-use native.Mathlib.Nat.{suc-mul, zero-mul}
 use native.Mathlib.Numerals.{add-one}
 use native.Mathlib.Omega.{arith}
 use lib.Dec.{eqb}
@@ -30,15 +29,14 @@ module _ (m : ℕ) (ps : List ℕ) (input i : ℕ) where
 
 -- ---- the loop
 
--- the first i patterns are laid, and `at` is the place of the next one's value
-pub record SoFar (m : ℕ) (ps : List ℕ) (input ones zeros at i : ℕ) : Type 0 where
+-- the first i patterns are laid
+pub record SoFar (m : ℕ) (ps : List ℕ) (input ones zeros i : ℕ) : Type 0 where
   pub at_most : i ≤ pattern_count m ps
-  pub at_is : at ≡ i * m + input
   pub ones_are : ones ≡ lanes_to (λ j. eqb (input_lane m ps input j) 1) i
   pub zeros_are : zeros ≡ lanes_to (λ j. eqb (input_lane m ps input j) 0) i
 
-pub start : (m : ℕ) (ps : List ℕ) (input : ℕ) → SoFar m ps input 0 0 input 0
-start m ps input = record { at_most = omega arith; at_is = omega (arith, zero-mul m); ones_are = refl; zeros_are = refl }
+pub start : (m : ℕ) (ps : List ℕ) (input : ℕ) → SoFar m ps input 0 0 0
+start m ps input = record { at_most = omega arith; ones_are = refl; zeros_are = refl }
 
 -- one more lane fits the word
 lane_fits : (t : ℕ → Bool) {w x i : ℕ} → i < 64 → w ≡ lanes_to t i → x ≡ one (t i) * 2 ^ i → w + x < 2 ^ 64
@@ -47,31 +45,30 @@ lane_fits t {w} {x} {i} l e q = let b : 2 ^ suc i ≤ 2 ^ 64 = pow_mono l in ome
 one_lane : (t : ℕ → Bool) (i : ℕ) {w x : ℕ} → w ≡ lanes_to t i → x ≡ one (t i) * 2 ^ i → w + x ≡ lanes_to t (i + 1)
 one_lane t i e q = rw (add-one i) (omega arith)
 
-module _ {m : ℕ} {ps : List ℕ} {input ones zeros at i : ℕ} (so : SoFar m ps input ones zeros at i) (ready : GroupReady m ps) (inside : input < m) where
+module _ {m : ℕ} {ps : List ℕ} {input ones zeros i : ℕ} (so : SoFar m ps input ones zeros i) (ready : GroupReady m ps) (inside : input < m) where
   pub lane_below : i < pattern_count m ps → i < 64
   lane_below l = omega (arith, ready.records.few)
 
-  pub place_inside : i < pattern_count m ps → at < length ps
-  place_inside l = omega (arith, so.at_is, part_fits i (pattern_count m ps) m l, ready.records.multiple)
+  pub place_inside : i < pattern_count m ps → i * m + input < length ps
+  place_inside l = omega (arith, part_fits i (pattern_count m ps) m l, ready.records.multiple)
 
   -- the value that is read
-  read : i < pattern_count m ps → get_or ps at 0 ≡ input_lane m ps input i
-  read l = ap (λ (x : ℕ). get_or ps x 0) so.at_is ∙ sym (of_pattern m ps input i l)
+  read : i < pattern_count m ps → get_or ps (i * m + input) 0 ≡ input_lane m ps input i
+  read l = sym (of_pattern m ps input i l)
 
   -- the bit of a lane, by the value that is read
-  bit_is : (b : ℕ) {x : ℕ} → i < pattern_count m ps → x ≡ one (eqb (get_or ps at 0) b) * 2 ^ i → x ≡ one (eqb (input_lane m ps input i) b) * 2 ^ i
+  bit_is : (b : ℕ) {x : ℕ} → i < pattern_count m ps → x ≡ one (eqb (get_or ps (i * m + input) 0) b) * 2 ^ i → x ≡ one (eqb (input_lane m ps input i) b) * 2 ^ i
   bit_is b l e = e ∙ ap (λ (v : ℕ). one (eqb v b) * 2 ^ i) (read l)
 
-  pub ones_fit : {x : ℕ} → i < pattern_count m ps → x ≡ one (eqb (get_or ps at 0) 1) * 2 ^ i → ones + x < 2 ^ 64
+  pub ones_fit : {x : ℕ} → i < pattern_count m ps → x ≡ one (eqb (get_or ps (i * m + input) 0) 1) * 2 ^ i → ones + x < 2 ^ 64
   ones_fit l e = lane_fits (λ j. eqb (input_lane m ps input j) 1) (lane_below l) so.ones_are (bit_is 1 l e)
 
-  pub zeros_fit : {x : ℕ} → i < pattern_count m ps → x ≡ one (eqb (get_or ps at 0) 0) * 2 ^ i → zeros + x < 2 ^ 64
+  pub zeros_fit : {x : ℕ} → i < pattern_count m ps → x ≡ one (eqb (get_or ps (i * m + input) 0) 0) * 2 ^ i → zeros + x < 2 ^ 64
   zeros_fit l e = lane_fits (λ j. eqb (input_lane m ps input j) 0) (lane_below l) so.zeros_are (bit_is 0 l e)
 
-  pub more : {x y : ℕ} → i < pattern_count m ps → x ≡ one (eqb (get_or ps at 0) 1) * 2 ^ i → y ≡ one (eqb (get_or ps at 0) 0) * 2 ^ i → SoFar m ps input (ones + x) (zeros + y) (at + m) (i + 1)
+  pub more : {x y : ℕ} → i < pattern_count m ps → x ≡ one (eqb (get_or ps (i * m + input) 0) 1) * 2 ^ i → y ≡ one (eqb (get_or ps (i * m + input) 0) 0) * 2 ^ i → SoFar m ps input (ones + x) (zeros + y) (i + 1)
   more l e q = record {
     at_most = omega arith;
-    at_is = rw (add-one i, suc-mul i m) (omega (arith, so.at_is));
     ones_are = one_lane (λ j. eqb (input_lane m ps input j) 1) i so.ones_are (bit_is 1 l e);
     zeros_are = one_lane (λ j. eqb (input_lane m ps input j) 0) i so.zeros_are (bit_is 0 l q);
   }

@@ -21,17 +21,12 @@ pub fn input_lanes(patterns: &[u8], inputs: usize, input: usize) -> Lanes
     requires { GroupReady inputs patterns.now × (input < inputs) }
     ensures { result ≡ laid (input_lane inputs patterns.now input) }
 {
-    let count = patterns.len() / inputs;
     let mut ones = 0;
     let mut zeros = 0;
-    let mut at = input;
-    let mut i = 0;
-    while i < count {
-        let v = patterns[at];
+    for i in 0..patterns.len() / inputs {
+        let v = patterns[i * inputs + input];
         ones += lane_bit(v == 1, i);
         zeros += lane_bit(v == 0, i);
-        at += inputs;
-        i += 1;
     }
     Lanes { ones, zeros }
 }

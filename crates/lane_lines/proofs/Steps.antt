@@ -2,11 +2,11 @@
 -- Assumes nothing.
 use mathlib.Core.Path.{◌≡◌, refl, sym, ◌∙◌}
 use mathlib.Core.List.{List}
-use Prim.Native.Nat.{ℕ, ◌+◌, ◌≤◌, ◌<◌}
+use Prim.Native.Nat.{ℕ, ◌+◌, ◌≤◌, ◌<◌, min}
 use lib.ListN.{length}
 use Rattle.lists.specs.declared.Fault.{Fault}
 use Rattle.simulate.specs.Simulate.{stuck_in_steps}
-use Rattle.simulate.specs.Owed.{Any, Smaller, StepsReady}
+use Rattle.simulate.specs.Owed.{Any, StepsReady}
 use Rattle.simulate.proofs.Steps as steps
 use Rattle.simulate.proofs.Steps.{on_line}
 use Rattle.lane_lines.specs.Owed.{EachLane, FaultLinesDone, ForcedLinesDone}
@@ -26,7 +26,7 @@ module _ (fault : Fault) (step : ℕ) where
   module _ {c : List ℕ} {n : ℕ} {w₀ w : List ℕ} {line : ℕ} (so : SoFar c n w₀ w line) where
     pub more : {w' : List ℕ} {end : ℕ}
         → line < n
-        → Smaller (line + step) n end
+        → end ≡ min (line + step) n
         → length w' ≡ length w
         → FaultLinesDone (on_line fault step line) c n w end w'
         → SoFar c n w₀ w' (line + step)

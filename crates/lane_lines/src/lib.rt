@@ -14,11 +14,10 @@ ghost use Rattle.simulate.specs.Owed.{EndInside, StepsReady, input_or};
 ghost use Rattle.lane_lines.specs.Lines.{lane_pattern, good_words};
 ghost use Rattle.lane_lines.specs.Owed.{lanes_at, PairInside, LinesReady, LineDone, SimulateWordsDone, InputWordsDone, FaultLinesDone, ForcedLinesDone, GoodWordsReady, FaultyWordsReady, ForcedWordsDone};
 
-use circuit::{equal, source};
+use circuit::source;
 use lane_inputs::input_lanes;
 use lanes::{Lanes, gate_lanes, same_lanes};
 use lists::Fault;
-use simulate::smaller;
 
 // The words of line k.
 pub fn lanes_at(words: &[u64], k: usize) -> Lanes
@@ -55,13 +54,10 @@ fn put_input_words(circuit: &[u8], patterns: &[u8], inputs: usize, words: &mut [
     requires { WellFormed circuit.now inputs n × GroupReady inputs patterns.now × (length words.old ≡ 2 * n) }
     ensures { InputWordsDone circuit.now inputs n patterns.now words.new }
 {
-    let mut k = 0;
     let mut used = 0;
-    while k < n {
-        let lanes = input_or_x(circuit, patterns, inputs, k, used);
-        put_lanes(words, k, lanes);
-        used += equal(circuit[8 * k], 0);
-        k += 1;
+    for k in 0..n {
+        put_lanes(words, k, input_or_x(circuit, patterns, inputs, k, used));
+        used += usize::from(circuit[8 * k] == 0);
     }
 }
 
@@ -85,11 +81,9 @@ fn simulate_words(circuit: &[u8], words: &mut [u64], n: usize, start: usize, end
     requires { LinesReady circuit.now n (length words.old) × (start ≤ end) × (end ≤ n) }
     ensures { SimulateWordsDone circuit.now n words.old start end words.new }
 {
-    let mut k = start;
-    while k < end {
+    for k in start..end {
         let lanes = line_lanes(circuit, words, n, k);
         put_lanes(words, k, lanes);
-        k += 1;
     }
 }
 
@@ -157,28 +151,10 @@ fn step_lines(circuit: &[u8], fault: Fault, step: usize, words: &mut [u64], n: u
     requires { LinesReady circuit.now n (length words.old) × StepsReady fault step n × (fault.value ≤ 1) }
     ensures { ForcedLinesDone (stuck_in_steps step fault) circuit.now n words.old words.new }
 {
-    let mut line = fault.line;
-    while line < n {
-        let here = Fault {
-            line,
-            site: fault.site,
-            value: fault.value,
-        };
+    for line in (fault.line..n).step_by(step) {
+        let here = Fault { line, ..fault };
         let next = line + step;
-        fault_lines(circuit, here, words, n, smaller(next, n));
-        line = next;
-    }
-}
-
-// The second half of the work memory gets what the first has.
-fn copy_words(work: &mut [u64], half: usize)
-    requires { (length work.old ≡ half + half) × (half ≤ 4096) }
-    ensures { work.new ≡ take half work.old ++ take half work.old }
-{
-    let mut k = 0;
-    while k < half {
-        work[half + k] = work[k];
-        k += 1;
+        fault_lines(circuit, here, words, n, next.min(n));
     }
 }
 
@@ -188,6 +164,6 @@ pub fn faulty_words(circuit: &[u8], fault: Fault, step: usize, work: &mut [u64],
     ensures { ForcedWordsDone (stuck_in_steps step fault) circuit.now n work.old work.new }
 {
     let half = 2 * n;
-    copy_words(work, half);
+    work.copy_within(..half, half);
     step_lines(circuit, fault, step, &mut work[half..], n);
 }

@@ -1,10 +1,10 @@
 -- The pieces of a line, one behind the other.
 -- Assumes nothing.
-use mathlib.Core.Path.{◌≡◌, refl, sym, ◌∙◌}
+use mathlib.Core.Path.{◌≡◌, sym, ◌∙◌}
 use mathlib.Core.List.{List, [], ◌∷◌, map}
-use Prim.Native.Nat.{ℕ, suc, ◌+◌, ◌≤◌}
+use Prim.Native.Nat.{ℕ, ◌+◌, ◌≤◌}
 use native.Mathlib.Omega.{arith}
-use lib.ListN.{length, get_or, set, length-append, length-map, get_or-map}
+use lib.ListN.{length, get_or, length-append, length-map, get_or-map}
 use Rattle.ground.specs.Put.{Put}
 use Rattle.ground.proofs.Put.{put_then}
 use Rattle.letters.specs.Text.{letter_of, mark_of, line_text, refused_word, refused_text}
@@ -13,12 +13,6 @@ use Rattle.decimals.proofs.Digits.{digits_short}
 
 pub letter_at : (row : List ℕ) (i : ℕ) {x : ℕ} → x ≡ letter_of (get_or row i 0) → x ≡ get_or (map letter_of row) i (letter_of 0)
 letter_at row i e = e ∙ sym (get_or-map letter_of row i 0)
-
-pub three_put : (w : List ℕ) (at a b c : ℕ) → Put w (set (set (set w at a) (at + 1) b) (at + 2) c) at (a ∷ b ∷ c ∷ []) (at + 3)
-three_put w at a b c =
-    let e : at + 1 ≡ suc at = omega arith in
-    let f : at + 2 ≡ suc (suc at) = omega arith in
-    record { written = rw (e, f); next_is = refl }
 
 pub line_put : (p mark : ℕ) (row : List ℕ) {w₀ w₁ w₂ w₃ w₄ : List ℕ} {at n₁ n₂ n₃ n₄ x : ℕ}
     → x ≡ mark_of mark

@@ -12,23 +12,18 @@ use decimals::{put_byte, put_decimal};
 fn letter(entry: u8) -> u8
     ensures { result ≡ letter_of entry }
 {
-    if entry == 0 {
-        return b'P';
+    match entry {
+        0 => b'P',
+        1 => b'F',
+        _ => b'U',
     }
-    if entry == 1 {
-        return b'F';
-    }
-    b'U'
 }
 
 // Whether a pattern is kept or dropped.
 fn mark_letter(mark: u8) -> u8
     ensures { result ≡ mark_of mark }
 {
-    if mark == 1 {
-        return b'K';
-    }
-    b'D'
+    if mark == 1 { b'K' } else { b'D' }
 }
 
 // The letters of a row.
@@ -36,13 +31,10 @@ fn put_letters(out: &mut [u8], at: usize, row: &[u8]) -> usize
     requires { at + length row.now ≤ length out.old }
     ensures { Put out.old out.new at (map letter_of row.now) result }
 {
-    let mut i = 0;
-    while i < row.len() {
-        let b = letter(row[i]);
-        out[at + i] = b;
-        i += 1;
+    for i in 0..row.len() {
+        out[at + i] = letter(row[i]);
     }
-    at + i
+    at + row.len()
 }
 
 // Three bytes.
@@ -50,9 +42,7 @@ fn put_three(out: &mut [u8], at: usize, a: u8, b: u8, c: u8) -> usize
     requires { at + 3 ≤ length out.old }
     ensures { Put out.old out.new at (a ∷ b ∷ c ∷ []) result }
 {
-    out[at] = a;
-    out[at + 1] = b;
-    out[at + 2] = c;
+    out[at..at + 3].copy_from_slice(&[a, b, c]);
     at + 3
 }
 
@@ -79,14 +69,10 @@ pub fn put_lines(
     requires { PutLinesRoom table.now marks.now out.old faults patterns }
     ensures { Put out.old out.new 0 (lines_to faults table.now marks.now patterns) result }
 {
-    let mut p = 0;
     let mut at = 0;
-    let mut from = 0;
-    while p < patterns {
-        let to = from + faults;
-        at = put_line(out, at, p, marks[p], &table[from..to]);
-        from = to;
-        p += 1;
+    for p in 0..patterns {
+        let from = p * faults;
+        at = put_line(out, at, p, marks[p], &table[from..from + faults]);
     }
     at
 }
@@ -96,14 +82,7 @@ fn put_refused_word(out: &mut [u8])
     requires { 8 ≤ length out.old }
     ensures { Put out.old out.new 0 refused_word 8 }
 {
-    out[0] = b'r';
-    out[1] = b'e';
-    out[2] = b'f';
-    out[3] = b'u';
-    out[4] = b's';
-    out[5] = b'e';
-    out[6] = b'd';
-    out[7] = b' ';
+    out[..8].copy_from_slice(b"refused ");
 }
 
 // The line of a refusal.

@@ -12,17 +12,13 @@ ghost use Rattle.line_clauses.specs.Owed.{LineReady, GateReady, faulty_kind, Lin
 use circuit::source;
 use cnf::{Size, put_gate, put_selector, size_of};
 use gates::SELECTOR;
-use ground::wide;
 use lists::Fault;
 
 // The fault is at site s of line k.
 fn is_at(fault: Fault, k: usize, s: u8) -> bool
     ensures { result ≡ is_at fault k s }
 {
-    if k != fault.line {
-        return false;
-    }
-    s == fault.site
+    k == fault.line && s == fault.site
 }
 
 // The kind of the gate that writes the faulty line k.
@@ -79,7 +75,7 @@ fn pin_variable(circuit: &[u8], fault: Fault, n: usize, k: usize, s: u8) -> usiz
     if is_at(fault, k, s) {
         return 2 * n + 1;
     }
-    2 * source(circuit, k, wide(s)) + 2
+    2 * source(circuit, k, usize::from(s)) + 2
 }
 
 // The faulty line k.

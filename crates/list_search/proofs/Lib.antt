@@ -1,5 +1,4 @@
 pub mod Pieces
 pub mod Parts
-pub mod Budgets
 pub mod Ends
 pub mod Works

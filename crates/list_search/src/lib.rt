@@ -28,15 +28,10 @@ fn outcome_of(found: Verdict) -> u8
 fn after_last(budgets: &[u64]) -> usize
     ensures { AfterLast budgets.now result }
 {
-    let mut i = budgets.len();
-    while 0 < i {
-        let searched = budgets[i - 1] != 0;
-        if searched {
-            return i;
-        }
-        i -= 1;
+    match budgets.iter().rposition(|&budget| budget != 0) {
+        Some(last) => last + 1,
+        None => 0,
     }
-    0
 }
 
 // Searches for the faults below `last` in one walk; the work memory is only used.

@@ -2,7 +2,7 @@
 #![tactic(auto)]
 
 ghost use Rattle.std.specs.Prelude.{◌≡◌, ◌*◌, ◌<◌, ◌≤◌, length};
-ghost use Rattle.ground.specs.Below.{first_not};
+ghost use Rattle.ground.specs.Below.{first_failing};
 ghost use Rattle.answers.specs.Rules.{refusal};
 ghost use Rattle.circuit.specs.Record.{Inside};
 ghost use Rattle.lists.specs.Faults.{fault_at, fault_ok, fault_rules};
@@ -11,7 +11,6 @@ ghost use Rattle.lists.specs.Both.{list_rules};
 
 use answers::{Reason, Refusal, first_big, records_ok};
 use gates::pins;
-use ground::wide;
 use little::pair_at;
 
 // The largest stuck value.
@@ -41,36 +40,21 @@ fn fault_ok(circuit: &[u8], faults: &[u8], j: usize) -> bool
     requires { Inside faults.now j }
     ensures { result ≡ fault_ok circuit.now faults.now j }
 {
-    let line = pair_at(faults, 8 * j);
     let n = circuit.len() / 8;
-    if n <= line {
-        return false;
-    }
-    if pins(circuit[8 * line]) < wide(faults[8 * j + 2]) {
-        return false;
-    }
-    if LARGEST_VALUE < faults[8 * j + 3] {
-        return false;
-    }
-    if pair_at(faults, 8 * j + 4) != 0 {
-        return false;
-    }
-    pair_at(faults, 8 * j + 6) == 0
+    let line = pair_at(faults, 8 * j);
+    line < n
+        && usize::from(faults[8 * j + 2]) <= pins(circuit[8 * line])
+        && faults[8 * j + 3] <= LARGEST_VALUE
+        && pair_at(faults, 8 * j + 4) == 0
+        && pair_at(faults, 8 * j + 6) == 0
 }
 
-// The first of n fault records that is bad, or n.
-fn first_bad_fault(circuit: &[u8], faults: &[u8], n: usize) -> usize
+// The first of n fault records that is bad.
+fn first_bad_fault(circuit: &[u8], faults: &[u8], n: usize) -> Option<usize>
     requires { 8 * n ≤ length faults.now }
-    ensures { result ≡ first_not n (fault_ok circuit.now faults.now) }
+    ensures { result ≡ first_failing n (fault_ok circuit.now faults.now) }
 {
-    let mut j = 0;
-    while j < n {
-        if !fault_ok(circuit, faults, j) {
-            return j;
-        }
-        j += 1;
-    }
-    n
+    (0..n).find(|&j| !fault_ok(circuit, faults, j))
 }
 
 // Refusals 6 and 7, of at most so many faults.
@@ -81,8 +65,7 @@ pub fn check_faults(circuit: &[u8], faults: &[u8], most: usize) -> Result<(), Re
         return Err(Refusal(Reason::FaultsSize, 0));
     }
     let n = faults.len() / 8;
-    let bad = first_bad_fault(circuit, faults, n);
-    if bad < n {
+    if let Some(bad) = first_bad_fault(circuit, faults, n) {
         return Err(Refusal(Reason::FaultLayout, bad));
     }
     Ok(())

@@ -1,12 +1,12 @@
 -- Laws of little-endian bytes: how many there are, laying them one by one, and reading two of them back.
 -- Assumes nothing.
-use mathlib.Core.Path.{◌≡◌, refl, ap}
+use mathlib.Core.Path.{◌≡◌, refl, sym, ap, ◌∙◌}
 use mathlib.Core.List.{List, [], ◌∷◌}
-use Prim.Native.Nat.{ℕ, zero, suc, ◌+◌, ◌-◌, ◌/◌, ◌%◌, ◌≤◌, ◌<◌}
-use native.Mathlib.Nat.{div-add-mod, mod-eq_of_lt}
+use Prim.Native.Nat.{ℕ, zero, suc, ◌+◌, ◌^◌, ◌/◌, ◌%◌, ◌<◌}
+use native.Mathlib.Nat.{pow-suc, div-div-eq-div-mul, div-add-mod, mod-eq_of_lt}
 use native.Mathlib.Omega.{arith}
-use lib.ListN.{length, set}
-use lib.Seq.{sets}
+use lib.ListN.{length, get_or}
+use Rattle.std.specs.Int.{w16, w64, byte_at, bytes_low_first, to_le_bytes, from_le_bytes}
 use Rattle.little.specs.Little.{le, pair_at}
 
 pub le-length : (n w : ℕ) → length (le n w) ≡ n
@@ -16,10 +16,6 @@ le-length (suc n) w = ap suc (le-length n (w / 256))
 
 -- ---- two bytes
 
-pub two_bytes : {x : ℕ} → x < 65536 → x % 256 ∷ x / 256 ∷ [] ≡ le 2 x
-unfolding le
-two_bytes {x} l = let e : x / 256 % 256 ≡ x / 256 = omega arith in rw e
-
 -- what is written is read
 pub read_back : (w : ℕ) → w < 65536 → pair_at (le 2 w) 0 ≡ w
 unfolding le pair_at
@@ -27,17 +23,26 @@ read_back w l =
     let high : w / 256 % 256 ≡ w / 256 = mod-eq_of_lt (omega (arith, div-add-mod w 256)) in
     omega (arith, div-add-mod w 256)
 
--- ---- eight bytes, where i are laid and w is what is left of the number
+-- ---- as the library writes them
 
-pub next_byte : (a : List ℕ) (at i w : ℕ) → i < 8 → sets a (at + i) (le (8 - i) w) ≡ sets (set a (at + i) (w % 256)) (at + (i + 1)) (le (8 - (i + 1)) (w / 256))
-unfolding le
-next_byte a at i w h =
-    let e : 8 - i ≡ suc (8 - (i + 1)) = omega arith in
-    let f : at + (i + 1) ≡ suc (at + i) = omega arith in
-    rw (e, f)
+byte_is : (i w : ℕ) → byte_at i w ≡ w / 256 ^ i % 256
+byte_is zero w = omega arith
+byte_is (suc i) w = refl
 
-pub all_laid : (a : List ℕ) (at i w : ℕ) → 8 ≤ i → sets a (at + i) (le (8 - i) w) ≡ a
+bytes_from : (i n w : ℕ) → bytes_low_first i n w ≡ le n (w / 256 ^ i)
 unfolding le
-all_laid a at i w h =
-    let e : 8 - i ≡ 0 = omega arith in
-    rw e
+bytes_from i zero w = refl
+bytes_from i (suc n) w =
+    let e : w / 256 ^ i / 256 ≡ w / 256 ^ suc i = div-div-eq-div-mul w (256 ^ i) 256 ∙ ap (λ (x : ℕ). w / x) (sym (pow-suc 256 i)) in
+    rw (e, byte_is, bytes_from (suc i) n w)
+
+pub le_bytes_eight : (w : ℕ) → to_le_bytes w64 w ≡ le 8 w
+le_bytes_eight w = bytes_from 0 8 w ∙ ap (λ (x : ℕ). le 8 x) (omega arith)
+
+pub le_bytes_two : (w : ℕ) → to_le_bytes w16 w ≡ le 2 w
+unfolding le
+le_bytes_two w = refl
+
+pub pair_bytes : (s : List ℕ) (at : ℕ) → from_le_bytes w16 (get_or s at 0 ∷ get_or s (at + 1) 0 ∷ []) ≡ pair_at s at
+unfolding pair_at
+pair_bytes s at = omega arith

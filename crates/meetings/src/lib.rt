@@ -185,11 +185,9 @@ pub fn meet_all(
     ensures { MeetAllDone alone circuit.now faults.now budgets.now n node.now level
         (reaches.old, counts.old, tests.old) (reaches.new, counts.new, tests.new) }
 {
-    let mut i = 0;
-    while i < reaches.len() {
+    for i in 0..reaches.len() {
         meet_at(
             alone, circuit, faults, budgets, n, node, level, i, reaches, counts, tests, work,
         );
-        i += 1;
     }
 }

@@ -3,6 +3,7 @@
 use mathlib.Core.Path.{◌≡◌, refl, sym, ap, ◌∙◌}
 use mathlib.Core.Bool.{Bool, true, false}
 use mathlib.Core.List.{List}
+use Rattle.std.specs.Prelude.{None, Some}
 use Prim.Native.Nat.{ℕ, suc, ◌-◌, ◌≤◌, ◌<◌}
 use native.Mathlib.Omega.{arith}
 use lib.ListN.{get_or}
@@ -11,7 +12,7 @@ use Rattle.ground.specs.Choose.{choose}
 use Rattle.words.specs.Words.{word_at}
 use Rattle.words.proofs.Same.{same_eq}
 use Rattle.names.specs.Names.{last_with, named, definition}
-use Rattle.names.specs.Owed.{hash_from, hashed, Table}
+use Rattle.names.specs.Owed.{hash_from, hashed, linked, Table}
 use Rattle.names.proofs.Mixed.{hash_of}
 use Rattle.names.proofs.Last.{last_is, last_most, skip_none, skip}
 
@@ -31,8 +32,8 @@ unfolding definition
 start {n = n} {h = h} T e l q = record { upto = n; known = omega arith; hash = e; at = q ∙ T.first h l; left = refl }
 
 module _ {t defs w : List ℕ} {n h p : ℕ} (k : ChainWalk t defs w n h p) where
-  pub ended : p ≤ 0 → 0 ≡ definition t defs n w
-  ended z = sym (k.left ∙ skip_none (named t defs w) (hashed t defs h) (same_hash t defs w h k.hash) k.upto (sym k.at ∙ omega arith))
+  pub ended : p ≤ 0 → None ≡ linked (definition t defs n w)
+  ended z = sym (ap linked (k.left ∙ skip_none (named t defs w) (hashed t defs h) (same_hash t defs w h k.hash) k.upto (sym k.at ∙ omega arith)))
 
   module _ (z : 0 < p) where
     one : last_with (hashed t defs h) k.upto ≡ suc (p - 1)
@@ -45,8 +46,8 @@ module _ {t defs w : List ℕ} {n h p : ℕ} (k : ChainWalk t defs w n h p) wher
     skipped : definition t defs n w ≡ choose (named t defs w (p - 1)) (suc (p - 1)) (last_with (named t defs w) (p - 1))
     skipped = k.left ∙ skip (named t defs w) (hashed t defs h) (same_hash t defs w h k.hash) k.upto (p - 1) one
 
-    pub hit : named t defs w (p - 1) ≡ true → p ≡ definition t defs n w
-    hit e = sym (skipped ∙ ap (λ (b : Bool). choose b (suc (p - 1)) (last_with (named t defs w) (p - 1))) e ∙ omega arith)
+    pub hit : named t defs w (p - 1) ≡ true → Some (p - 1) ≡ linked (definition t defs n w)
+    hit e = sym (ap linked (skipped ∙ ap (λ (b : Bool). choose b (suc (p - 1)) (last_with (named t defs w) (p - 1))) e))
 
     module _ {head next : List ℕ} (T : Table t defs head next n) where
       pub more : (p' : ℕ) → named t defs w (p - 1) ≡ false → p' ≡ get_or next (p - 1) 0 → ChainWalk t defs w n h p'

@@ -1,7 +1,7 @@
 -- What the functions of the names owe each other and their callers: a table that finds a name's definition, by a hash and lists of those with the same hash.
 -- No reader of the promises needs it.
 -- Assumes nothing.
-use Rattle.std.specs.Prelude.{◌≡◌, Bool, not, List, [], ◌∷◌, ◌++◌, map, ℕ, zero, suc, ◌+◌, ◌*◌, ◌≤◌, ◌<◌, ◌%◌, min, eqb, length, get_or, replicate}
+use Rattle.std.specs.Prelude.{◌≡◌, Bool, not, List, [], ◌∷◌, ◌++◌, map, Option, None, Some, ℕ, zero, suc, ◌+◌, ◌*◌, ◌≤◌, ◌<◌, ◌%◌, min, eqb, length, get_or, replicate}
 use Rattle.ground.specs.Choose.{choose}
 use Rattle.answers.specs.Rules.{refusal, Ruling}
 use Rattle.words.specs.Words.{word_at}
@@ -17,6 +17,11 @@ Hash t at h = (h ≡ hash_from 0 (word_at t at)) × (h < 8192)
 
 abbrev pub hashed : List ℕ → List ℕ → ℕ → ℕ → Bool
 hashed t defs h d = eqb (hash_from 0 (word_at t (get_or defs d 0))) h
+
+-- a link is one more than the number of a definition, or 0 where there is none
+abbrev pub linked : ℕ → Option ℕ
+linked zero = None
+linked (suc d) = Some d
 
 -- the first n definitions are in the table
 pub record Table (t defs head next : List ℕ) (n : ℕ) : Type 0 where

@@ -1,15 +1,15 @@
 // Names and their definitions: a table of the library's own finds them; refusal 15.
 #![tactic(auto)]
 
-ghost use Rattle.std.specs.Prelude.{◌≡◌, ◌+◌, ◌*◌, ◌-◌, ◌<◌, ◌%◌, min, ltb, length, get_or};
+ghost use Rattle.std.specs.Prelude.{◌≡◌, ◌+◌, ◌*◌, ◌-◌, ◌<◌, ◌%◌, ltb, length, get_or, unwrap_or};
 ghost use Rattle.ground.specs.Choose.{choose};
 ghost use Rattle.answers.specs.declared.Reason.TheVariants.{BenchName};
 ghost use Rattle.words.specs.Words.{word_at};
 ghost use Rattle.names.specs.Names.{definition};
-ghost use Rattle.names.specs.Owed.{Hash, Table, EnterReady, EnterDone, LookUpReady, LookUpDone, ResolveReady, ResolveDone};
+ghost use Rattle.names.specs.Owed.{Hash, Table, EnterReady, EnterDone, linked, LookUpReady, LookUpDone, ResolveReady, ResolveDone};
 
 use answers::{Reason, Refusal};
-use ground::{narrow, wide, wide16};
+use ground::narrow;
 use words::{byte, is_word, same_word};
 
 // ---- the table
@@ -21,20 +21,21 @@ fn mix(h: usize, b: usize) -> usize
     (h * 131 + b) % 8192
 }
 
-// The hash of the word at a byte.
+// The hash of the word at a byte, which ends where its bytes say so.
 fn hash(text: &[u8], at: usize) -> usize
     ensures { Hash text.now at result }
 {
     let mut x = at;
     let mut h = 0;
     while is_word(byte(text, x)) {
-        h = mix(h, wide(byte(text, x)));
+        h = mix(h, usize::from(byte(text, x)));
         x += 1;
     }
     h
 }
 
-// One more than the number of a name's definition among the first n, or 0. The caller has the name's hash.
+// The number of a name's definition among the first n. The caller has the name's hash. A `while`, since the definitions of one hash are linked:
+// a link is one more than the number of the definition before, or 0.
 fn find(
     text: &[u8],
     defs: &[u16],
@@ -43,19 +44,19 @@ fn find(
     n: usize,
     h: usize,
     at: usize,
-) -> usize
+) -> Option<usize>
     requires { Table text.now defs.now head.now next.now n × Hash text.now at h }
-    ensures { result ≡ definition text.now defs.now n (word_at text.now at) }
+    ensures { result ≡ linked (definition text.now defs.now n (word_at text.now at)) }
 {
-    let mut p = wide16(head[h]);
-    'walk: while 0 < p {
-        let d = p - 1;
-        if same_word(text, wide16(defs[d]), at) {
-            return p;
+    let mut link = usize::from(head[h]);
+    'walk: while 0 < link {
+        let d = link - 1;
+        if same_word(text, usize::from(defs[d]), at) {
+            return Some(d);
         }
-        p = wide16(next[d]);
+        link = usize::from(next[d]);
     }
-    0
+    None
 }
 
 // Definition n, of this hash, joins the table.
@@ -67,56 +68,31 @@ fn add(text: &[u8], defs: &[u16], head: &mut [u16], next: &mut [u16], n: usize, 
     head[h] = narrow(n + 1);
 }
 
-fn smaller(x: usize, y: usize) -> usize
-    ensures { result ≡ min x y }
-{
-    if x <= y { x } else { y }
-}
-
-fn lower(wrong: bool, at: usize, low: usize) -> usize
-    ensures { result ≡ choose wrong (min at low) low }
-{
-    if wrong {
-        return smaller(at, low);
-    }
-    low
-}
-
 // All definitions join the table. The lowest byte of a second definition, or 65,535.
 fn enter(text: &[u8], defs: &[u16], head: &mut [u16], next: &mut [u16]) -> usize
     requires { EnterReady text.now defs.now head.old next.old }
     ensures { EnterDone text.now defs.now head.new next.new result }
 {
     let mut low = 65535;
-    let mut n = 0;
-    while n < defs.len() {
-        let at = wide16(defs[n]);
+    for (n, &def) in defs.iter().enumerate() {
+        let at = usize::from(def);
         let h = hash(text, at);
         let found = find(text, defs, head, next, n, h, at);
         add(text, defs, head, next, n, h);
-        low = lower(found != 0, at, low);
-        n += 1;
+        if found.is_some() {
+            low = at.min(low);
+        }
     }
     low
 }
 
 // ---- looking names up
 
-fn before(p: usize) -> usize
-    ensures { result ≡ p - 1 }
+// The number of what a definition defines. Where a name has none, refusal 15 comes before anyone looks at the number.
+fn number_of(numbers: &[u16], found: Option<usize>) -> u16
+    ensures { result ≡ get_or numbers.now (unwrap_or found 0) 0 }
 {
-    if 0 < p { p - 1 } else { 0 }
-}
-
-// The entry before p, or 0.
-fn entry_before(numbers: &[u16], p: usize) -> u16
-    ensures { result ≡ get_or numbers.now (p - 1) 0 }
-{
-    let i = before(p);
-    if i < numbers.len() {
-        return numbers[i];
-    }
-    0
+    numbers.get(found.unwrap_or(0)).copied().unwrap_or(0)
 }
 
 // The numbers of the names at some places. The lowest byte of one that is defined nowhere, or `low` if that is lower.
@@ -134,14 +110,14 @@ fn look_up(
     ensures { LookUpDone text.now defs.now numbers.now names.now out.new low result }
 {
     let mut lowest = low;
-    let mut u = 0;
-    while u < names.len() {
-        let at = wide16(names[u]);
+    for (u, &name) in names.iter().enumerate() {
+        let at = usize::from(name);
         let h = hash(text, at);
         let found = find(text, defs, head, next, defs.len(), h, at);
-        out[u] = entry_before(numbers, found);
-        lowest = lower(found == 0, at, lowest);
-        u += 1;
+        out[u] = number_of(numbers, found);
+        if found.is_none() {
+            lowest = at.min(lowest);
+        }
     }
     lowest
 }

@@ -16,12 +16,7 @@ pub enum Verdict {
 pub fn first_x(node: &[u8]) -> usize
     ensures { result ≡ first_x node.now }
 {
-    let mut i = 0;
-    while i < node.len() {
-        if node[i] == 2 {
-            return i;
-        }
-        i += 1;
-    }
-    node.len()
+    node.iter()
+        .position(|&value| value == 2)
+        .unwrap_or(node.len())
 }

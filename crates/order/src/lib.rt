@@ -2,35 +2,29 @@
 #![tactic(auto)]
 
 ghost use Rattle.std.specs.Prelude.{◌≡◌, ◌+◌, ◌<◌, ◌≤◌, eqb, length, get_or, set};
-ghost use Rattle.ground.specs.Below.{first_not};
+ghost use Rattle.ground.specs.Below.{first_failing};
 ghost use Rattle.answers.specs.declared.Reason.TheVariants.{BenchCycle};
 ghost use Rattle.answers.specs.Rules.{each, said};
 ghost use Rattle.order.specs.Owed.{there_by, ready_by, Back, PlaceReady, PlaceDone, ArrangeRoom, ArrangeInReady, ArrangeDone};
 
 use answers::{Reason, Refusal};
-use ground::{narrow, wide16};
+use ground::narrow;
 
 // A source is an input, or a gate that is placed.
+#[tactic(auto, unfolding(crate::specs::Owed::there_by))]
 fn is_there(placed: &[u8], s: usize) -> bool
     ensures { result ≡ there_by placed.now s }
 {
-    if placed.len() <= s {
-        return true;
-    }
-    placed[s] == 1
+    placed.len() <= s || placed[s] == 1
 }
 
+// A gate that is not placed is ready where both its sources are there.
+#[tactic(auto, unfolding(crate::specs::Owed::ready_by))]
 fn is_ready(a: &[u16], b: &[u16], placed: &[u8], g: usize) -> bool
     requires { (g < length a.now) × (length b.now ≡ length a.now) × (length placed.now ≡ length a.now) }
     ensures { result ≡ ready_by a.now b.now placed.now g }
 {
-    if placed[g] != 0 {
-        return false;
-    }
-    if is_there(placed, wide16(a[g])) {
-        return is_there(placed, wide16(b[g]));
-    }
-    false
+    placed[g] == 0 && is_there(placed, usize::from(a[g])) && is_there(placed, usize::from(b[g]))
 }
 
 // Where to go on after g was placed.
@@ -38,14 +32,10 @@ fn back(reader: &[u16], g: usize) -> usize
     requires { g < length reader.now }
     ensures { (result ≤ g + 1) × (result ≤ get_or reader.now g 0) }
 {
-    let r = wide16(reader[g]);
-    if r <= g {
-        return r;
-    }
-    g + 1
+    usize::from(reader[g]).min(g + 1)
 }
 
-// Writes the gates in order, marks each that is placed, and returns how many there are.
+// Writes the gates in order, marks each that is placed, and returns how many there are. A `while`, since the search goes back to a reader of the gate.
 fn place(a: &[u16], b: &[u16], reader: &[u16], placed: &mut [u8], order: &mut [u16]) -> usize
     requires { PlaceReady a.now b.now reader.now placed.old order.old }
     ensures { PlaceDone a.now b.now placed.new order.new result }
@@ -58,9 +48,9 @@ fn place(a: &[u16], b: &[u16], reader: &[u16], placed: &mut [u8], order: &mut [u
             order[n] = narrow(c);
             n += 1;
             c = back(reader, c);
-            continue;
+        } else {
+            c += 1;
         }
-        c += 1;
     }
     n
 }
@@ -70,6 +60,7 @@ fn note(reader: &mut [u16], s: usize, h: usize)
     requires { h < 65536 }
     ensures { reader.new ≡ set reader.old s h }
 {
+    // `get_mut` would promise nothing of the list where it finds no such place
     if s < reader.len() {
         reader[s] = narrow(h);
     }
@@ -80,34 +71,25 @@ fn readers(a: &[u16], b: &[u16], reader: &mut [u16])
     requires { (length a.now < 65536) × (length b.now ≡ length a.now) × (length reader.old ≡ length a.now) }
     ensures { Back a.now b.now reader.new }
 {
-    let mut h = a.len();
-    while 0 < h {
-        h -= 1;
-        note(reader, wide16(a[h]), h);
-        note(reader, wide16(b[h]), h);
+    for h in (0..a.len()).rev() {
+        note(reader, usize::from(a[h]), h);
+        note(reader, usize::from(b[h]), h);
     }
 }
 
-// The first gate that is not placed, or how many there are.
-fn first_left(placed: &[u8]) -> usize
-    ensures { result ≡ first_not (length placed.now) (λ g. eqb (get_or placed.now g 0) 1) }
+// The first gate that is not placed.
+fn first_left(placed: &[u8]) -> Option<usize>
+    ensures { result ≡ first_failing (length placed.now) (λ g. eqb (get_or placed.now g 0) 1) }
 {
-    let mut g = 0;
-    while g < placed.len() {
-        if placed[g] != 1 {
-            return g;
-        }
-        g += 1;
-    }
-    placed.len()
+    placed.iter().position(|&mark| mark != 1)
 }
 
 // Refusal 16, where the gates that are placed are marked.
+#[tactic(auto, unfolding(answers::specs::Rules::said))]
 fn rule_placed(placed: &[u8]) -> Result<(), Refusal>
     ensures { result ≡ said (each BenchCycle (length placed.now) (λ g. eqb (get_or placed.now g 0) 1) (λ g. Unit)) }
 {
-    let left = first_left(placed);
-    if left < placed.len() {
+    if let Some(left) = first_left(placed) {
         return Err(Refusal(Reason::BenchCycle, left));
     }
     Ok(())

@@ -5,19 +5,19 @@ ghost use Rattle.std.specs.Prelude.{◌≡◌, ◌+◌, ◌-◌, ◌≤◌, ◌<
 ghost use Rattle.ground.specs.Put.{laid_on};
 ghost use Rattle.places.specs.Owed.{number_by, places_by, PutPlacesReady, PutPlacesInReady};
 
-use ground::wide16;
 use records::number_lines;
 
 // The number that stands on line k: that of an input, or of the gate that is next in the order.
+#[tactic(auto, unfolding(crate::specs::Owed::number_by))]
 fn number_on(inputs: usize, order: &[u16], k: usize) -> usize
     requires { (inputs + length order.now ≤ 2048) × (k < inputs + length order.now) }
     ensures { result ≡ number_by inputs order.now k }
 {
     if k < inputs {
-        return order.len() + k;
+        order.len() + k
+    } else {
+        usize::from(order[k - inputs])
     }
-    let i = k - inputs;
-    wide16(order[i])
 }
 
 // In memory for the definition of each number.
@@ -27,12 +27,10 @@ fn put_places_in(defs: &[u16], numbers: &[u16], order: &[u16], def: &mut [u16], 
 {
     number_lines(numbers, 0, def);
     let inputs = defs.len() - order.len();
-    let mut k = 0;
-    while k < defs.len() {
+    for k in 0..defs.len() {
         let x = number_on(inputs, order, k);
-        let d = wide16(def[x]);
+        let d = usize::from(def[x]);
         places[k] = defs[d];
-        k += 1;
     }
 }
 

@@ -15,10 +15,7 @@ const UNREAD: u8 = 0;
 fn one_more(read: u8) -> u8
     ensures { OneMore read result }
 {
-    if read == UNREAD {
-        return 1;
-    }
-    2
+    if read == UNREAD { 1 } else { 2 }
 }
 
 // The source of pin s of line j is read once more.
@@ -27,8 +24,7 @@ fn count_pin(circuit: &[u8], j: usize, s: usize, reads: &mut [u8])
     ensures { CountsMore (length reads.old) (pin_adds circuit.now j s) reads.old reads.new }
 {
     let k = source(circuit, j, s);
-    let read = one_more(reads[k]);
-    reads[k] = read;
+    reads[k] = one_more(reads[k]);
 }
 
 // Those of all its pins are.
@@ -36,11 +32,8 @@ fn count_pins(circuit: &[u8], j: usize, reads: &mut [u8])
     requires { Sourced circuit.now (length reads.old) × (j < length reads.old) }
     ensures { CountsMore (length reads.old) (line_adds circuit.now j) reads.old reads.new }
 {
-    let has = pins(circuit[8 * j]);
-    let mut s = 0;
-    while s < has {
+    for s in 0..pins(circuit[8 * j]) {
         count_pin(circuit, j, s + 1, reads);
-        s += 1;
     }
 }
 
@@ -49,9 +42,7 @@ pub fn count_reads(circuit: &[u8], reads: &mut [u8])
     requires { Sourced circuit.now (length reads.old) × (reads.old ≡ replicate (length reads.old) 0) }
     ensures { ReadsCounted (length reads.old) (reads_of circuit.now (length reads.old)) reads.new }
 {
-    let mut j = 0;
-    while j < reads.len() {
+    for j in 0..reads.len() {
         count_pins(circuit, j, reads);
-        j += 1;
     }
 }

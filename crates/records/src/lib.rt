@@ -9,7 +9,7 @@ ghost use Rattle.records.specs.Owed.{PutRecordsReady, PutRecordsInReady, NumberL
 ghost use Rattle.records.specs.Owed.{MarkOutputsReady, MarkOutputsDone, PutGateRoom, PutLinesReady, PutLineReady};
 
 use gates::pins;
-use ground::{narrow, wide16};
+use ground::narrow;
 use little::{put_pair, put_two};
 
 // ---- the line of each gate, and a flag for each number
@@ -19,11 +19,8 @@ pub fn number_lines(order: &[u16], inputs: usize, line: &mut [u16])
     requires { NumberLinesReady order.now inputs line.old }
     ensures { NumberLinesDone order.now inputs line.new }
 {
-    let mut i = order.len();
-    while 0 < i {
-        i -= 1;
-        let g = wide16(order[i]);
-        line[g] = narrow(inputs + i);
+    for i in (0..order.len()).rev() {
+        line[usize::from(order[i])] = narrow(inputs + i);
     }
 }
 
@@ -32,33 +29,34 @@ fn mark_outputs(outs: &[u16], flag: &mut [u8])
     requires { MarkOutputsReady outs.now flag.old }
     ensures { MarkOutputsDone outs.now flag.new }
 {
-    let mut i = 0;
-    while i < outs.len() {
-        let x = wide16(outs[i]);
-        flag[x] = 1;
-        i += 1;
+    for &x in outs {
+        flag[usize::from(x)] = 1;
     }
 }
 
 // The line of a number: gates have theirs, and the inputs are numbered after them.
+#[tactic(auto, unfolding(crate::specs::Owed::line_by))]
 fn line_of(line: &[u16], number: u16) -> u16
     ensures { result ≡ line_by line.now number }
 {
-    let x = wide16(number);
+    let x = usize::from(number);
     if x < line.len() {
-        return line[x];
+        line[x]
+    } else {
+        narrow(x - line.len())
     }
-    narrow(x - line.len())
 }
 
 // The line of the source at a pin, or 0 where the kind has no such pin.
+#[tactic(auto, unfolding(crate::specs::Owed::source_by))]
 fn source(line: &[u16], kind: u8, pin: usize, number: u16) -> u16
     ensures { result ≡ source_by line.now kind pin number }
 {
     if pin <= pins(kind) {
-        return line_of(line, number);
+        line_of(line, number)
+    } else {
+        0
     }
-    0
 }
 
 // ---- writing: each writer answers the place after what it wrote
@@ -83,6 +81,7 @@ pub fn put_record(
 }
 
 // The record of gate g; no gate of a net has a third source.
+#[tactic(auto, unfolding(crate::specs::Owed::gate_record))]
 fn put_gate(
     kinds: &[u8],
     firsts: &[u16],
@@ -104,6 +103,7 @@ fn put_gate(
 }
 
 // The record of line k: an input has kind 0 and no source.
+#[tactic(auto, unfolding(crate::specs::Owed::record_by))]
 fn put_line(
     inputs: usize,
     kinds: &[u8],
@@ -121,12 +121,11 @@ fn put_line(
         (record_by (lined_of inputs kinds.now firsts.now seconds.now order.now line.now flag.now) k) result }
 {
     if k < inputs {
-        let number = line.len() + k;
-        return put_record(records, at, 0, flag[number], 0, 0, 0);
+        put_record(records, at, 0, flag[line.len() + k], 0, 0, 0)
+    } else {
+        let g = usize::from(order[k - inputs]);
+        put_gate(kinds, firsts, seconds, line, flag, g, records, at)
     }
-    let i = k - inputs;
-    let g = wide16(order[i]);
-    put_gate(kinds, firsts, seconds, line, flag, g, records, at)
 }
 
 // The records of all lines.
@@ -146,14 +145,11 @@ fn put_lines(
         records_by (lined_of inputs kinds.now firsts.now seconds.now order.now line.now flag.now)
         (inputs + length order.now) }
 {
-    let size = inputs + order.len();
     let mut at = 0;
-    let mut k = 0;
-    while k < size {
+    for k in 0..inputs + order.len() {
         at = put_line(
             inputs, kinds, firsts, seconds, order, line, flag, k, records, at,
         );
-        k += 1;
     }
 }
 

@@ -10,7 +10,6 @@ ghost use Rattle.reports.specs.Reports.{against};
 ghost use Rattle.reports.specs.Marks.{marked, no_mark};
 ghost use Rattle.reports.specs.Owed.{narrowed};
 
-use ground::bit;
 use tables::{FAIL, PASS};
 
 // The entry that speaks against a fault: pass where the pattern failed, fail where it passed.
@@ -32,11 +31,8 @@ pub fn narrow(marks: &[u8], row: &[u8], bad: u8, after: &mut [u8])
     requires { (length row.now ≤ length marks.now) × (length row.now ≤ length after.old) }
     ensures { after.new ≡ laid_on after.old (narrowed marks.now row.now bad) }
 {
-    let mut f = 0;
-    while f < row.len() {
-        let mark = mark_after(marks[f], row[f], bad);
-        after[f] = mark;
-        f += 1;
+    for f in 0..row.len() {
+        after[f] = mark_after(marks[f], row[f], bad);
     }
 }
 
@@ -45,11 +41,7 @@ pub fn mark_all(n: usize, marks: &mut [u8])
     requires { n ≤ length marks.old }
     ensures { marks.new ≡ laid_on marks.old (table (λ f. 1) n) }
 {
-    let mut f = 0;
-    while f < n {
-        marks[f] = 1;
-        f += 1;
-    }
+    marks[..n].fill(1);
 }
 
 // How many of the first n faults are marked.
@@ -57,13 +49,7 @@ pub fn count_marks(marks: &[u8], n: usize) -> usize
     requires { n ≤ length marks.now }
     ensures { result ≡ count_below n (marked marks.now) }
 {
-    let mut count = 0;
-    let mut f = 0;
-    while f < n {
-        count += bit(marks[f] == 1);
-        f += 1;
-    }
-    count
+    marks[..n].iter().filter(|&&mark| mark == 1).count()
 }
 
 // Byte f of the marks of n faults is no mark: above 1 for a fault, above 0 where there is none.
@@ -80,12 +66,5 @@ fn no_mark(mark: u8, f: usize, n: usize) -> bool
 pub fn some_no_mark(marks: &[u8], n: usize) -> bool
     ensures { result ≡ any_below (length marks.now) (no_mark n marks.now) }
 {
-    let mut f = 0;
-    while f < marks.len() {
-        if no_mark(marks[f], f, n) {
-            return true;
-        }
-        f += 1;
-    }
-    false
+    (0..marks.len()).any(|f| no_mark(marks[f], f, n))
 }

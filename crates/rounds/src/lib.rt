@@ -5,7 +5,6 @@ ghost use Rattle.std.specs.Prelude.{◌≡◌, ◌+◌, ◌*◌, ◌≤◌, ltb,
 ghost use Rattle.ground.specs.Below.{count_below};
 ghost use Rattle.rounds.specs.Owed.{looks_at, WalkReady, RoundDone};
 
-use ground::bit;
 use meetings::meet_all;
 use nodes::first_x;
 use simulate::good_values;
@@ -17,13 +16,7 @@ const NOBODY: usize = 0;
 fn looking(reaches: &[u8], level: u8) -> usize
     ensures { result ≡ count_below (length reaches.now) (looks_at reaches.now level) }
 {
-    let mut i = 0;
-    let mut some = 0;
-    while i < reaches.len() {
-        some += bit(level <= reaches[i]);
-        i += 1;
-    }
-    some
+    reaches.iter().filter(|&&reach| level <= reach).count()
 }
 
 // Whether so few of the faults look at a node that each is sooner through with it alone. Together they save the good values of the node for each but

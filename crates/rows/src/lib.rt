@@ -23,12 +23,9 @@ fn fill_row(
     ensures { RowDone stuck_at circuit.now n pattern.now faults.now row.new work.new }
 {
     good_values(circuit, pattern, work, n);
-    let mut j = 0;
-    while j < row.len() {
+    for (j, entry) in row.iter_mut().enumerate() {
         let fault = read_fault(faults, j);
-        let e = fault_entry(circuit, fault, work, n);
-        row[j] = e;
-        j += 1;
+        *entry = fault_entry(circuit, fault, work, n);
     }
 }
 
@@ -68,10 +65,7 @@ pub fn fill_table(
     requires { TableReady 256 2 circuit.now n inputs faults.now patterns.now (length table.old) (length work.old) }
     ensures { TableDone stuck_at circuit.now n inputs faults.now patterns.now table.new work.new }
 {
-    let count = patterns.len() / inputs;
-    let mut i = 0;
-    while i < count {
+    for i in 0..patterns.len() / inputs {
         put_row(circuit, n, inputs, faults, patterns, i, table, work);
-        i += 1;
     }
 }

@@ -1,7 +1,7 @@
 // The search that decides head lines only, where these serve the fault.
 #![tactic(auto)]
 
-ghost use Rattle.std.specs.Prelude.{◌≡◌, ◌≤◌, length};
+ghost use Rattle.std.specs.Prelude.{◌≡◌, ◌*◌, ◌≤◌, length};
 ghost use Rattle.circuit.specs.Formed.{Known};
 ghost use Rattle.search_heads.specs.Promise.{HeadSearches};
 ghost use Rattle.search_heads.specs.Owed.{served_by, EitherReady, EitherDone, RoomReady, HeadsReady, HeadSearchDone};
@@ -21,16 +21,15 @@ const BOUND: u8 = 2;
 const HEAD: u8 = 1;
 
 // A fault at a line with this mark and at this site is searched over head lines.
+#[tactic(auto, unfolding(crate::specs::Owed::served_by))]
 fn served_by(mark: u8, site: u8) -> bool
     ensures { result ≡ served_by mark site }
 {
-    if mark == BOUND {
-        return true;
+    match mark {
+        BOUND => true,
+        HEAD => site == 0,
+        _ => false,
     }
-    if mark == HEAD {
-        return site == 0;
-    }
-    false
 }
 
 // The search over head lines where it serves the fault, else the search over inputs.
@@ -77,8 +76,8 @@ fn mark_and_run(
     )
 }
 
-// The search of a circuit of any size.
-fn run_large(
+// The search of a circuit of at most so many lines, in memory for as many.
+fn run_in<const LINES: usize, const BYTES: usize>(
     circuit: &[u8],
     fault: Fault,
     n: usize,
@@ -87,12 +86,12 @@ fn run_large(
     test: &mut [u8],
     work: &mut [u8],
 ) -> Verdict
-    requires { (n ≤ 2048) × HeadsReady circuit.now fault n inputs (length test.old) (length work.old) }
+    requires { (n ≤ LINES) × (8 * LINES ≤ BYTES) × (BYTES ≤ 16384) × HeadsReady circuit.now fault n inputs (length test.old) (length work.old) }
     ensures { EitherDone circuit.now fault budget test.old work.old result test.new work.new }
 {
-    let mut reads = [0u8; 2048];
-    let mut marks = [0u8; 2048];
-    let mut lines = [0u8; 16384];
+    let mut reads = [0u8; LINES];
+    let mut marks = [0u8; LINES];
+    let mut lines = [0u8; BYTES];
     mark_and_run(
         circuit,
         &mut reads[..n],
@@ -106,36 +105,7 @@ fn run_large(
     )
 }
 
-// The same for a small circuit, which is spared the clearing of all that memory.
-fn run_small(
-    circuit: &[u8],
-    fault: Fault,
-    n: usize,
-    inputs: usize,
-    budget: u64,
-    test: &mut [u8],
-    work: &mut [u8],
-) -> Verdict
-    requires { (n ≤ 128) × HeadsReady circuit.now fault n inputs (length test.old) (length work.old) }
-    ensures { EitherDone circuit.now fault budget test.old work.old result test.new work.new }
-{
-    let mut reads = [0u8; 128];
-    let mut marks = [0u8; 128];
-    let mut lines = [0u8; 1024];
-    mark_and_run(
-        circuit,
-        &mut reads[..n],
-        &mut marks[..n],
-        &mut lines[..8 * n],
-        fault,
-        inputs,
-        budget,
-        test,
-        work,
-    )
-}
-
-// The search of an accepted circuit for a fault.
+// The search of an accepted circuit for a fault. A small one is spared the clearing of the memory that the largest needs.
 fn run_sized(
     circuit: &[u8],
     fault: Fault,
@@ -149,9 +119,9 @@ fn run_sized(
     ensures { EitherDone circuit.now fault budget test.old work.old result test.new work.new }
 {
     if n <= 128 {
-        return run_small(circuit, fault, n, inputs, budget, test, work);
+        return run_in::<128, 1024>(circuit, fault, n, inputs, budget, test, work);
     }
-    run_large(circuit, fault, n, inputs, budget, test, work)
+    run_in::<2048, 16384>(circuit, fault, n, inputs, budget, test, work)
 }
 
 // The search of an accepted circuit.

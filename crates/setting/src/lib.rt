@@ -12,7 +12,7 @@ ghost use Rattle.trees.specs.Need.{need_of};
 ghost use Rattle.trees.specs.Setting.{put_pins, set_line, set_below, head_value, set_trees};
 ghost use Rattle.setting.specs.Owed.{alone, both, forced_or, after_zero, selecting, HeadReady, head_or, InputReady, input_put, InputsReady, TreesReady};
 
-use circuit::{equal, source};
+use circuit::source;
 use gates::pins;
 
 // The pin of the first source.
@@ -22,20 +22,14 @@ const FIRST: usize = 1;
 fn on_first(u: u8, s: usize) -> u8
     ensures { result ≡ alone u s }
 {
-    if s != FIRST {
-        return 2;
-    }
-    u
+    if s == FIRST { u } else { 2 }
 }
 
 // Both sources.
 fn on_both(u: u8, s: usize) -> u8
     ensures { result ≡ both u s }
 {
-    if s <= 2 {
-        return u;
-    }
-    2
+    if s <= 2 { u } else { 2 }
 }
 
 // A value that the first source alone can force is put on it, the other one on both.
@@ -43,35 +37,32 @@ fn on_first_or_both(forced: u8, u: u8, s: usize) -> u8
     ensures { result ≡ forced_or forced u s }
 {
     if u == forced {
-        return on_first(u, s);
+        on_first(u, s)
+    } else {
+        on_both(u, s)
     }
-    on_both(u, s)
 }
 
 // The first source 0, and so the second u.
 fn after_zero(u: u8, s: usize) -> u8
     ensures { result ≡ after_zero u s }
 {
-    if s == 1 {
-        return 0;
+    match s {
+        1 => 0,
+        2 => u,
+        _ => 2,
     }
-    if s == 2 {
-        return u;
-    }
-    2
 }
 
 // Select 0, and the first source.
 fn on_selected(u: u8, s: usize) -> u8
     ensures { result ≡ selecting u s }
 {
-    if s == 1 {
-        return u;
+    match s {
+        1 => u,
+        3 => 0,
+        _ => 2,
     }
-    if s == 3 {
-        return 0;
-    }
-    2
 }
 
 // What pin s of a gate of this kind gets that is to have the value v.
@@ -102,13 +93,9 @@ fn put_pins(circuit: &[u8], k: usize, v: u8, want: &mut [u8])
     ensures { want.new ≡ put_pins circuit.now k v (pins_of (kind_at circuit.now k)) want.old }
 {
     let kind = circuit[8 * k];
-    let has = pins(kind);
-    let mut s = 0;
-    while s < has {
-        s += 1;
-        let x = need(kind, v, s);
-        let i = source(circuit, k, s);
-        want[i] = x;
+    for s in 0..pins(kind) {
+        let i = source(circuit, k, s + 1);
+        want[i] = need(kind, v, s + 1);
     }
 }
 
@@ -117,11 +104,9 @@ fn set_line(circuit: &[u8], marks: &[u8], k: usize, want: &mut [u8])
     requires { Sourced circuit.now (length want.old) × Marked circuit.now (length want.old) marks.now × (k < length want.old) }
     ensures { want.new ≡ set_line circuit.now (length want.old) k want.old }
 {
-    if marks[k] == 2 {
-        return;
+    if marks[k] != 2 {
+        put_pins(circuit, k, want[k], want);
     }
-    let v = want[k];
-    put_pins(circuit, k, v, want);
 }
 
 // All lines, the highest first.
@@ -129,9 +114,7 @@ fn set_below(circuit: &[u8], marks: &[u8], want: &mut [u8])
     requires { Sourced circuit.now (length want.old) × Marked circuit.now (length want.old) marks.now }
     ensures { want.new ≡ set_below circuit.now (length want.old) (length want.old) want.old }
 {
-    let mut k = want.len();
-    while 0 < k {
-        k -= 1;
+    for k in (0..want.len()).rev() {
         set_line(circuit, marks, k, want);
     }
 }
@@ -141,10 +124,7 @@ fn head_or(marks: &[u8], node: &[u8], k: usize, used: usize) -> u8
     requires { HeadReady marks.now node.now k used }
     ensures { result ≡ head_or marks.now node.now k used }
 {
-    if marks[k] == 1 {
-        return node[used];
-    }
-    2
+    if marks[k] == 1 { node[used] } else { 2 }
 }
 
 // The head lines get what the node says, the others X.
@@ -152,13 +132,10 @@ fn put_heads(circuit: &[u8], marks: &[u8], node: &[u8], want: &mut [u8])
     requires { Marked circuit.now (length want.old) marks.now × (length node.now ≡ heads_of circuit.now (length want.old)) }
     ensures { want.new ≡ table (head_value circuit.now (length want.old) node.now) (length want.old) }
 {
-    let mut k = 0;
     let mut used = 0;
-    while k < want.len() {
-        let v = head_or(marks, node, k, used);
-        want[k] = v;
-        used += equal(marks[k], 1);
-        k += 1;
+    for (k, value) in want.iter_mut().enumerate() {
+        *value = head_or(marks, node, k, used);
+        used += usize::from(marks[k] == 1);
     }
 }
 
@@ -169,7 +146,6 @@ fn put_input(circuit: &[u8], want: &[u8], k: usize, used: usize, test: &mut [u8]
 {
     if circuit[8 * k] == 0 {
         test[used] = want[k];
-        return;
     }
 }
 
@@ -178,12 +154,10 @@ fn take_inputs(circuit: &[u8], want: &[u8], test: &mut [u8])
     requires { InputsReady circuit.now (length want.now) (length test.old) }
     ensures { test.new ≡ collect (is_input circuit.now) (λ k. get_or want.now k 0) (length want.now) }
 {
-    let mut k = 0;
     let mut used = 0;
-    while k < want.len() {
+    for k in 0..want.len() {
         put_input(circuit, want, k, used, test);
-        used += equal(circuit[8 * k], 0);
-        k += 1;
+        used += usize::from(circuit[8 * k] == 0);
     }
 }
 

@@ -1,47 +1,19 @@
 -- The two halves of the work memory: the second gets what the first has, and is lent to get what a forcing makes of it.
 -- Assumes nothing.
-use mathlib.Core.Path.{◌≡◌, refl, sym, ap, ◌∙◌}
+use mathlib.Core.Path.{◌≡◌, sym, ap, ◌∙◌}
 use mathlib.Core.List.{List, ◌++◌, append-nil}
-use Prim.Native.Nat.{ℕ, ◌+◌, ◌-◌, ◌≤◌, ◌<◌}
-use native.Mathlib.Numerals.{add-one}
+use Prim.Native.Nat.{ℕ, ◌+◌, ◌-◌}
 use native.Mathlib.Omega.{arith}
-use lib.ListN.{length, get_or, take, drop, set, length-set, length-take, length-drop, length-append, take-append-drop, drop_of_length-le}
-use lib.Seq.{take-suc, take-suc-set, take-set-le, drop-set-add, get_or-take, take_at, drop_at, take_all, length-take-le}
+use lib.ListN.{length, take, drop, length-take, length-drop, length-append, drop_of_length-le}
+use lib.Seq.{take_at, drop_at, take_all, length-take-le}
+use Rattle.std.specs.List.{copy_within}
 use Rattle.simulate.specs.Simulate.{Forcing, values_to}
 use Rattle.simulate.specs.Work.{good_of}
 use Rattle.simulate.specs.Owed.{Keeps, ThreeValued, ForcedDone, ForcedValuesDone}
 
--- ---- the loop that copies
-
--- the first half of w is as it was in w₀, and the first k bytes of the second are those of the first
-pub record SoFar (n : ℕ) (w₀ w : List ℕ) (k : ℕ) : Type 0 where
-  pub at_most : k ≤ n
-  pub long : length w ≡ n + n
-  pub first : take n w ≡ take n w₀
-  pub second : take k (drop n w) ≡ take k w₀
-
-pub start : (n : ℕ) (w : List ℕ) → length w ≡ n + n → SoFar n w w 0
-start n w e = record { at_most = omega arith; long = e; first = refl; second = refl }
-
-module _ {n k : ℕ} {w₀ w : List ℕ} (two : length w₀ ≡ n + n) (so : SoFar n w₀ w k) where
-  pub more : k < n → SoFar n w₀ (set w (n + k) (get_or w k 0)) (k + 1)
-  more l =
-      let same : get_or w k 0 ≡ get_or w₀ k 0 =
-      sym (get_or-take n w k 0 l) ∙ ap (λ (x : List ℕ). get_or x k 0) so.first ∙ get_or-take n w₀ k 0 l in
-      let room : k < length (drop n w) = rw (length-drop n w) (omega (arith, so.long)) in
-      record {
-        at_most = omega arith;
-        long = length-set w (n + k) (get_or w k 0) ∙ so.long;
-        first = take-set-le n w (n + k) (get_or w k 0) (omega arith) ∙ so.first;
-        second =
-            rw (add-one, drop-set-add n w k (get_or w k 0), take-suc-set (drop n w) k (get_or w k 0) room, so.second, same, take-suc w₀ k 0 (omega arith));
-      }
-
-  pub finished : n ≤ k → w ≡ take n w₀ ++ take n w₀
-  finished l =
-      let e : k ≡ n = omega (arith, so.at_most) in
-      let half : length (drop n w) ≡ n = rw (length-drop n w) (omega (arith, so.long)) in
-      sym (take-append-drop n w) ∙ rw (so.first, ← take_all k (drop n w) (omega arith), so.second, e)
+-- the second half gets what the first has
+pub copied_half : {A : Type 0} (n : ℕ) (w : List A) → length w ≡ n + n → copy_within w 0 n n ≡ take n w ++ take n w
+copied_half n w two = let all : n - 0 ≡ n = omega arith in rw (all, drop_of_length-le w {i = n + n} (omega arith), append-nil)
 
 -- ---- the second half, lent
 

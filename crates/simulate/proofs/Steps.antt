@@ -3,7 +3,7 @@
 use mathlib.Core.Path.{◌≡◌, refl, sym, ap, ◌∙◌}
 use mathlib.Core.Logic.{⊎_elim}
 use mathlib.Core.List.{List}
-use Prim.Native.Nat.{ℕ, suc, ◌+◌, ◌*◌, ◌-◌, ◌≤◌, ◌<◌, ◌/◌, ◌%◌}
+use Prim.Native.Nat.{ℕ, suc, ◌+◌, ◌*◌, ◌-◌, ◌≤◌, ◌<◌, ◌/◌, ◌%◌, min}
 use native.Mathlib.Nat.{div-add-mod, mul-le-mul_left, mul-suc, mod-eq_of_lt, add-mod_right}
 use native.Mathlib.Omega.{arith}
 use lib.ListN.{length}
@@ -14,7 +14,7 @@ use Rattle.lists.specs.declared.Fault.{Fault}
 use Rattle.simulate.specs.Simulate.{Forcing, stuck_at, in_steps, stuck_in_steps, line_value, gate_value, values_to}
 use Rattle.simulate.specs.Boolean.{Truths, truths_in_steps}
 use Rattle.simulate.specs.Work.{good_of}
-use Rattle.simulate.specs.Owed.{SimulatedTo, Leaves, Keeps, Scope, ThreeValued, EndInside, Smaller, StepsReady, SimulateFaultDone, ForcedDone}
+use Rattle.simulate.specs.Owed.{SimulatedTo, Leaves, Keeps, Scope, ThreeValued, EndInside, StepsReady, SimulateFaultDone, ForcedDone}
 use Rattle.simulate.proofs.Mono.{Monotone}
 use Rattle.simulate.proofs.Alike.{Alike}
 use Rattle.simulate.proofs.Settled.{settled-all}
@@ -79,11 +79,8 @@ module _ (fault : Fault) (step : ℕ) where
   below h l s v _ b = off l s v (λ q. omega (arith, mod-eq_of_lt {n = l} {m = step} (omega arith)))
 
   -- the next end lies behind the line
-  pub after_line : {line lines end : ℕ} → Smaller (line + step) lines end → 0 < step → line < lines → EndInside (on_line line) lines end
-  after_line {line} {lines} small some l = record {
-    at_most = small.at_most;
-    line = ⊎_elim (λ h. omega (arith, small.first (omega arith))) (λ h. omega (arith, small.second h)) (either (line + step) lines);
-  }
+  pub after_line : {line lines end : ℕ} → end ≡ min (line + step) lines → 0 < step → line < lines → EndInside (on_line line) lines end
+  after_line small some l = record { at_most = omega arith; line = omega arith }
 
   -- ---- the loop: vs₀ at the start, vs when it comes to the fault's line in some step, or to the end
 
@@ -107,22 +104,19 @@ module _ (fault : Fault) (step : ℕ) where
   module _ {scope : Scope} {c vs₀ vs : List ℕ} {line : ℕ} (so : SoFar scope c vs₀ vs line) where
     pub more : {vs' : List ℕ} {end : ℕ}
         → line < length vs₀
-        → Smaller (line + step) (length vs₀) end
+        → end ≡ min (line + step) (length vs₀)
         → length vs' ≡ length vs
         → SimulateFaultDone scope (on_line line) c vs end vs'
         → SoFar scope c vs₀ vs' (line + step)
     more {vs'} {end} l small same sim = record {
       on = add-mod_right line step ∙ so.on;
       long = same ∙ so.long;
-      here = λ h p inside q. rw (← small.first h) (settled p inside q);
-      over = λ h p inside q. rw (← small.second h) (settled p inside q);
+      here = λ h p inside q. let e : end ≡ line + step = omega arith in rw (← e) (settled p inside q);
+      over = λ h p inside q. let e : end ≡ length vs₀ = omega arith in rw (← e) (settled p inside q);
     }
       where
-        at_most : end ≤ line + step
-        at_most = ⊎_elim (λ h. omega (arith, small.first (omega arith))) (λ h. omega (arith, small.second h)) (either (line + step) (length vs₀))
-
         settled : Settled scope c vs₀ vs' end
-        settled p inside q = sim in_all p inside (shows line so.on) (leaves line end so.on at_most) (so.here (omega arith) p inside q)
+        settled p inside q = sim in_all p inside (shows line so.on) (leaves line end so.on (omega arith)) (so.here (omega arith) p inside q)
 
     pub finished : length vs₀ ≤ line → ForcedDone scope in_all c vs₀ vs
     finished l p inside q = settled-all so.long (so.over l p inside q)

@@ -102,11 +102,6 @@ pub record EndInside (fault : Fault) (lines end : ℕ) : Type 0 where
   pub at_most : end ≤ lines
   pub line : fault.line < end
 
-pub record Smaller (a b r : ℕ) : Type 0 where
-  pub at_most : r ≤ b
-  pub first : a ≤ b → r ≡ a
-  pub second : b ≤ a → r ≡ b
-
 -- steps of so many lines; the fault is on a line of the first
 pub record StepsReady (fault : Fault) (step lines : ℕ) : Type 0 where
   pub line : fault.line < step

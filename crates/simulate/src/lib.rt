@@ -8,10 +8,10 @@ ghost use Rattle.std.specs.Prelude.{◌≡◌, ◌++◌, ◌+◌, ◌<◌, ◌�
 ghost use Rattle.circuit.specs.Record.{kind_at, Inside};
 ghost use Rattle.simulate.specs.Simulate.{unforced, stuck_at, stuck_in_steps};
 ghost use Rattle.simulate.specs.Work.{good_of};
-ghost use Rattle.simulate.specs.Owed.{Ordered, Shaped, AllSmall, GoodValuesReady, FaultyValuesReady, EndInside, Smaller, StepsReady, input_or, line_in, PinsSmall, InputsFrom};
+ghost use Rattle.simulate.specs.Owed.{Ordered, Shaped, AllSmall, GoodValuesReady, FaultyValuesReady, EndInside, StepsReady, input_or, line_in, PinsSmall, InputsFrom};
 ghost use Rattle.simulate.specs.Owed.{ThreeValued, SimulateDone, SimulateFaultDone, ForcedDone, ForcedValuesDone};
 
-use circuit::{equal, source};
+use circuit::source;
 use gates::gate;
 use lists::Fault;
 
@@ -35,11 +35,8 @@ fn simulate_lines(circuit: &[u8], values: &mut [u8], start: usize, end: usize)
     requires { Ordered circuit.now (length values.old) × (start ≤ end) × (end ≤ length values.old) }
     ensures { SimulateDone ThreeValued circuit.now values.old start end values.new }
 {
-    let mut k = start;
-    while k < end {
-        let v = line_value(circuit, values, k);
-        values[k] = v;
-        k += 1;
+    for k in start..end {
+        values[k] = line_value(circuit, values, k);
     }
 }
 
@@ -59,13 +56,10 @@ fn put_inputs(circuit: &[u8], pattern: &[u8], values: &mut [u8])
     requires { Shaped circuit.now (length pattern.now) (length values.old) }
     ensures { InputsFrom circuit.now pattern.now values.new 0 }
 {
-    let mut k = 0;
     let mut used = 0;
-    while k < values.len() {
-        let v = input_or(circuit, pattern, k, used);
-        values[k] = v;
-        used += equal(circuit[8 * k], 0);
-        k += 1;
+    for (k, value) in values.iter_mut().enumerate() {
+        *value = input_or(circuit, pattern, k, used);
+        used += usize::from(circuit[8 * k] == 0);
     }
 }
 
@@ -124,40 +118,16 @@ fn simulate_fault(circuit: &[u8], fault: Fault, values: &mut [u8], end: usize)
     simulate_lines(circuit, values, line + 1, end);
 }
 
-// The smaller of two numbers.
-pub fn smaller(a: usize, b: usize) -> usize
-    ensures { Smaller a b result }
-{
-    if a < b { a } else { b }
-}
-
 // Turns good values into faulty ones, with the fault in each step of so many lines: from its line in one to its line in the next.
 fn simulate_steps(circuit: &[u8], fault: Fault, step: usize, values: &mut [u8])
     requires { Ordered circuit.now (length values.old) × StepsReady fault step (length values.old) }
     ensures { ForcedDone ThreeValued (stuck_in_steps step fault) circuit.now values.old values.new }
 {
-    let mut line = fault.line;
-    while line < values.len() {
-        let here = Fault {
-            line,
-            site: fault.site,
-            value: fault.value,
-        };
+    let lines = values.len();
+    for line in (fault.line..lines).step_by(step) {
+        let here = Fault { line, ..fault };
         let next = line + step;
-        simulate_fault(circuit, here, values, smaller(next, values.len()));
-        line = next;
-    }
-}
-
-// The second half of the work memory gets what the first has.
-fn copy_half(work: &mut [u8], n: usize)
-    requires { length work.old ≡ n + n }
-    ensures { work.new ≡ take n work.old ++ take n work.old }
-{
-    let mut k = 0;
-    while k < n {
-        work[n + k] = work[k];
-        k += 1;
+        simulate_fault(circuit, here, values, next.min(lines));
     }
 }
 
@@ -166,7 +136,7 @@ pub fn faulty_values(circuit: &[u8], fault: Fault, work: &mut [u8], n: usize)
     requires { FaultyValuesReady circuit.now fault n (length work.old) }
     ensures { ForcedValuesDone (stuck_at fault) circuit.now n work.old work.new }
 {
-    copy_half(work, n);
+    work.copy_within(..n, n);
     simulate_fault(circuit, fault, &mut work[n..], n);
 }
 
@@ -175,6 +145,6 @@ pub fn faulty_in_steps(circuit: &[u8], fault: Fault, step: usize, work: &mut [u8
     requires { FaultyValuesReady circuit.now fault n (length work.old) × StepsReady fault step n }
     ensures { ForcedValuesDone (stuck_in_steps step fault) circuit.now n work.old work.new }
 {
-    copy_half(work, n);
+    work.copy_within(..n, n);
     simulate_steps(circuit, fault, step, &mut work[n..]);
 }

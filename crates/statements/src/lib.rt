@@ -8,7 +8,7 @@ ghost use Rattle.statements.specs.Tables.{kinds_of};
 ghost use Rattle.statements.specs.Owed.{DefsReady, DefsDone, OutsReady, OutsDone, SourcesReady, SourcesDone, KindsReady};
 
 use forms::{kind_in, word_in};
-use ground::{bit, narrow};
+use ground::narrow;
 
 // The word of a line that is defined there.
 fn def_word(form: u8) -> usize
@@ -21,10 +21,7 @@ fn def_word(form: u8) -> usize
 fn is_def(form: u8) -> bool
     ensures { result ≡ (eqb form 1 || leb 3 form) }
 {
-    if form == 1 {
-        return true;
-    }
-    3 <= form
+    form == 1 || 3 <= form
 }
 
 // The number of the name that a line defines, where g is the next gate's and n the next input's.
@@ -49,15 +46,12 @@ pub fn put_defs(
     let mut g = 0;
     let mut n = gates;
     let mut d = 0;
-    let mut k = 0;
-    while k < forms.len() {
-        let form = forms[k];
+    for (k, &form) in forms.iter().enumerate() {
         defs[d] = narrow(word_in(words, ends, k, def_word(form)));
         numbers[d] = narrow(number(form, g, n));
-        g += bit(3 <= form);
-        n += bit(form == 1);
-        d += bit(is_def(form));
-        k += 1;
+        g += usize::from(3 <= form);
+        n += usize::from(form == 1);
+        d += usize::from(is_def(form));
     }
     d
 }
@@ -68,24 +62,18 @@ pub fn put_outs(words: &[u16], ends: &[u16], forms: &[u8], outs: &mut [u16]) -> 
     ensures { OutsDone words.now ends.now forms.now outs.new result }
 {
     let mut d = 0;
-    let mut k = 0;
-    while k < forms.len() {
+    for (k, &form) in forms.iter().enumerate() {
         outs[d] = narrow(word_in(words, ends, k, 1));
-        d += bit(forms[k] == 2);
-        k += 1;
+        d += usize::from(form == 2);
     }
     d
 }
 
 // The word of a gate's line that is its second source: the last.
 fn last_word(form: u8) -> usize
-    requires { form < 5 }
-    ensures { (result ≡ form - 1) × (result < 5) }
+    ensures { (result ≡ form - 1) × (result < 256) }
 {
-    if form == 0 {
-        return 0;
-    }
-    (form as usize) - 1
+    usize::from(form).saturating_sub(1)
 }
 
 // The names of each gate's sources.
@@ -100,13 +88,10 @@ pub fn put_sources(
     ensures { SourcesDone words.now ends.now forms.now firsts.new seconds.new }
 {
     let mut g = 0;
-    let mut k = 0;
-    while k < forms.len() {
-        let form = forms[k];
+    for (k, &form) in forms.iter().enumerate() {
         firsts[g] = narrow(word_in(words, ends, k, 2));
         seconds[g] = narrow(word_in(words, ends, k, last_word(form)));
-        g += bit(3 <= form);
-        k += 1;
+        g += usize::from(3 <= form);
     }
 }
 
@@ -116,11 +101,8 @@ pub fn put_kinds(text: &[u8], words: &[u16], ends: &[u16], forms: &[u8], kinds: 
     ensures { take (gates_in forms.now) kinds.new ≡ kinds_of text.now words.now ends.now forms.now }
 {
     let mut g = 0;
-    let mut k = 0;
-    while k < forms.len() {
-        let form = forms[k];
+    for (k, &form) in forms.iter().enumerate() {
         kinds[g] = kind_in(text, words, ends, form, k);
-        g += bit(3 <= form);
-        k += 1;
+        g += usize::from(3 <= form);
     }
 }

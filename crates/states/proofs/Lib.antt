@@ -1,4 +1,3 @@
 pub mod Records
 pub mod Says
-pub mod Seen
 pub mod Steps

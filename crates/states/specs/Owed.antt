@@ -1,22 +1,16 @@
 -- What the functions of the clocked circuit's check owe each other and their callers; no reader of the promises needs it.
 -- Assumes nothing.
-use Rattle.std.specs.Prelude.{◌≡◌, Bool, not, ◌&&◌, List, ℕ, ◌+◌, ◌*◌, ◌≤◌, eqb, leb, length, Result}
-use Rattle.ground.specs.Below.{first_not}
+use Rattle.std.specs.Prelude.{◌≡◌, Bool, ◌&&◌, List, ℕ, ◌+◌, ◌*◌, ◌≤◌, leb, length, Result}
 use Rattle.answers.specs.Rules.{Rule, refusal}
 use Rattle.answers.specs.Answer.{answered}
 use Rattle.circuit.specs.Record.{lines_of}
 use Rattle.states.specs.declared.Clocked.{Clocked}
-use Rattle.states.specs.States.{state_line}
 use Rattle.states.specs.Rules.{inputs_after, clocked_rules, clocked_are}
 use Rattle.answers.specs.declared.Refusal.{Refusal}
 
 -- a whole record stands at place r of these bytes
 pub record StateInside (st : List ℕ) (r : ℕ) : Type 0 where
   pub inside : 4 * r + 4 ≤ length st
-
--- the first of n records whose state line is m, or n
-unfoldable pub first_with : List ℕ → ℕ → ℕ → ℕ
-first_with st n m = first_not n (λ r. not (eqb (state_line st r) m))
 
 -- 1 to 8 steps
 abbrev pub steps_ok : ℕ → Bool

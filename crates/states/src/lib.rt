@@ -2,14 +2,13 @@
 #![tactic(auto)]
 
 ghost use Rattle.std.specs.Prelude.{◌≡◌, ◌*◌, ◌≤◌, length};
-ghost use Rattle.ground.specs.Choose.{one};
-ghost use Rattle.ground.specs.Below.{first_not};
+ghost use Rattle.ground.specs.Below.{first_failing};
 ghost use Rattle.answers.specs.Rules.{refusal};
 ghost use Rattle.circuit.specs.Record.{Inside};
 ghost use Rattle.circuit.specs.Formed.{Known};
 ghost use Rattle.states.specs.States.{data_line, state_line, state_record, is_free, free_before};
 ghost use Rattle.states.specs.Rules.{state_ok, inputs_after, step_rules};
-ghost use Rattle.states.specs.Owed.{StateInside, first_with, steps_ok, clocked_by, ClockedChecked};
+ghost use Rattle.states.specs.Owed.{StateInside, steps_ok, clocked_by, ClockedChecked};
 ghost use Rattle.states.specs.Rules.{state_rules, after_rules};
 
 use answers::{Reason, Refusal};
@@ -41,26 +40,12 @@ fn state_line(states: &[u8], r: usize) -> usize
     pair_at(states, 4 * r + 2)
 }
 
-// The first of n records whose state line is m, or n.
-fn first_with(states: &[u8], n: usize, m: usize) -> usize
-    requires { 4 * n ≤ length states.now }
-    ensures { result ≡ first_with states.now n m }
-{
-    let mut r = 0;
-    while r < n {
-        if state_line(states, r) == m {
-            return r;
-        }
-        r += 1;
-    }
-    n
-}
-
 // The first record whose state line is m, or their number.
 pub fn state_record(states: &[u8], m: usize) -> usize
     ensures { result ≡ state_record states.now m }
 {
-    first_with(states, states.len() / 4, m)
+    let n = states.len() / 4;
+    (0..n).find(|&r| state_line(states, r) == m).unwrap_or(n)
 }
 
 // ---- refusal 18: the records
@@ -71,32 +56,19 @@ fn state_ok(circuit: &[u8], states: &[u8], r: usize) -> bool
     ensures { result ≡ state_ok circuit.now states.now r }
 {
     let n = circuit.len() / 8;
-    if n <= data_line(states, r) {
-        return false;
-    }
     let m = state_line(states, r);
-    if n <= m {
-        return false;
-    }
-    if circuit[8 * m] != 0 {
-        return false;
-    }
-    r <= first_with(states, r, m)
+    data_line(states, r) < n
+        && m < n
+        && circuit[8 * m] == 0
+        && !(0..r).any(|q| state_line(states, q) == m)
 }
 
-// The first of n records that is bad, or n.
-fn first_bad_state(circuit: &[u8], states: &[u8], n: usize) -> usize
+// The first of n records that is bad.
+fn first_bad_state(circuit: &[u8], states: &[u8], n: usize) -> Option<usize>
     requires { 4 * n ≤ length states.now }
-    ensures { result ≡ first_not n (state_ok circuit.now states.now) }
+    ensures { result ≡ first_failing n (state_ok circuit.now states.now) }
 {
-    let mut r = 0;
-    while r < n {
-        if !state_ok(circuit, states, r) {
-            return r;
-        }
-        r += 1;
-    }
-    n
+    (0..n).find(|&r| !state_ok(circuit, states, r))
 }
 
 // Whole records, each of which keeps its layout.
@@ -107,8 +79,7 @@ fn check_states(circuit: &[u8], states: &[u8]) -> Result<(), Refusal>
         return Err(Refusal(Reason::StateRecords, 0));
     }
     let n = states.len() / 4;
-    let bad = first_bad_state(circuit, states, n);
-    if bad < n {
+    if let Some(bad) = first_bad_state(circuit, states, n) {
         return Err(Refusal(Reason::StateRecords, bad));
     }
     Ok(())
@@ -116,33 +87,24 @@ fn check_states(circuit: &[u8], states: &[u8]) -> Result<(), Refusal>
 
 // ---- refusal 19: the sizes after unfolding
 
-// 1 where line m is an input and no state line, else 0. Only an input is looked for among the records.
-fn is_free(circuit: &[u8], states: &[u8], m: usize) -> usize
+// Line m is an input and no state line. Only an input is looked for among the records.
+fn is_free(circuit: &[u8], states: &[u8], m: usize) -> bool
     requires { Inside circuit.now m }
-    ensures { (result ≡ one (is_free circuit.now states.now m)) × (result ≤ 1) }
+    ensures { result ≡ is_free circuit.now states.now m }
 {
     if circuit[8 * m] != 0 {
-        return 0;
+        return false;
     }
     let held = state_record(states, m) < states.len() / 4;
-    if held {
-        return 0;
-    }
-    1
+    !held
 }
 
-// How many of n lines.
+// How many of n lines are.
 fn free_inputs(circuit: &[u8], states: &[u8], n: usize) -> usize
     requires { 8 * n ≤ length circuit.now }
     ensures { (result ≡ free_before circuit.now states.now n) × (result ≤ n) }
 {
-    let mut free = 0;
-    let mut m = 0;
-    while m < n {
-        free += is_free(circuit, states, m);
-        m += 1;
-    }
-    free
+    (0..n).filter(|&m| is_free(circuit, states, m)).count()
 }
 
 // The answer where the records are fine, by the sizes: n lines in a step.
@@ -164,10 +126,7 @@ fn sized(n: usize, lines: usize, inputs: usize) -> Result<Clocked, Refusal>
 fn steps_ok(steps: usize) -> bool
     ensures { result ≡ steps_ok steps }
 {
-    if steps < 1 {
-        return false;
-    }
-    steps <= 8
+    1 <= steps && steps <= 8
 }
 
 // Refusals 21, 18 and 19, of an accepted circuit.

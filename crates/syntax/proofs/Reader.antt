@@ -92,8 +92,6 @@ module _ {t : List ℕ} {i q : ℕ} (s : SoFar t i q) where
     unfolding syntax_rules refusal said
     ended l = rw (← passed h s.go_on, le-ltb (length t) (length t) (omega arith), at_end, lt-ltb q 4 l)
 
-    pub early : 4 ≤ q → Err (BenchSyntax, i) ≡ refusal (syntax_rules t)
+    pub early : 4 ≤ q → Err (BenchSyntax, length t) ≡ refusal (syntax_rules t)
     unfolding syntax_rules refusal said
-    early l =
-        let e : i ≡ length t = omega (arith, s.at_most) in
-        rw (← passed h s.go_on, le-ltb (length t) (length t) (omega arith), at_end, le-ltb q 4 l, e)
+    early l = rw (← passed h s.go_on, le-ltb (length t) (length t) (omega arith), at_end, le-ltb q 4 l)

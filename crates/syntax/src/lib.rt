@@ -9,7 +9,6 @@ ghost use Rattle.syntax.specs.Owed.{SymbolTable, StateTable, Row, RowTable, stat
 ghost use Rattle.syntax.specs.Syntax.{syntax_rules};
 
 use answers::{Reason, Refusal};
-use ground::{narrow, wide, wide16};
 
 // The most bytes of a text.
 const MOST_BYTES: usize = 32768;
@@ -134,22 +133,19 @@ fn state_table() -> [u8; 1817]
 }
 
 // The symbol of a byte.
+#[tactic(auto, using(crate::proofs::Table::symbol_at, crate::proofs::Table::symbol_small))]
 fn symbol_of(symbols: &[u8; 256], b: u8) -> usize
     requires { SymbolTable symbols.now }
     ensures { (result ≡ symbol b) × (result < 21) }
 {
-    let i = wide(b);
-    wide(symbols[i] - b'a')
+    usize::from(symbols[usize::from(b)] - b'a')
 }
 
 // Where the row of the state with this character begins; the blank of a row is no state.
 fn row_of(b: u8) -> u16
     ensures { result ≡ 23 * (b - 46) }
 {
-    if b < b'.' {
-        return 0;
-    }
-    narrow(23 * wide(b - b'.'))
+    23 * u16::from(b.saturating_sub(b'.'))
 }
 
 // Puts the beginning of its row for each character.
@@ -157,19 +153,18 @@ fn put_rows(states: &[u8; 1817], rows: &mut [u16])
     requires { StateTable states.now × (length rows.old ≡ 1817) }
     ensures { RowTable rows.new }
 {
-    let mut k = 0;
-    while k < 1817 {
-        rows[k] = row_of(states[k]);
-        k += 1;
+    for (k, &state) in states.iter().enumerate() {
+        rows[k] = row_of(state);
     }
 }
 
 // The row of the state after a symbol.
+#[tactic(auto, using(crate::proofs::Rows::step_from))]
 fn step(rows: &[u16], q: usize, c: usize) -> usize
     requires { RowTable rows.now × Row q × (c < 21) }
     ensures { (state_of (result / 23) ≡ next (state_of (q / 23)) c) × Row result }
 {
-    wide16(rows[q + 2 + c])
+    usize::from(rows[q + 2 + c])
 }
 
 // Walks the rows, byte by byte.
@@ -178,22 +173,20 @@ fn walk(text: &[u8], symbols: &[u8; 256], rows: &[u16]) -> Result<(), Refusal>
     ensures { result ≡ refusal (syntax_rules text.now) }
 {
     let mut q = 23;
-    let mut i = 0;
-    while i < text.len() {
+    for (i, &b) in text.iter().enumerate() {
         if i == MOST_BYTES {
             return Err(Refusal(Reason::BenchSyntax, i));
         }
-        let n = step(rows, q, symbol_of(symbols, text[i]));
+        let n = step(rows, q, symbol_of(symbols, b));
         if n == 0 {
             return Err(Refusal(Reason::BenchSyntax, i));
         }
         q = n;
-        i += 1;
     }
     if q < NO_END {
         return Ok(());
     }
-    Err(Refusal(Reason::BenchSyntax, i))
+    Err(Refusal(Reason::BenchSyntax, text.len()))
 }
 
 // In memory for the rows.

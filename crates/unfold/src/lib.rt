@@ -25,12 +25,8 @@ fn mark_data(states: &[u8], marks: &mut [u8])
     requires { MarkDataReady states.now marks.old }
     ensures { MarkDataDone states.now marks.new }
 {
-    let n = states.len() / 4;
-    let mut r = 0;
-    while r < n {
-        let m = data_line(states, r);
-        marks[m] = 1;
-        r += 1;
+    for r in 0..states.len() / 4 {
+        marks[data_line(states, r)] = 1;
     }
 }
 
@@ -159,10 +155,8 @@ fn put_step(
     ensures { Put buffer.old buffer.new from (step_to circuit.now states.now steps i n) result }
 {
     let mut at = from;
-    let mut m = 0;
-    while m < n {
+    for m in 0..n {
         at = put_step_line(circuit, states, marks, n, steps, i, m, buffer, at);
-        m += 1;
     }
     at
 }
@@ -173,10 +167,8 @@ fn put_steps(circuit: &[u8], states: &[u8], marks: &[u8], n: usize, steps: usize
     ensures { buffer.new ≡ unfolded circuit.now states.now steps }
 {
     let mut at = 0;
-    let mut i = 0;
-    while i < steps {
+    for i in 0..steps {
         at = put_step(circuit, states, marks, n, steps, i, buffer, at);
-        i += 1;
     }
 }
 

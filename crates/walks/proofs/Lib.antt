@@ -1,4 +1,3 @@
 pub mod Reaches
-pub mod Alike
 pub mod Sides
 pub mod Start

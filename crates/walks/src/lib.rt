@@ -67,12 +67,8 @@ pub fn reach_all(reaches: &mut [u8], counts: &mut [u64], reach: u8)
     requires { length counts.old ≡ length reaches.old }
     ensures { AllReach reaches.new counts.new reach (length reaches.old) }
 {
-    let mut i = 0;
-    while i < reaches.len() {
-        reaches[i] = reach;
-        counts[i] = 0;
-        i += 1;
-    }
+    reaches.fill(reach);
+    counts.fill(0);
 }
 
 // What a reach says in the end: a search that could go on, but has no node left, is redundant.
@@ -86,10 +82,8 @@ fn outcome_by(reach: u8) -> u8
 fn end_all(reaches: &mut [u8])
     ensures { BecameOutcomes reaches.old reaches.new (length reaches.old) }
 {
-    let mut i = 0;
-    while i < reaches.len() {
-        reaches[i] = outcome_by(reaches[i]);
-        i += 1;
+    for reach in reaches.iter_mut() {
+        *reach = outcome_by(*reach);
     }
 }
 

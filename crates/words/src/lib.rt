@@ -6,47 +6,27 @@ ghost use Rattle.ground.specs.Choose.{choose, one};
 ghost use Rattle.words.specs.Words.{word_byte, word_at, same, mode};
 ghost use Rattle.words.specs.Owed.{CutRoom, CutDone, KeywordReady, WordTable};
 
-use ground::{bit, narrow, wide};
+use ground::narrow;
 
 // The byte with which a comment begins, #.
-const COMMENT: u8 = 35;
+const COMMENT: u8 = b'#';
 
 // A letter, a digit or _.
+#[tactic(auto, using(crate::proofs::Ranges::by_ranges))]
 pub fn is_word(b: u8) -> bool
     ensures { result ≡ word_byte b }
 {
-    if b < 48 {
-        return false;
-    }
-    if b <= 57 {
-        return true;
-    }
-    if b < 65 {
-        return false;
-    }
-    if b <= 90 {
-        return true;
-    }
-    if b == 95 {
-        return true;
-    }
-    if b < 97 {
-        return false;
-    }
-    b <= 122
+    b.is_ascii_alphanumeric() || b == b'_'
 }
 
 // The byte at a place, or 0 past the end.
 pub fn byte(text: &[u8], i: usize) -> u8
     ensures { result ≡ get_or text.now i 0 }
 {
-    if i < text.len() {
-        return text[i];
-    }
-    0
+    text.get(i).copied().unwrap_or(0)
 }
 
-// Whether the words at two places are the same.
+// Whether the words at two places are the same. A `while`, since no slice says where a word ends: its bytes do.
 pub fn same_word(text: &[u8], i: usize, j: usize) -> bool
     ensures { result ≡ same (word_at text.now i) (word_at text.now j) }
 {
@@ -67,14 +47,12 @@ pub fn is_name(text: &[u8], at: usize, name: &[u8]) -> bool
     requires { KeywordReady name.now at }
     ensures { result ≡ same (word_at text.now at) name.now }
 {
-    let mut k = 0;
-    while k < name.len() {
-        if byte(text, at + k) != name[k] {
+    for (k, &letter) in name.iter().enumerate() {
+        if byte(text, at + k) != letter {
             return false;
         }
-        k += 1;
     }
-    !is_word(byte(text, at + k))
+    !is_word(byte(text, at + name.len()))
 }
 
 // Whether each byte belongs to a word: `w` if so, 32 bytes to a line.
@@ -93,42 +71,34 @@ fn word_table() -> [u8; 256]
 }
 
 // Whether a byte belongs to a word, by the table.
+#[tactic(auto, using(crate::proofs::Table::byte_at))]
 fn in_word(table: &[u8; 256], b: u8) -> bool
     requires { WordTable table.now }
     ensures { result ≡ word_byte b }
 {
-    let i = wide(b);
-    table[i] == b'w'
+    table[usize::from(b)] == b'w'
 }
 
-// Where a byte leads: 0 between words, 1 in a word, 2 in a comment. The caller knows whether the byte belongs to a word.
+// Where a byte leads: 0 between words, 1 in a word, 2 in a comment, as the definition `mode` numbers them. The caller knows whether the byte belongs to a word.
+#[tactic(auto, unfolding(crate::specs::Words::mode))]
 fn lead(m: u8, b: u8, x: bool) -> u8
     requires { x ≡ word_byte b }
     ensures { result ≡ mode m b }
 {
-    if b == 10 {
-        return 0;
+    if b == b'\n' {
+        0
+    } else if m == 2 || b == COMMENT {
+        2
+    } else {
+        u8::from(x)
     }
-    if m == 2 {
-        return 2;
-    }
-    if b == COMMENT {
-        return 2;
-    }
-    if x {
-        return 1;
-    }
-    0
 }
 
 // Whether a word begins with a byte that belongs to a word or not.
 fn begun(m: u8, x: bool) -> bool
     ensures { result ≡ (eqb m 0 && x) }
 {
-    if m != 0 {
-        return false;
-    }
-    x
+    m == 0 && x
 }
 
 // Where line k ends here, writes how many words stand before its end. The line after this byte.
@@ -136,7 +106,7 @@ fn end_line(ends: &mut [u16], k: usize, w: usize, b: u8) -> usize
     requires { (k < length ends.old) × (w < 65536) × (k < 65536) }
     ensures { (ends.new ≡ choose (eqb b 10) (set ends.old k w) ends.old) × (result ≡ k + one (eqb b 10)) }
 {
-    if b == 10 {
+    if b == b'\n' {
         ends[k] = narrow(w);
         return k + 1;
     }
@@ -159,15 +129,12 @@ pub fn cut(text: &[u8], words: &mut [u16], ends: &mut [u16]) -> Found
     let mut m = 0;
     let mut w = 0;
     let mut k = 0;
-    let mut i = 0;
-    while i < text.len() {
-        let b = text[i];
+    for (i, &b) in text.iter().enumerate() {
         let x = in_word(&table, b);
         k = end_line(ends, k, w, b);
         words[w] = narrow(i);
-        w += bit(begun(m, x));
+        w += usize::from(begun(m, x));
         m = lead(m, b, x);
-        i += 1;
     }
     ends[k] = narrow(w);
     Found {

@@ -15,7 +15,7 @@ bounds-places-k c = omega (arith, partly_long c.loop-k.invariant, c.loop-k.invar
 
 pub loop-k-preserved : goal.loop-k-preserved
 loop-k-preserved c =
-    rw (zero-add c.loop-k.k) at (partly_more 0 c.loop-k.invariant c.loop-k-test.true c.wide16.ensures.0)
+    rw (zero-add c.loop-k.k) at (partly_more 0 c.loop-k.invariant c.loop-k-test.true c.from.ensures)
 
 pub returns : goal.returns
 returns c = all_over c.loop-k.invariant c.if-places-ne-PLACES.false c.requires c.loop-k-test.false

@@ -1,12 +1,7 @@
 -- `bench_names::hand_over` meets its contract. The invariant: the places of the lines below k are written.
 -- Assumes nothing.
-use Prim.Native.Nat.{◌-◌}
-use lib.ListN.{length}
 use Rattle.ground.proofs.Put.{Partly}
 use Rattle.bench_names.proofs.hand_over.Given as goal
 
 abbrev pub invariant-loop-k : goal.invariant-loop-k
 invariant-loop-k l = Partly l.found l.initial.places 0 l.places l.k
-
-abbrev pub decreases-loop-k : goal.decreases-loop-k
-decreases-loop-k l = length l.found - l.k

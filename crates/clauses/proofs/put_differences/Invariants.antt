@@ -1,6 +1,5 @@
 -- `clauses::put_differences` meets its contract. The invariant: the lines below k have been written, and j of them are outputs.
 -- Assumes nothing.
-use Prim.Native.Nat.{◌-◌}
 use Rattle.clauses.proofs.Loops.{SoFar}
 use Rattle.line_clauses.specs.Clauses.{difference_clauses}
 use Rattle.circuit.specs.Record.{is_output}
@@ -9,6 +8,3 @@ use Rattle.clauses.proofs.put_differences.Given as goal
 
 abbrev pub invariant-loop-k : goal.invariant-loop-k
 invariant-loop-k l = SoFar (difference_clauses l.circuit l.n) l.n l.initial.words l.at l.words l.next l.k × Sum (is_output l.circuit) l.n l.k l.j
-
-abbrev pub decreases-loop-k : goal.decreases-loop-k
-decreases-loop-k l = l.n - l.k

@@ -10,14 +10,14 @@ use Rattle.clauses.proofs.put_last.Goals as goal
 pub loop-j-init : goal.loop-j-init
 loop-j-init c = last_none _ _ _ _
 
-pub plus-z-requires : goal.plus-z-requires
-plus-z-requires c = variable (omega arith)
+pub plus-requires : goal.plus-requires
+plus-requires c = variable (omega arith)
 
 pub bounds-words-at : goal.bounds-words-at
 bounds-words-at c = omega (arith, put_long c.loop-j.invariant.put)
 
 pub loop-j-preserved : goal.loop-j-preserved
-loop-j-preserved c = last_more c.loop-j.invariant (omega arith) (rw c.plus-z.ensures (plus_is _ (variable (omega arith))))
+loop-j-preserved c = last_more c.loop-j.invariant (omega arith) (rw c.plus.ensures (plus_is _ (variable (omega arith))))
 
 pub slice_set_of-words : goal.slice_set_of-words
 slice_set_of-words c = omega (arith, put_long c.loop-j.invariant.put)

@@ -1,11 +1,7 @@
 -- `clauses::put_last` meets its contract. The invariant: j literals have been written.
 -- Assumes nothing.
-use Prim.Native.Nat.{◌-◌}
 use Rattle.clauses.proofs.Loops.{LastSoFar}
 use Rattle.clauses.proofs.put_last.Given as goal
 
 abbrev pub invariant-loop-j : goal.invariant-loop-j
 invariant-loop-j l = LastSoFar l.n l.outputs l.initial.words l.at l.words l.j
-
-abbrev pub decreases-loop-j : goal.decreases-loop-j
-decreases-loop-j l = l.outputs - l.j

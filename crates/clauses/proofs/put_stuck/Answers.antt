@@ -11,10 +11,10 @@ pub returns-then-fault-eq-PLAIN : goal.returns-then-fault-eq-PLAIN
 returns-then-fault-eq-PLAIN c =
     let number = 2 * c.args.n + 1 in
     rw (eq-eqb _ _ c.if-fault-eq-PLAIN.true, ← plus_back {v = number} (variable (omega arith)) c.plus.ensures)
-    c.put_single.ensures
+    c.put_clause.ensures
 
 pub returns : goal.returns
 returns c =
     let number = 2 * c.args.n + 1 in
     rw (ne_eqb _ _ c.if-fault-eq-PLAIN.false, ← minus_back {v = number} (variable (omega arith)) c.minus.ensures)
-    c.put_single-2.ensures
+    c.put_clause-2.ensures

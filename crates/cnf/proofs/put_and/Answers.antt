@@ -8,4 +8,4 @@ pub returns : goal.returns
 returns c =
     let fits = c.ranges in
     simp (to_z-of_z fits.y, to_z-of_z fits.not_y, to_z-of_z fits.a, to_z-of_z fits.not_a, to_z-of_z fits.b, to_z-of_z fits.not_b) at
-    (put_then c.put_pair-second.ensures (put_then c.put_pair-third.ensures c.put_triple.ensures))
+    (put_then c.put_clause-second.ensures (put_then c.put_clause-third.ensures c.put_clause.ensures))

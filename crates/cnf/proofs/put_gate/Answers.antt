@@ -16,7 +16,7 @@ put_shape-requires c =
 pub returns : goal.returns
 returns c =
     let pre = c.requires.1 in
-    rw (shape_is _ _ _ _ _ c.requires.0 c.if-kind-eq0.false _ _ c.is_one_of-own.ensures c.is_one_of-pins.ensures)
+    rw (shape_is _ _ _ _ _ c.requires.0 c.if-kind-eq0.false _ _ c.negates_gate-own.ensures c.negates_pins-pins.ensures)
     (rw (
       literal_back _ _ pre.own c.literal-p.ensures,
       literal_back _ _ pre.own c.literal-not_p.ensures,

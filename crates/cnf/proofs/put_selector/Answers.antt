@@ -1,26 +1,9 @@
 -- `cnf::put_selector` meets its contract: the four clauses of the row, one after the other.
 -- Assumes nothing.
-use borrow.Author.Rules.{rules}
 use Rattle.cnf.specs.Table.{clause_table, gate_clauses}
 use Rattle.ground.proofs.Put.{put_then}
 use Rattle.cnf.proofs.Signed.{plus_back, minus_back}
 use Rattle.cnf.proofs.put_selector.Goals as goal
-
-pub put_triple-second-requires : goal.put_triple-second-requires
-unfolding gate_clauses clause_table
-put_triple-second-requires c = search rules
-
-pub put_triple-third-requires : goal.put_triple-third-requires
-unfolding gate_clauses clause_table
-put_triple-third-requires c = search rules
-
-pub put_triple-fourth-requires : goal.put_triple-fourth-requires
-unfolding gate_clauses clause_table
-put_triple-fourth-requires c = search rules
-
-pub put_triple-requires : goal.put_triple-requires
-unfolding gate_clauses clause_table
-put_triple-requires c = search rules
 
 pub returns : goal.returns
 unfolding gate_clauses clause_table
@@ -36,6 +19,6 @@ returns c =
       plus_back pre.second c.plus-2.ensures,
       minus_back pre.second c.minus-2.ensures,
     ) at
-    (put_then c.put_triple-second.ensures
-    (put_then c.put_triple-third.ensures
-    (put_then c.put_triple-fourth.ensures c.put_triple.ensures)))
+    (put_then c.put_clause-second.ensures
+    (put_then c.put_clause-third.ensures
+    (put_then c.put_clause-fourth.ensures c.put_clause.ensures)))

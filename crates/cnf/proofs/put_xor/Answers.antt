@@ -8,6 +8,6 @@ pub returns : goal.returns
 returns c =
     let fits = c.ranges in
     simp (to_z-of_z fits.y, to_z-of_z fits.not_y, to_z-of_z fits.a, to_z-of_z fits.not_a, to_z-of_z fits.b, to_z-of_z fits.not_b) at
-    (put_then c.put_triple-second.ensures
-    (put_then c.put_triple-third.ensures
-    (put_then c.put_triple-fourth.ensures c.put_triple.ensures)))
+    (put_then c.put_clause-second.ensures
+    (put_then c.put_clause-third.ensures
+    (put_then c.put_clause-fourth.ensures c.put_clause.ensures)))

@@ -4,14 +4,14 @@ use native.Mathlib.Omega.{arith}
 use Rattle.columns.proofs.Loop.{start, inside, more, finished}
 use Rattle.columns.proofs.put_column.Goals as goal
 
-pub loop-i-init : goal.loop-i-init
-loop-i-init c = start _ _ _ _ _ _
+pub loop-lane-init : goal.loop-lane-init
+loop-lane-init c = start _ _ _ _ _ _
 
 pub bounds-table-at : goal.bounds-table-at
-bounds-table-at c = inside c.requires c.loop-i.invariant (omega arith)
+bounds-table-at c = inside c.requires c.loop-lane.invariant (omega arith)
 
-pub loop-i-preserved : goal.loop-i-preserved
-loop-i-preserved c = more c.requires c.loop-i.invariant (omega arith)
+pub loop-lane-preserved : goal.loop-lane-preserved
+loop-lane-preserved c = more c.requires c.loop-lane.invariant (omega arith)
 
 pub returns : goal.returns
-returns c = finished c.args.entries c.requires c.loop-i.invariant (omega arith)
+returns c = finished c.args.entries c.requires c.loop-lane.invariant (omega arith)

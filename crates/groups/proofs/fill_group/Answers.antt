@@ -25,10 +25,6 @@ put_column-requires c =
     let inv = c.loop-j.invariant in
     rw (inv.0, inv.1) (column_ready inv.2 c.requires.0 (omega arith))
 
-pub overflow_add-j : goal.overflow_add-j
-overflow_add-j c =
-    omega (arith, c.requires.0.faults.few)
-
 pub loop-j-preserved : goal.loop-j-preserved
 loop-j-preserved c =
     let inv = c.loop-j.invariant in

@@ -5,11 +5,11 @@ use mathlib.Core.Path.{refl}
 use Rattle.groups.proofs.Groups.{start, still, more, finished}
 use Rattle.groups.proofs.fill_groups_in_steps.Goals as goal
 
-pub group_count-groups-requires : goal.group_count-groups-requires
-group_count-groups-requires c = c.requires.0.patterns.few
+pub group_count-g-end-requires : goal.group_count-g-end-requires
+group_count-g-end-requires c = c.requires.0.patterns.few
 
 pub loop-g-init : goal.loop-g-init
-loop-g-init c = (refl, c.group_count-groups.ensures, start _ _ _ c.requires.0)
+loop-g-init c = (refl, c.group_count-g-end.ensures, start _ _ _ c.requires.0)
 
 pub overflow_mul-from : goal.overflow_mul-from
 overflow_mul-from c =

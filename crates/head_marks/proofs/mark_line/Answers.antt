@@ -15,6 +15,6 @@ pub returns-then-is_bound : goal.returns-then-is_bound
 returns-then-is_bound c =
     λ so. bound-marked c.requires c.args.marks.now so refl c.is_bound.ensures c.if-is_bound.true c.mark_sources.ensures
 
-pub returns : goal.returns
-returns c =
+pub returns-else-is_bound : goal.returns-else-is_bound
+returns-else-is_bound c =
     λ so. free-left c.requires c.args.marks.now so c.is_bound.ensures c.if-is_bound.false

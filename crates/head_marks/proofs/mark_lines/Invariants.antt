@@ -1,12 +1,7 @@
 -- `head_marks::mark_lines` meets its contract: the readings are counted, then the lines have their turns in order.
 -- Assumes nothing.
-use Prim.Native.Nat.{◌-◌}
-use lib.ListN.{length}
 use Rattle.head_marks.proofs.Lines.{Turns}
 use Rattle.head_marks.proofs.mark_lines.Given as goal
 
 abbrev pub invariant-loop-k : goal.invariant-loop-k
 invariant-loop-k l = Turns l.circuit l.reads l.initial.marks l.marks l.k
-
-abbrev pub decreases-loop-k : goal.decreases-loop-k
-decreases-loop-k l = length l.initial.marks - l.k

@@ -13,4 +13,4 @@ pub returns : goal.returns
 returns c =
     let below : c.source-i.result < length c.args.marks.now =
     omega (arith, c.source-i.ensures, c.requires.0.inside c.args.k c.args.s c.requires.1 c.requires.2 c.requires.3) in
-    pin-marked _ _ _ _ c.source-i.ensures below c.read_by_bound-mark.ensures
+    pin-marked _ _ _ _ c.source-i.ensures below c.read_by_bound.ensures

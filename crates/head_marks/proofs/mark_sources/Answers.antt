@@ -12,7 +12,7 @@ loop-s-init c = no_source _ _ _ _
 pub mark_source-requires : goal.mark_source-requires
 mark_source-requires c =
     let few = few_pins (kind_at c.args.circuit.now c.args.k) in
-    rw c.loop-s.invariant.long (c.requires.0, c.requires.1, omega arith, omega (arith, c.pins-has.ensures))
+    rw c.loop-s.invariant.long (c.requires.0, c.requires.1, omega arith, omega (arith, c.pins-s-end.ensures))
 
 pub loop-s-preserved : goal.loop-s-preserved
 loop-s-preserved c =
@@ -20,4 +20,4 @@ loop-s-preserved c =
     next_source c.loop-s.invariant (omega arith) call.auto.marks call.ensures
 
 pub returns : goal.returns
-returns c = all_sources c.loop-s.invariant (omega arith) c.pins-has.ensures
+returns c = all_sources c.loop-s.invariant (omega arith) c.pins-s-end.ensures

@@ -6,5 +6,5 @@ use Rattle.head_marks.proofs.read_by_bound.Goals as goal
 pub returns-then-mark-eq2 : goal.returns-then-mark-eq2
 returns-then-mark-eq2 c = stays_bound c.if-mark-eq2.true
 
-pub returns : goal.returns
-returns c = becomes_read c.if-mark-eq2.false
+pub returns-else-mark-eq2 : goal.returns-else-mark-eq2
+returns-else-mark-eq2 c = becomes_read c.if-mark-eq2.false

@@ -3,26 +3,19 @@
 use Rattle.inspect.proofs.InOrder.{found-lost, found-pair, spare-ready, found-spare, found_sound}
 use Rattle.inspect.proofs.find.Goals as goal
 
-pub returns-then-lost-faults : goal.returns-then-lost-faults
-returns-then-lost-faults c =
-    found-lost c.requires c.first_lost-lost.ensures c.if-lost-faults.true
+pub returns-in-Some : goal.returns-in-Some
+returns-in-Some c = found-lost c.requires c.in-Some.ensures
 
-pub returns-then-paired-faults : goal.returns-then-paired-faults
-returns-then-paired-faults c =
-    found-pair c.requires c.first_lost-lost.ensures c.if-lost-faults.false c.first_paired-paired.ensures
-    c.if-paired-faults.true c.lost_with-other.ensures
+pub returns-in-Some-first_paired : goal.returns-in-Some-first_paired
+returns-in-Some-first_paired c = found-pair c.requires c.in_default.ensures c.in-Some-first_paired.ensures
 
-pub first_spare-spare-requires : goal.first_spare-spare-requires
-first_spare-spare-requires c =
-    spare-ready c.requires c.first_lost-lost.ensures c.if-lost-faults.false c.first_paired-paired.ensures
-    c.if-paired-faults.false
+pub first_spare-requires : goal.first_spare-requires
+first_spare-requires c = spare-ready c.requires c.in_default.ensures c.in_default-first_paired.ensures
 
-pub returns-then-spare-patterns : goal.returns-then-spare-patterns
-returns-then-spare-patterns c =
-    found-spare c.requires c.first_lost-lost.ensures c.if-lost-faults.false c.first_paired-paired.ensures
-    c.if-paired-faults.false c.first_spare-spare.ensures c.if-spare-patterns.true
+pub returns-in-Some-first_spare : goal.returns-in-Some-first_spare
+returns-in-Some-first_spare c =
+    found-spare c.requires c.in_default.ensures c.in_default-first_paired.ensures c.in-Some-first_spare.ensures
 
 pub returns : goal.returns
 returns c =
-    found_sound c.requires c.first_lost-lost.ensures c.if-lost-faults.false c.first_paired-paired.ensures
-    c.if-paired-faults.false c.first_spare-spare.ensures c.if-spare-patterns.false
+    found_sound c.requires c.in_default.ensures c.in_default-first_paired.ensures c.in_default-first_spare.ensures

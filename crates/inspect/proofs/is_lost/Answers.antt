@@ -4,10 +4,10 @@ use borrow.Author.Tests.{eq-eqb, ne_eqb}
 use Rattle.inspect.specs.Owed.{lost_in}
 use Rattle.inspect.proofs.is_lost.Goals as goal
 
-pub returns-then-dropped-f-ne1 : goal.returns-then-dropped-f-ne1
+pub returns-then-dropped-f-eq1 : goal.returns-then-dropped-f-eq1
 unfolding lost_in
-returns-then-dropped-f-ne1 c = simp (ne_eqb _ _ c.if-dropped-f-ne1.true)
+returns-then-dropped-f-eq1 c = simp (eq-eqb _ _ c.if-dropped-f-eq1.true)
 
-pub returns : goal.returns
+pub returns-else-dropped-f-eq1 : goal.returns-else-dropped-f-eq1
 unfolding lost_in
-returns c = simp (eq-eqb _ _ c.if-dropped-f-ne1.false)
+returns-else-dropped-f-eq1 c = simp (ne_eqb _ _ c.if-dropped-f-eq1.false)

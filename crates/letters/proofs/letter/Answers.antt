@@ -1,17 +1,17 @@
 -- `letters::letter` meets its contract: one answer for each branch.
 -- Assumes nothing.
-use borrow.Author.Tests.{eq-eqb, ne_eqb}
+use Rattle.std.proofs.Common.{arith, tests}
 use Rattle.letters.specs.Text.{letter_of}
 use Rattle.letters.proofs.letter.Goals as goal
 
-pub returns-then-entry-eq0 : goal.returns-then-entry-eq0
+pub returns-in-0 : goal.returns-in-0
 unfolding letter_of
-returns-then-entry-eq0 c = simp (eq-eqb _ _ c.if-entry-eq0.true)
+returns-in-0 c = grind (arith, tests)
 
-pub returns-then-entry-eq1 : goal.returns-then-entry-eq1
+pub returns-in-1 : goal.returns-in-1
 unfolding letter_of
-returns-then-entry-eq1 c = simp (ne_eqb _ _ c.if-entry-eq0.false, eq-eqb _ _ c.if-entry-eq1.true)
+returns-in-1 c = grind (arith, tests)
 
-pub returns : goal.returns
+pub returns-in_default : goal.returns-in_default
 unfolding letter_of
-returns c = simp (ne_eqb _ _ c.if-entry-eq0.false, ne_eqb _ _ c.if-entry-eq1.false)
+returns-in_default c = grind (arith, tests)

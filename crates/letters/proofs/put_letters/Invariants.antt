@@ -3,13 +3,9 @@
 use lib.ListN.{length}
 use mathlib.Core.List.{map}
 use mathlib.Core.Path.{◌≡◌}
-use Prim.Native.Nat.{◌≤◌, ◌-◌}
 use Rattle.letters.specs.Text.{letter_of}
 use Rattle.ground.proofs.Put.{Partly}
 use Rattle.letters.proofs.put_letters.Given as goal
 
 abbrev pub invariant-loop-i : goal.invariant-loop-i
-invariant-loop-i l = (l.i ≤ length l.row) × (length l.out ≡ length l.initial.out) × Partly (map letter_of l.row) l.initial.out l.at l.out l.i
-
-abbrev pub decreases-loop-i : goal.decreases-loop-i
-decreases-loop-i l = length l.row - l.i
+invariant-loop-i l = (length l.out ≡ length l.initial.out) × Partly (map letter_of l.row) l.initial.out l.at l.out l.i

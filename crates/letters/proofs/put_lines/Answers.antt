@@ -2,22 +2,15 @@
 -- Assumes nothing.
 use lib.ListN.{length-take}
 use native.Mathlib.Omega.{arith}
-use Rattle.letters.proofs.Lines.{start, row_fits, line-fits, more, finished}
+use Rattle.ground.proofs.Put.{put_none}
+use Rattle.letters.proofs.Lines.{line-fits, more}
 use Rattle.letters.proofs.put_lines.Goals as goal
 
 pub loop-p-init : goal.loop-p-init
-loop-p-init c = start _ _ _ _ _
-
-pub overflow_add-to : goal.overflow_add-to
-overflow_add-to c = omega (arith, row_fits c.requires c.loop-p.invariant (omega arith))
+loop-p-init c = put_none _ _
 
 pub put_line-at-requires : goal.put_line-at-requires
-put_line-at-requires c =
-    simp length-take (omega (arith, line-fits c.requires c.loop-p.invariant (omega arith)))
+put_line-at-requires c = simp length-take (omega (arith, line-fits c.requires c.loop-p-test.true c.loop-p.invariant, c.requires.few_faults))
 
 pub loop-p-preserved : goal.loop-p-preserved
-loop-p-preserved c =
-    more c.loop-p.invariant (omega arith) c.put_line-at.ensures
-
-pub returns : goal.returns
-returns c = finished c.loop-p.invariant (omega arith)
+loop-p-preserved c = more _ _ _ _ c.loop-p.invariant c.put_line-at.ensures

@@ -1,11 +1,8 @@
 -- `letters::put_lines` meets its contract. The invariant: the lines of the first p patterns stand.
 -- Assumes nothing.
-use Prim.Native.Nat.{◌-◌}
-use Rattle.letters.proofs.Lines.{SoFar}
+use Rattle.ground.specs.Put.{Put}
+use Rattle.letters.specs.Text.{lines_to}
 use Rattle.letters.proofs.put_lines.Given as goal
 
 abbrev pub invariant-loop-p : goal.invariant-loop-p
-invariant-loop-p l = SoFar l.table l.marks l.initial.out l.faults l.patterns l.out l.p l.at l.from
-
-abbrev pub decreases-loop-p : goal.decreases-loop-p
-decreases-loop-p l = l.patterns - l.p
+invariant-loop-p l = Put l.initial.out l.out 0 (lines_to l.faults l.table l.marks l.p) l.at

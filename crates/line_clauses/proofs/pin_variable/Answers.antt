@@ -20,15 +20,15 @@ returns-then-is_at c = (pin-stuck _ _ _ _ _ c.is_at.ensures c.if-is_at.true, ome
 pub overflow_mul-result-2 : goal.overflow_mul-result-2
 overflow_mul-result-2 c =
     let p = c.requires in
-    omega (arith, low p.0 p.1 p.2 c.wide.ensures.0 c.source.ensures)
+    omega (arith, low p.0 p.1 p.2 c.from.ensures c.source.ensures)
 
 pub overflow_add-result-2 : goal.overflow_add-result-2
 overflow_add-result-2 c =
     let p = c.requires in
-    omega (arith, low p.0 p.1 p.2 c.wide.ensures.0 c.source.ensures)
+    omega (arith, low p.0 p.1 p.2 c.from.ensures c.source.ensures)
 
 pub returns : goal.returns
 returns c =
-    let is-source = pin_source _ _ _ _ _ c.is_at.ensures c.if-is_at.false c.requires.1 c.wide.ensures.0 c.source.ensures in
+    let is-source = pin_source _ _ _ _ _ c.is_at.ensures c.if-is_at.false c.requires.1 c.from.ensures c.source.ensures in
     let p = c.requires in
-    (is-source, omega (arith, low p.0 p.1 p.2 c.wide.ensures.0 c.source.ensures))
+    (is-source, omega (arith, low p.0 p.1 p.2 c.from.ensures c.source.ensures))

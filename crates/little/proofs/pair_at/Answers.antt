@@ -1,9 +1,8 @@
--- `little::pair_at` meets its contract: a sum of two bytes.
+-- `little::pair_at` meets its contract.
 -- Assumes nothing.
-use native.Mathlib.Omega.{arith}
-use Rattle.little.specs.Little.{pair_at}
+use Rattle.std.proofs.Common.{◌∙◌}
+use Rattle.little.proofs.Little.{pair_bytes}
 use Rattle.little.proofs.pair_at.Goals as goal
 
 pub returns : goal.returns
-unfolding pair_at
-returns c = omega arith
+returns c = c.from.ensures ∙ c.from_le_bytes.ensures ∙ pair_bytes _ _

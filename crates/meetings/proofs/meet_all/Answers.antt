@@ -12,9 +12,6 @@ pub meet_at-requires : goal.meet_at-requires
 meet_at-requires c =
     (next-ready c.loop-i.invariant c.requires, omega arith)
 
-pub overflow_add-i : goal.overflow_add-i
-overflow_add-i c = omega arith
-
 pub loop-i-preserved : goal.loop-i-preserved
 loop-i-preserved c =
     let so = c.loop-i.invariant in
@@ -22,10 +19,6 @@ loop-i-preserved c =
     (record { reaches = c.meet_at.auto.reaches; counts = c.meet_at.auto.counts; tests = c.meet_at.auto.tests })
     c.meet_at.auto.work
     c.meet_at.ensures
-
-pub loop-i-smaller : goal.loop-i-smaller
-loop-i-smaller c =
-    omega (arith, c.loop-i.invariant.sizes.reaches)
 
 pub returns : goal.returns
 returns c =

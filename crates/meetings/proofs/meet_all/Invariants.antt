@@ -1,13 +1,8 @@
 -- `meetings::meet_all` meets its contract. The invariant: the faults passed have come to the node, and the good values stand.
 -- Assumes nothing.
-use Prim.Native.Nat.{◌-◌}
-use lib.ListN.{length}
 use Rattle.meetings.proofs.Coming.{SoFar}
 use Rattle.meetings.proofs.meet_all.Given as goal
 
 abbrev pub invariant-loop-i : goal.invariant-loop-i
 invariant-loop-i l =
     SoFar l.alone l.circuit l.faults l.budgets l.n l.node l.level (l.initial.reaches, l.initial.counts, l.initial.tests) (l.reaches, l.counts, l.tests) l.initial.work l.work l.i
-
-abbrev pub decreases-loop-i : goal.decreases-loop-i
-decreases-loop-i l = length l.initial.reaches - l.i

@@ -7,6 +7,8 @@ use Rattle.words.specs.Words.{word_at}
 use Rattle.names.specs.Owed.{hash_from}
 use Rattle.names.proofs.Loops.{enter_none, enter_more, enter_all}
 use Rattle.names.proofs.enter.Goals as goal
+use Rattle.names.proofs.enter.Goals.{then-is_some, else-is_some}
+use Rattle.answers.proofs.Rules.{same_place}
 
 pub loop-n-init : goal.loop-n-init
 loop-n-init c = enter_none c.requires
@@ -18,13 +20,15 @@ pub add-requires : goal.add-requires
 add-requires c =
     let text = c.args.text.now in
     let hashed = c.hash-h.ensures in
-    let same_place = ap (λ (i : ℕ). hash_from 0 (word_at text i)) c.wide16-at.ensures.0 in
+    let same_place = ap (λ (i : ℕ). hash_from 0 (word_at text i)) c.from-at.ensures in
     (c.loop-n.invariant.table, omega arith, (hashed.0 ∙ same_place, hashed.1))
 
 pub loop-n-preserved : goal.loop-n-preserved
 loop-n-preserved c =
-    enter_more c.loop-n.invariant c.add.ensures c.wide16-at.result c.find-found.result c.lower-low.result
-    c.wide16-at.ensures.0 c.find-found.ensures c.lower-low.ensures
+    elim c.if-is_some.branch [
+      | then-is_some w ↦ enter_more c.loop-n.invariant c.add.ensures c.from-at.ensures c.find-found.ensures c.is_some.ensures w.if-is_some.true (w.low-is ∙ w.min-low.ensures)
+      | else-is_some w ↦ enter_more c.loop-n.invariant c.add.ensures c.from-at.ensures c.find-found.ensures c.is_some.ensures w.if-is_some.false w.low-is
+    ]
 
 pub returns : goal.returns
 returns c = enter_all c.loop-n.invariant (omega arith)

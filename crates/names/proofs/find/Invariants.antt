@@ -5,7 +5,7 @@ use Rattle.names.proofs.Chain.{ChainWalk}
 use Rattle.names.proofs.find.Given as goal
 
 abbrev pub invariant-walk : goal.invariant-walk
-invariant-walk l = ChainWalk l.text l.defs (word_at l.text l.at) l.n l.h l.p
+invariant-walk l = ChainWalk l.text l.defs (word_at l.text l.at) l.n l.h l.link
 
 abbrev pub decreases-walk : goal.decreases-walk
-decreases-walk l = l.p
+decreases-walk l = l.link

@@ -31,7 +31,7 @@ loop-h-preserved c =
     let t = c.args.text.now in
     let x = c.loop-h.x in
     let h = c.loop-h.h in
-    let mixed = c.mix-h.ensures.0 ∙ ap (λ (b : ℕ). (h * 131 + b) % 8192) (c.wide.ensures.0 ∙ c.byte-in-loop-h.ensures) in
+    let mixed = c.mix-h.ensures.0 ∙ ap (λ (b : ℕ). (h * 131 + b) % 8192) (c.from.ensures ∙ c.byte-in-loop-h.ensures) in
     (c.loop-h.invariant.0 ∙ hash_more t x h e ∙ ap (λ (n : ℕ). hash_from n (word_at t (x + 1))) (sym mixed), omega arith)
 
 pub returns : goal.returns

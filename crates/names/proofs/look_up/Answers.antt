@@ -1,8 +1,12 @@
 -- `names::look_up` meets its contract: each name is looked for, and its number written.
 -- Assumes nothing.
+use mathlib.Core.Path.{◌∙◌}
+use Prim.Native.Nat.{◌<◌}
+use lib.ListN.{length}
 use native.Mathlib.Omega.{arith}
 use Rattle.names.proofs.Loops.{look_none, look-more, look-all}
 use Rattle.names.proofs.look_up.Goals as goal
+use Rattle.names.proofs.look_up.Goals.{then-is_none, else-is_none}
 
 pub loop-u-init : goal.loop-u-init
 loop-u-init c =
@@ -14,9 +18,11 @@ find-found-requires c =
 
 pub loop-u-preserved : goal.loop-u-preserved
 loop-u-preserved c =
-    look-more c.loop-u.invariant (omega arith)
-    c.wide16-at.result c.find-found.result c.entry_before.result c.lower-lowest.result
-    c.wide16-at.ensures.0 c.find-found.ensures c.entry_before.ensures c.lower-lowest.ensures
+    let l : c.loop-u.u < length c.args.names.now = omega arith in
+    elim c.if-is_none.branch [
+      | then-is_none w ↦ look-more c.loop-u.invariant l c.from-at.ensures c.find-found.ensures c.number_of.ensures c.is_none.ensures w.if-is_none.true (w.lowest-is ∙ w.min-lowest.ensures)
+      | else-is_none w ↦ look-more c.loop-u.invariant l c.from-at.ensures c.find-found.ensures c.number_of.ensures c.is_none.ensures w.if-is_none.false w.lowest-is
+    ]
 
 pub returns : goal.returns
 returns c = look-all c.loop-u.invariant (omega arith)

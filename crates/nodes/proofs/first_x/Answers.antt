@@ -1,24 +1,12 @@
--- `nodes::first_x` meets its contract. The invariant: no input passed is X.
+-- `nodes::first_x` meets its contract.
 -- Assumes nothing.
-use native.Mathlib.Omega.{arith}
-use borrow.Author.Tests.{eq-eqb, ne_eqb}
-use Rattle.ground.proofs.First.{every_none, every_next, stopped, passed}
-use Rattle.nodes.specs.Node.{is_set, first_x}
+use Rattle.std.proofs.Common.{eqb, not, rules, tests}
+use Rattle.ground.proofs.Search.{position_along, unwrap_first}
+use Rattle.nodes.specs.Node.{first_x}
 use Rattle.nodes.proofs.first_x.Goals as goal
-
-pub loop-i-init : goal.loop-i-init
-loop-i-init c = (omega arith, every_none (is_set c.args.node.now))
-
-pub returns-then-node-i-eq2 : goal.returns-then-node-i-eq2
-unfolding first_x
-returns-then-node-i-eq2 c =
-    stopped {t = is_set c.args.node.now} (omega arith) c.loop-i.invariant.1
-    (simp (eq-eqb _ _ c.if-node-i-eq2.true))
-
-pub loop-i-preserved : goal.loop-i-preserved
-loop-i-preserved c =
-    (omega arith, every_next {t = is_set c.args.node.now} c.loop-i.invariant.1 (simp (ne_eqb _ _ c.if-node-i-eq2.false)))
 
 pub returns : goal.returns
 unfolding first_x
-returns c = passed {t = is_set c.args.node.now} (omega arith) c.loop-i.invariant.1
+returns c =
+    let h = position_along (λ x. not (eqb x 2)) _ _ _ c.iter.ensures.rest c.position.ensures.ran (λ x q k. search (rules, tests)) (λ x q k. search (rules, tests)) in
+    rw (c.unwrap_or.ensures, h) (unwrap_first _ _)

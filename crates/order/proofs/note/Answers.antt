@@ -5,8 +5,5 @@ use native.Mathlib.Omega.{arith}
 use lib.Seq.{set_out}
 use Rattle.order.proofs.note.Goals as goal
 
-pub returns-then-s-reader : goal.returns-then-s-reader
-returns-then-s-reader c = rw c.narrow.ensures
-
 pub returns-else-s-reader : goal.returns-else-s-reader
 returns-else-s-reader c = sym (set_out _ _ _ (omega arith))

@@ -5,14 +5,12 @@ use Rattle.order.proofs.FirstReaders.{start, more, finished}
 use Rattle.order.proofs.readers.Goals as goal
 
 pub loop-h-init : goal.loop-h-init
-loop-h-init c = (omega arith, start (omega arith))
+loop-h-init c = start (omega arith)
 
 pub loop-h-preserved : goal.loop-h-preserved
-loop-h-preserved c = (
-  omega arith,
-  rw (c.note-in-loop-h.ensures, c.wide16-in-loop-h.ensures.0, c.note.ensures, c.wide16.ensures.0)
-      (more c.loop-h.invariant.1 (omega arith)),
-)
+loop-h-preserved c =
+    rw (c.note-in-loop-h.ensures, c.from-in-loop-h.ensures, c.note.ensures, c.from.ensures)
+    (more c.loop-h.invariant (omega arith))
 
 pub returns : goal.returns
-returns c = finished c.loop-h.invariant.1 (omega arith)
+returns c = finished c.loop-h.invariant (omega arith)

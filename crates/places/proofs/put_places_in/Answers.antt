@@ -8,7 +8,7 @@ use Rattle.ground.proofs.Put.{partly_long}
 use Rattle.places.specs.Owed.{definition_by}
 use Rattle.places.proofs.Places.{number_below, def_below, def_is, places_more, places_all, number_room}
 use Rattle.places.proofs.put_places_in.Goals as goal
-use Rattle.places.proofs.put_places_in.Goals.{After-wide16-d}
+use Rattle.places.proofs.put_places_in.Goals.{After-from-d}
 
 pub number_lines-requires : goal.number_lines-requires
 number_lines-requires c = number_room c.requires
@@ -32,20 +32,20 @@ bounds-def-x c =
     omega (arith, b, c.number_on-x.ensures, p.for_defs, c.number_lines.auto.line)
 
 -- the definition that was found there
-found : (c : After-wide16-d) → c.wide16-d.result ≡ definition_by c.args.defs.now c.args.numbers.now c.args.order.now c.loop-k.k
+found : (c : After-from-d) → c.from-d.result ≡ definition_by c.args.defs.now c.args.numbers.now c.args.order.now c.loop-k.k
 found c =
-    def_is c.requires.fits c.number_lines.new.line c.number_lines.ensures c.loop-k.k c.loop-k-test.true c.number_on-x.ensures c.wide16-d.ensures.0
+    def_is c.requires.fits c.number_lines.new.line c.number_lines.ensures c.loop-k.k c.loop-k-test.true c.number_on-x.ensures c.from-d.ensures
 
-found_below : (c : After-wide16-d) → c.wide16-d.result < length c.args.defs.now
+found_below : (c : After-from-d) → c.from-d.result < length c.args.defs.now
 found_below c = omega (arith, found c, def_below c.requires.fits c.loop-k.k c.loop-k-test.true)
 
 pub offset_bounds-defs-d : goal.offset_bounds-defs-d
 offset_bounds-defs-d c =
-    let w = (goal.at.offset_bounds-defs-d c).After-wide16-d in
+    let w = (goal.at.offset_bounds-defs-d c).After-from-d in
     omega (arith, found_below w, c.requires.fits.few)
 
 pub bounds-defs-d : goal.bounds-defs-d
-bounds-defs-d c = found_below (goal.at.bounds-defs-d c).After-wide16-d
+bounds-defs-d c = found_below (goal.at.bounds-defs-d c).After-from-d
 
 pub bounds-places-k : goal.bounds-places-k
 bounds-places-k c =
@@ -55,7 +55,7 @@ bounds-places-k c =
 pub loop-k-preserved : goal.loop-k-preserved
 loop-k-preserved c =
     let defs = c.args.defs.now in
-    places_more c.requires.fits c.loop-k.invariant c.loop-k-test.true (ap (λ (d : ℕ). get_or defs d 0) (found (goal.at.loop-k-preserved c).After-wide16-d))
+    places_more c.requires.fits c.loop-k.invariant c.loop-k-test.true (ap (λ (d : ℕ). get_or defs d 0) (found (goal.at.loop-k-preserved c).After-from-d))
 
 pub returns : goal.returns
 returns c = places_all c.requires.fits c.loop-k.invariant c.loop-k-test.false

@@ -1,13 +1,8 @@
 -- `places::put_places_in` meets its contract. The invariant: the places of the lines below k are written.
 -- Assumes nothing.
-use Prim.Native.Nat.{◌-◌}
-use lib.ListN.{length}
 use Rattle.ground.proofs.Put.{Partly}
 use Rattle.places.specs.Owed.{places_by}
 use Rattle.places.proofs.put_places_in.Given as goal
 
 abbrev pub invariant-loop-k : goal.invariant-loop-k
 invariant-loop-k l = Partly (places_by l.defs l.numbers l.order) l.initial.places 0 l.places l.k
-
-abbrev pub decreases-loop-k : goal.decreases-loop-k
-decreases-loop-k l = length l.defs - l.k

@@ -12,4 +12,4 @@ pub returns : goal.returns
 returns c =
     pin_counted _ _ _ _ c.source-k.ensures
     (omega (arith, c.source-k.ensures, c.requires.0.inside c.args.j c.args.s c.requires.1 c.requires.2 c.requires.3))
-    c.one_more-read.ensures
+    c.one_more.ensures

@@ -6,5 +6,5 @@ use Rattle.reads.proofs.one_more.Goals as goal
 pub returns-then-read-eq-UNREAD : goal.returns-then-read-eq-UNREAD
 returns-then-read-eq-UNREAD c = first_more c.if-read-eq-UNREAD.true
 
-pub returns : goal.returns
-returns c = next_more c.if-read-eq-UNREAD.false
+pub returns-else-read-eq-UNREAD : goal.returns-else-read-eq-UNREAD
+returns-else-read-eq-UNREAD c = next_more c.if-read-eq-UNREAD.false

@@ -8,17 +8,17 @@ use Rattle.records.proofs.number_lines.Goals as goal
 pub loop-i-init : goal.loop-i-init
 loop-i-init c = from_none _ _ _
 
-pub bounds-line-g : goal.bounds-line-g
-bounds-line-g c =
+pub bounds-line-from : goal.bounds-line-from
+bounds-line-from c =
     let l = c.loop-i in
-    rw c.wide16-g.ensures.0 (omega (arith, c.requires.gates (l.i - 1) (omega arith), l.invariant.long))
+    rw c.from.ensures (omega (arith, c.requires.gates (l.i - 1) (omega arith), l.invariant.long))
 
 pub loop-i-preserved : goal.loop-i-preserved
 loop-i-preserved c =
     let l = c.loop-i in
     rw c.narrow.ensures
-    (from_more l.invariant (omega arith) c.wide16-g.ensures.0
-    (rw c.wide16-g.ensures.0 (c.requires.gates (l.i - 1) (omega arith))))
+    (from_more l.invariant (omega arith) c.from.ensures
+    (rw c.from.ensures (c.requires.gates (l.i - 1) (omega arith))))
 
 pub returns : goal.returns
 returns c = from_all c.loop-i.invariant (omega arith)

@@ -5,6 +5,3 @@ use Rattle.records.proofs.number_lines.Given as goal
 
 abbrev pub invariant-loop-i : goal.invariant-loop-i
 invariant-loop-i l = NumberedFrom l.order l.inputs l.initial.line l.line l.i
-
-abbrev pub decreases-loop-i : goal.decreases-loop-i
-decreases-loop-i l = l.i

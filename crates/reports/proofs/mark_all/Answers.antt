@@ -1,15 +1,7 @@
--- `reports::mark_all` meets its contract. The invariant: the first f marks stand.
+-- `reports::mark_all` meets its contract.
 -- Assumes nothing.
-use mathlib.Core.Path.{refl}
-use native.Mathlib.Omega.{arith}
-use Rattle.ground.proofs.Laid.{laying_none, laying_more, laying_all}
+use Rattle.ground.proofs.Laid.{laid_filled}
 use Rattle.reports.proofs.mark_all.Goals as goal
 
-pub loop-f-init : goal.loop-f-init
-loop-f-init c = laying_none _ _ _
-
-pub loop-f-preserved : goal.loop-f-preserved
-loop-f-preserved c = laying_more c.loop-f.invariant (omega arith) refl
-
 pub returns : goal.returns
-returns c = laying_all c.loop-f.invariant (omega arith) (omega arith)
+returns c = laid_filled _ _ _ (c.fill.ensures.after (λ y e. e)) c.requires

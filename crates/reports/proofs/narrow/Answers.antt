@@ -8,7 +8,7 @@ pub loop-f-init : goal.loop-f-init
 loop-f-init c = laying_none _ _ _
 
 pub loop-f-preserved : goal.loop-f-preserved
-loop-f-preserved c = laying_more c.loop-f.invariant (omega arith) c.mark_after-mark.ensures
+loop-f-preserved c = laying_more c.loop-f.invariant (omega arith) c.mark_after.ensures
 
 pub returns : goal.returns
 returns c = laying_all c.loop-f.invariant (omega arith) (omega arith)

@@ -1,17 +1,10 @@
--- `rounds::looking` meets its contract. The invariant: those passed that look are counted.
+-- `rounds::looking` meets its contract.
 -- Assumes nothing.
-use native.Mathlib.Omega.{arith}
-use Rattle.ground.proofs.Counting.{no_sum, sum_small, sum_more, sum_all}
+use Rattle.std.proofs.Common.{leb, rules, tests}
+use Rattle.ground.proofs.Search.{count_along}
 use Rattle.rounds.proofs.looking.Goals as goal
 
-pub loop-i-preserved : goal.loop-i-preserved
-loop-i-preserved c = sum_more c.loop-i.invariant (omega arith) c.bit-some.ensures.0
-
-pub loop-i-init : goal.loop-i-init
-loop-i-init c = no_sum _ _
-
-pub overflow_add-some : goal.overflow_add-some
-overflow_add-some c = omega (arith, sum_small c.loop-i.invariant, c.bit-some.ensures.1)
-
 pub returns : goal.returns
-returns c = sum_all c.loop-i.invariant (omega arith)
+returns c =
+    count_along (λ x. leb c.args.level x) c.filter.ensures.source c.filter.ensures.closure c.count.ensures.ran (λ x r q k. search (rules, tests))
+    c.args.reaches.now c.iter.ensures.rest

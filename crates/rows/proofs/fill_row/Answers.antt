@@ -17,8 +17,8 @@ pub read_fault-fault-requires : goal.read_fault-fault-requires
 read_fault-fault-requires c =
     record { inside = omega (arith, c.requires.faults, c.loop-j.invariant.long) }
 
-pub fault_entry-e-requires : goal.fault_entry-e-requires
-fault_entry-e-requires c =
+pub fault_entry-requires : goal.fault_entry-requires
+fault_entry-requires c =
     let so = c.loop-j.invariant in
     record {
       ordered = ordered c.requires.well;
@@ -33,7 +33,7 @@ bounds-row-j c =
 
 pub loop-j-preserved : goal.loop-j-preserved
 loop-j-preserved c =
-    more c.loop-j.invariant (omega (arith, c.loop-j.invariant.long)) c.read_fault-fault.ensures c.requires.small c.fault_entry-e.ensures
+    more c.loop-j.invariant (omega (arith, c.loop-j.invariant.long)) c.read_fault-fault.ensures c.requires.small c.fault_entry.ensures
 
 pub returns : goal.returns
 returns c =

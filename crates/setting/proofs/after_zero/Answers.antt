@@ -1,17 +1,18 @@
 -- `setting::after_zero` meets its contract: one answer for each branch.
 -- Assumes nothing.
-use borrow.Author.Tests.{eq-eqb, ne_eqb}
+use native.Mathlib.Omega.{arith}
+use borrow.Author.Tests.{ne_eqb}
 use Rattle.setting.specs.Owed.{after_zero}
 use Rattle.setting.proofs.after_zero.Goals as goal
 
-pub returns-then-s-eq1 : goal.returns-then-s-eq1
+pub returns-in-1 : goal.returns-in-1
 unfolding after_zero
-returns-then-s-eq1 c = simp (eq-eqb _ _ c.if-s-eq1.true)
+returns-in-1 c = rw c.in-1.is
 
-pub returns-then-s-eq2 : goal.returns-then-s-eq2
+pub returns-in-2 : goal.returns-in-2
 unfolding after_zero
-returns-then-s-eq2 c = simp (ne_eqb _ _ c.if-s-eq1.false, eq-eqb _ _ c.if-s-eq2.true)
+returns-in-2 c = rw c.in-2.is
 
-pub returns : goal.returns
+pub returns-in_default : goal.returns-in_default
 unfolding after_zero
-returns c = simp (ne_eqb _ _ c.if-s-eq1.false, ne_eqb _ _ c.if-s-eq2.false)
+returns-in_default c = simp (ne_eqb c.args.s 1 (omega arith), ne_eqb c.args.s 2 (omega arith))

@@ -11,6 +11,6 @@ pub returns-then-marks-k-eq1 : goal.returns-then-marks-k-eq1
 unfolding head_or
 returns-then-marks-k-eq1 c = simp (eq-eqb _ _ c.if-marks-k-eq1.true)
 
-pub returns : goal.returns
+pub returns-else-marks-k-eq1 : goal.returns-else-marks-k-eq1
 unfolding head_or
-returns c = simp (ne_eqb _ _ c.if-marks-k-eq1.false)
+returns-else-marks-k-eq1 c = simp (ne_eqb _ _ c.if-marks-k-eq1.false)

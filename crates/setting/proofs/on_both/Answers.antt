@@ -8,6 +8,6 @@ pub returns-then-s-le2 : goal.returns-then-s-le2
 unfolding both
 returns-then-s-le2 c = simp (le-leb _ _ c.if-s-le2.true)
 
-pub returns : goal.returns
+pub returns-else-s-le2 : goal.returns-else-s-le2
 unfolding both
-returns c = simp (lt-leb _ _ c.if-s-le2.false)
+returns-else-s-le2 c = simp (lt-leb _ _ c.if-s-le2.false)

@@ -4,10 +4,10 @@ use borrow.Author.Tests.{eq-eqb, ne_eqb}
 use Rattle.setting.specs.Owed.{alone}
 use Rattle.setting.proofs.on_first.Goals as goal
 
-pub returns-then-s-ne-FIRST : goal.returns-then-s-ne-FIRST
+pub returns-then-s-eq-FIRST : goal.returns-then-s-eq-FIRST
 unfolding alone
-returns-then-s-ne-FIRST c = simp (ne_eqb _ _ c.if-s-ne-FIRST.true)
+returns-then-s-eq-FIRST c = simp (eq-eqb _ _ c.if-s-eq-FIRST.true)
 
-pub returns : goal.returns
+pub returns-else-s-eq-FIRST : goal.returns-else-s-eq-FIRST
 unfolding alone
-returns c = simp (eq-eqb _ _ c.if-s-ne-FIRST.false)
+returns-else-s-eq-FIRST c = simp (ne_eqb _ _ c.if-s-eq-FIRST.false)

@@ -8,6 +8,6 @@ pub returns-then-u-forced : goal.returns-then-u-forced
 unfolding forced_or
 returns-then-u-forced c = rw (eq-eqb _ _ c.if-u-forced.true) c.on_first.ensures
 
-pub returns : goal.returns
+pub returns-else-u-forced : goal.returns-else-u-forced
 unfolding forced_or
-returns c = rw (ne_eqb _ _ c.if-u-forced.false) c.on_both.ensures
+returns-else-u-forced c = rw (ne_eqb _ _ c.if-u-forced.false) c.on_both.ensures

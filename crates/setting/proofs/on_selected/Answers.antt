@@ -1,17 +1,18 @@
 -- `setting::on_selected` meets its contract: one answer for each branch.
 -- Assumes nothing.
-use borrow.Author.Tests.{eq-eqb, ne_eqb}
+use native.Mathlib.Omega.{arith}
+use borrow.Author.Tests.{ne_eqb}
 use Rattle.setting.specs.Owed.{selecting}
 use Rattle.setting.proofs.on_selected.Goals as goal
 
-pub returns-then-s-eq1 : goal.returns-then-s-eq1
+pub returns-in-1 : goal.returns-in-1
 unfolding selecting
-returns-then-s-eq1 c = simp (eq-eqb _ _ c.if-s-eq1.true)
+returns-in-1 c = rw c.in-1.is
 
-pub returns-then-s-eq3 : goal.returns-then-s-eq3
+pub returns-in-3 : goal.returns-in-3
 unfolding selecting
-returns-then-s-eq3 c = simp (ne_eqb _ _ c.if-s-eq1.false, eq-eqb _ _ c.if-s-eq3.true)
+returns-in-3 c = rw c.in-3.is
 
-pub returns : goal.returns
+pub returns-in_default : goal.returns-in_default
 unfolding selecting
-returns c = simp (ne_eqb _ _ c.if-s-eq1.false, ne_eqb _ _ c.if-s-eq3.false)
+returns-in_default c = simp (ne_eqb c.args.s 1 (omega arith), ne_eqb c.args.s 3 (omega arith))

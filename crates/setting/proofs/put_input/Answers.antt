@@ -11,6 +11,6 @@ pub returns-then-circuit-k-eq0 : goal.returns-then-circuit-k-eq0
 unfolding input_put
 returns-then-circuit-k-eq0 c = simp (eq-eqb _ _ c.if-circuit-k-eq0.true)
 
-pub returns : goal.returns
+pub returns-else-circuit-k-eq0 : goal.returns-else-circuit-k-eq0
 unfolding input_put
-returns c = simp (ne_eqb _ _ c.if-circuit-k-eq0.false)
+returns-else-circuit-k-eq0 c = simp (ne_eqb _ _ c.if-circuit-k-eq0.false)

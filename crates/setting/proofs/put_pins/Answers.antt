@@ -7,7 +7,7 @@ use Rattle.setting.proofs.Lines.{no_pin, next-pin, all_pins}
 use Rattle.setting.proofs.put_pins.Goals as goal
 
 pub loop-s-init : goal.loop-s-init
-loop-s-init c = no_pin refl c.pins-has.ensures
+loop-s-init c = no_pin refl c.pins-s-end.ensures
 
 pub source-i-requires : goal.source-i-requires
 source-i-requires c = (record { inside = omega arith }, omega arith)
@@ -18,7 +18,7 @@ bounds-want-i c =
     omega (arith, c.source-i.ensures, c.loop-s.invariant.long, below)
 
 pub loop-s-preserved : goal.loop-s-preserved
-loop-s-preserved c = next-pin c.loop-s.invariant (omega arith) c.need-x.ensures c.source-i.ensures
+loop-s-preserved c = next-pin c.loop-s.invariant (omega arith) c.need.ensures c.source-i.ensures
 
 pub returns : goal.returns
 returns c = all_pins c.loop-s.invariant (omega arith)

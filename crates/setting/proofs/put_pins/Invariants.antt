@@ -1,11 +1,7 @@
 -- `setting::put_pins` meets its contract: one pin after the other.
 -- Assumes nothing.
-use Prim.Native.Nat.{◌-◌}
 use Rattle.setting.proofs.Lines.{Pins}
 use Rattle.setting.proofs.put_pins.Given as goal
 
 abbrev pub invariant-loop-s : goal.invariant-loop-s
-invariant-loop-s l = Pins l.circuit l.k l.v l.initial.want l.kind l.has l.want l.s
-
-abbrev pub decreases-loop-s : goal.decreases-loop-s
-decreases-loop-s l = l.has - l.s
+invariant-loop-s l = Pins l.circuit l.k l.v l.initial.want l.kind l.s-end l.want l.s

@@ -5,6 +5,3 @@ use Rattle.setting.proofs.set_below.Given as goal
 
 abbrev pub invariant-loop-k : goal.invariant-loop-k
 invariant-loop-k l = Below l.circuit l.initial.want l.want l.k
-
-abbrev pub decreases-loop-k : goal.decreases-loop-k
-decreases-loop-k l = l.k

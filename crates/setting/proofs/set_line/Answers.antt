@@ -3,10 +3,10 @@
 use Rattle.setting.proofs.Lines.{line-bound, line-free}
 use Rattle.setting.proofs.set_line.Goals as goal
 
-pub returns-then-marks-k-eq2 : goal.returns-then-marks-k-eq2
-returns-then-marks-k-eq2 c =
-    line-bound c.args.want.now c.requires.1 c.requires.2 c.if-marks-k-eq2.true
+pub returns-else-marks-k-ne2 : goal.returns-else-marks-k-ne2
+returns-else-marks-k-ne2 c =
+    line-bound c.args.want.now c.requires.1 c.requires.2 c.if-marks-k-ne2.false
 
-pub returns : goal.returns
-returns c =
-    line-free c.args.want.now c.requires.1 c.requires.2 c.if-marks-k-eq2.false c.put_pins.ensures
+pub returns-then-marks-k-ne2 : goal.returns-then-marks-k-ne2
+returns-then-marks-k-ne2 c =
+    line-free c.args.want.now c.requires.1 c.requires.2 c.if-marks-k-ne2.true c.put_pins.ensures

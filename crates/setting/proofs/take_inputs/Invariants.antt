@@ -1,12 +1,7 @@
 -- `setting::take_inputs` meets its contract: line by line, with the number of inputs so far.
 -- Assumes nothing.
-use Prim.Native.Nat.{◌-◌}
-use lib.ListN.{length}
 use Rattle.setting.proofs.Inputs.{Inputs}
 use Rattle.setting.proofs.take_inputs.Given as goal
 
 abbrev pub invariant-loop-k : goal.invariant-loop-k
 invariant-loop-k l = Inputs l.circuit l.want l.initial.test l.test l.k l.used
-
-abbrev pub decreases-loop-k : goal.decreases-loop-k
-decreases-loop-k l = length l.want - l.k

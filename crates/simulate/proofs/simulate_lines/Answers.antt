@@ -11,8 +11,8 @@ use Rattle.simulate.proofs.simulate_lines.Goals as goal
 pub loop-k-init : goal.loop-k-init
 loop-k-init c = settled.start ThreeValued _ _ _ _ c.requires.1
 
-pub line_value-v-requires : goal.line_value-v-requires
-line_value-v-requires c =
+pub line_value-requires : goal.line_value-requires
+line_value-requires c =
     let so = c.loop-k.invariant in
     rw so.long (c.requires.0, omega (arith, c.requires.2))
 
@@ -23,7 +23,7 @@ pub loop-k-preserved : goal.loop-k-preserved
 loop-k-preserved c =
     let ordered = c.requires.0 in
     more c.loop-k.invariant ordered c.requires.2 (omega arith)
-    (λ f p small so left. c.line_value-v.ensures (agreed_small small _ (ordered.lower _ (omega (arith, c.requires.2))) so unforced left))
+    (λ f p small so left. c.line_value.ensures (agreed_small small _ (ordered.lower _ (omega (arith, c.requires.2))) so unforced left))
 
 pub returns : goal.returns
 returns c = finished c.loop-k.invariant (omega arith)

@@ -3,7 +3,6 @@
 use Prim.Native.Nat.{◌-◌}
 use lib.ListN.{length}
 use Rattle.simulate.specs.Owed.{ThreeValued}
-use Rattle.simulate.proofs.Steps as steps
 use Rattle.simulate.proofs.Steps.{SoFar}
 use Rattle.simulate.proofs.simulate_steps.Given as goal
 

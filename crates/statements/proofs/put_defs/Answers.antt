@@ -16,9 +16,9 @@ loop-k-preserved c =
     next l.invariant (omega arith)
     (c.narrow.ensures ∙ c.word_in.ensures.0 ∙ ap (word_in _ _ l.k) c.def_word.ensures.0)
     (c.narrow-in-loop-k.ensures ∙ c.number.ensures.0)
-    c.bit-g.ensures.0
-    c.bit-n.ensures.0
-    (c.bit-d.ensures.0 ∙ ap one c.is_def.ensures)
+    c.from-g.ensures
+    c.from-n.ensures
+    (c.from-d.ensures ∙ ap one c.is_def.ensures)
 
 pub returns : goal.returns
 returns c = finished c.loop-k.invariant (omega arith)

@@ -1,12 +1,7 @@
 -- `statements::put_defs` meets its contract: the lines are taken one after the other, and what defines a name stays.
 -- Assumes nothing.
 use Rattle.statements.proofs.Defining.{Defining}
-use Prim.Native.Nat.{◌-◌}
-use lib.ListN.{length}
 use Rattle.statements.proofs.put_defs.Given as goal
 
 abbrev pub invariant-loop-k : goal.invariant-loop-k
 invariant-loop-k l = Defining l.words l.ends l.forms l.defs l.numbers l.g l.n l.d l.k
-
-abbrev pub decreases-loop-k : goal.decreases-loop-k
-decreases-loop-k l = length l.forms - l.k

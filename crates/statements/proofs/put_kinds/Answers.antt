@@ -19,7 +19,7 @@ pub loop-k-preserved : goal.loop-k-preserved
 loop-k-preserved c =
     more c.loop-k.invariant (omega arith)
     (chosen _ _ c.kind_in.ensures)
-    c.bit-g.ensures.0
+    c.from-g.ensures
 
 pub returns : goal.returns
 unfolding kinds_of

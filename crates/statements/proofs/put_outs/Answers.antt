@@ -2,7 +2,6 @@
 -- Assumes nothing.
 use Rattle.statements.proofs.Filling.{begun, more, all_are}
 use Rattle.statements.specs.Tables.{outs_of}
-use Rattle.forms.specs.Lines.{word_in}
 use mathlib.Core.Path.{◌∙◌}
 use native.Mathlib.Omega.{arith}
 use Rattle.statements.proofs.put_outs.Goals as goal
@@ -14,7 +13,7 @@ pub loop-k-preserved : goal.loop-k-preserved
 loop-k-preserved c =
     more c.loop-k.invariant (omega arith)
     (λ e. c.narrow.ensures ∙ c.word_in.ensures.0)
-    c.bit-d.ensures.0
+    c.from-d.ensures
 
 pub returns : goal.returns
 unfolding outs_of

@@ -10,18 +10,15 @@ use Rattle.statements.proofs.put_sources.Goals as goal
 pub loop-k-init : goal.loop-k-init
 loop-k-init c = (begun _ c.requires.for_first, begun _ c.requires.for_second)
 
-pub last_word-requires : goal.last_word-requires
-last_word-requires c = c.requires.forms _ (omega arith)
-
 pub loop-k-preserved : goal.loop-k-preserved
 loop-k-preserved c = (
   more c.loop-k.invariant.0 (omega arith)
       (λ e. c.narrow.ensures ∙ c.word_in.ensures.0)
-      c.bit-g.ensures.0,
+      c.from-g.ensures,
   more c.loop-k.invariant.1 (omega arith)
       (λ e. c.narrow-in-loop-k.ensures ∙ c.word_in-in-loop-k.ensures.0
       ∙ ap (word_in _ _ c.loop-k.k) c.last_word.ensures.0)
-      c.bit-g.ensures.0,
+      c.from-g.ensures,
 )
 
 pub returns : goal.returns

@@ -11,6 +11,3 @@ abbrev pub invariant-loop-k : goal.invariant-loop-k
 invariant-loop-k l =
     Filling (says_gate l.forms) (λ i. word_in l.words l.ends i 2) (length l.forms) l.firsts l.g l.k
     × Filling (says_gate l.forms) (λ i. word_in l.words l.ends i (get_or l.forms i 0 - 1)) (length l.forms) l.seconds l.g l.k
-
-abbrev pub decreases-loop-k : goal.decreases-loop-k
-decreases-loop-k l = length l.forms - l.k

@@ -1,17 +1,14 @@
--- `states::free_inputs` meets its contract. The invariant: how many of the lines passed are free.
+-- `states::free_inputs` meets its contract: the lines that are free are counted.
 -- Assumes nothing.
-use native.Mathlib.Omega.{arith}
-use Rattle.ground.proofs.Counting.{no_sum, sum_small, sum_more, sum_all}
+use Rattle.std.proofs.Common.{rules}
+use borrow.Author.Tests.{tests}
+use Rattle.ground.proofs.Counting.{count_most}
+use Rattle.ground.proofs.Search.{count_over}
+use Rattle.states.specs.States.{is_free}
 use Rattle.states.proofs.free_inputs.Goals as goal
 
-pub loop-m-init : goal.loop-m-init
-loop-m-init c = no_sum _ _
-
-pub overflow_add-free : goal.overflow_add-free
-overflow_add-free c = omega (arith, sum_small c.loop-m.invariant, c.is_free-free.ensures.1)
-
-pub loop-m-preserved : goal.loop-m-preserved
-loop-m-preserved c = sum_more c.loop-m.invariant c.loop-m-test.true c.is_free-free.ensures.0
-
 pub returns : goal.returns
-returns c = (sum_all c.loop-m.invariant c.loop-m-test.false, sum_small c.loop-m.invariant)
+returns c =
+    let free = is_free c.args.circuit.now c.args.states.now in
+    let counted = count_over free c.filter.ensures.source c.filter.ensures.closure c.count.ensures.ran (λ x r q k. search (rules, tests)) in
+    (counted, rw counted (count_most c.args.n free))

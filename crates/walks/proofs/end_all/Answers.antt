@@ -4,5 +4,5 @@ use native.Mathlib.Omega.{arith}
 use Rattle.walks.proofs.Reaches.{ended_more}
 use Rattle.walks.proofs.end_all.Goals as goal
 
-pub loop-i-preserved : goal.loop-i-preserved
-loop-i-preserved c = ended_more c.loop-i.invariant (omega arith) c.outcome_by.ensures
+pub loop-reach-preserved : goal.loop-reach-preserved
+loop-reach-preserved c = ended_more c.loop-reach.invariant (omega arith) c.outcome_by.ensures

@@ -21,9 +21,9 @@ pub loop-i-preserved : goal.loop-i-preserved
 loop-i-preserved c =
     let turn = c.loop-i in
     let starts = c.begun.ensures ∙ ap (λ (x : Bool). eqb turn.m 0 && x) c.in_word-x.ensures in
-    let counted = c.bit-w.ensures.0 ∙ ap one starts in
+    let counted = c.from-w.ensures ∙ ap one starts in
     rw c.narrow.ensures
-    (more turn.invariant (omega arith) c.bit-w.result c.lead-m.result c.end_line-k.ensures counted c.lead-m.ensures)
+    (more turn.invariant (omega arith) c.from-w.result c.lead-m.result c.end_line-k.ensures counted c.lead-m.ensures)
 
 pub returns : goal.returns
 returns c = rw c.narrow-2.ensures (finished c.loop-i.invariant (omega arith))

@@ -1,12 +1,7 @@
 -- `words::cut` meets its contract: each byte may begin a word or end a line.
 -- Assumes nothing.
 use Rattle.words.proofs.Loop.{SoFar}
-use lib.ListN.{length}
-use Prim.Native.Nat.{◌-◌}
 use Rattle.words.proofs.cut.Given as goal
 
 abbrev pub invariant-loop-i : goal.invariant-loop-i
 invariant-loop-i l = SoFar l.text l.words l.ends l.m l.w l.k l.i
-
-abbrev pub decreases-loop-i : goal.decreases-loop-i
-decreases-loop-i l = length l.text - l.i
