@@ -9,7 +9,6 @@ use Rattle.little.specs.Little.{pair_at}
 use Rattle.circuit.specs.Record.{lines_of, kind_at}
 use Rattle.lists.specs.declared.Fault.{Fault}
 use Rattle.answers.specs.declared.Reason.TheVariants as reason
-use Rattle.answers.specs.declared.Reason.TheVariants.{FaultLayout}
 
 abbrev pub fault_count : List ℕ → ℕ
 fault_count fs = length fs / 8
