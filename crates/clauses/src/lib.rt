@@ -13,7 +13,7 @@ ghost use Rattle.circuit.specs.Formed.{Accepts};
 ghost use Rattle.clauses.specs.Owed.{WholeReady, ClauseLinesReady, PutAllReady, FitDone, RestDone};
 
 use answers::{Reason, Refusal};
-use circuit::{check, equal};
+use circuit::check;
 use cnf::{Size, minus, plus, put_clause};
 use line_clauses::{line_size, put_difference, put_faulty, put_good};
 use lists::{Fault, check_faults, read_fault};
@@ -81,7 +81,7 @@ fn put_differences(circuit: &[u8], n: usize, words: &mut [i32], at: usize) -> us
     let mut j = 0;
     for k in 0..n {
         next = put_difference(circuit, n, k, j, words, next);
-        j += equal(circuit[8 * k + 1], 1);
+        j += usize::from(circuit[8 * k + 1] == 1);
     }
     next
 }

@@ -3,12 +3,11 @@
 use mathlib.Core.Path.{◌≡◌, ap, ◌∙◌}
 use mathlib.Core.Bool.{Bool, true, false, not, and_assoc}
 use mathlib.Core.List.{List}
-use Prim.Native.Nat.{ℕ, ◌+◌, ◌-◌, ◌*◌, ◌≤◌, ◌<◌}
+use Prim.Native.Nat.{ℕ, ◌*◌, ◌≤◌}
 use native.Mathlib.Omega.{arith}
 use lib.Bits.{bit_and}
 use lib.Dec.{eqb}
-use lib.ListN.{get_or}
-use borrow.Author.Tests.{eq-eqb, ne_eqb, le-leb, lt-leb}
+use borrow.Author.Tests.{ne_eqb}
 use Rattle.ground.specs.Choose.{one}
 use Rattle.ground.specs.Below.{any_below}
 use Rattle.ground.proofs.Tests.{one_and, bit_one}
@@ -28,26 +27,13 @@ pub fewer_notes : {s : List ℕ} {n : ℕ} → Notes s n → (k : ℕ) → k ≤
 fewer_notes so k l = record { room = omega (arith, so.room); bit = λ f b. so.bit f (omega arith) }
 
 -- 1 is not 0
-one-not : (b : Bool) {r : ℕ} → r ≡ one b → not (eqb r 0) ≡ b
+pub one-not : (b : Bool) {r : ℕ} → r ≡ one b → not (eqb r 0) ≡ b
 one-not true e = rw e
 one-not false e = rw e
 
 module _ (c s t : List ℕ) (from : ℕ) where
-  pub sole_undetected : (g : ℕ) → (get_or s g 0 ≡ 1 → ⊥) → false ≡ sole_at c s t from g
-  unfolding sole_at
-  sole_undetected g n = simp (ne_eqb (get_or s g 0) 1 n)
-
-  module _ (g : ℕ) (m : get_or s g 0 ≡ 1) where
-    pub sole_unknown : 1 < get_or t (from + g) 0 → false ≡ sole_at c s t from g
-    unfolding sole_at
-    sole_unknown u = simp (eq-eqb (get_or s g 0) 1 m, lt-leb (get_or t (from + g) 0) 1 u)
-
-    pub sole_known : {r : ℕ} → get_or t (from + g) 0 ≤ 1 → r ≡ one (any_below g (sole_in c s (256 * g) t from (1 - get_or t (from + g) 0))) → not (eqb r 0) ≡ sole_at c s t from g
-    unfolding sole_at
-    sole_known u e = rw (eq-eqb (get_or s g 0) 1 m, le-leb (get_or t (from + g) 0) 1 u) (one-not _ e)
-
   module _ (n : ℕ) {r : ℕ} (is : r ≡ one (any_below n (sole_in c s (256 * n) t from 1))) where
-    pub needed_fault : (r ≡ 0 → ⊥) → true ≡ needed_of c s t from n
+    pub needed_fault : (r ≡ 0 → ⊥) → not (eqb r 0) ≡ needed_of c s t from n
     unfolding needed_of
     needed_fault h = rw (← one-not (any_below n (sole_in c s (256 * n) t from 1)) is, ne_eqb r 0 h)
 

@@ -8,13 +8,6 @@ ghost use Rattle.ground.specs.Below.{any_below};
 ghost use Rattle.counts.specs.Counted.{hit_row, hit_pair, hit};
 ghost use Rattle.counts.specs.Owed.{Counts, CellsDone, RowRoom, CellsRoom, SeeDone, Notes, sole_of, sole_in, sole_at, needed_of};
 
-// 1 where the two are the same, else 0.
-fn same(x: u8, y: u8) -> u8
-    ensures { result ≡ one (eqb x y) }
-{
-    if x == y { 1 } else { 0 }
-}
-
 // ---- counting
 
 // One cell, with x counted in or out.
@@ -42,11 +35,9 @@ fn count_row(
     requires { RowRoom counts.old at table.now from faults }
     ensures { CellsDone into (hit_row table.now from want at faults) counts.old counts.new }
 {
-    let mut f = 0;
-    while f < faults {
-        let x = same(table[from + f], want);
+    for f in 0..faults {
+        let x = u8::from(table[from + f] == want);
         counts[at + f] = count_cell(counts[at + f], x, into);
-        f += 1;
     }
 }
 
@@ -68,10 +59,8 @@ pub fn count_pattern(counts: &mut [u8], table: &[u8], from: usize, faults: usize
     requires { CellsRoom counts.old table.now from faults }
     ensures { CellsDone into (hit table.now from faults) counts.old counts.new }
 {
-    let mut g = 0;
-    while g < faults {
+    for g in 0..faults {
         count_pairs(counts, table, from, g, into);
-        g += 1;
     }
     count_row(counts, 256 * faults, table, from, faults, 1, into);
 }
@@ -81,11 +70,8 @@ pub fn see_pattern(seen: &mut [u8], table: &[u8], from: usize, faults: usize)
     requires { RowRoom seen.old 0 table.now from faults }
     ensures { SeeDone table.now from faults seen.old seen.new }
 {
-    let mut f = 0;
-    while f < faults {
-        let x = same(table[from + f], 1);
-        seen[f] = seen[f] | x;
-        f += 1;
+    for f in 0..faults {
+        seen[f] |= u8::from(table[from + f] == 1);
     }
 }
 
@@ -96,7 +82,7 @@ fn sole(count: u8, seen: u8, entry: u8, want: u8) -> u8
     requires { seen ≤ 1 }
     ensures { result ≡ one (sole_of count seen entry want) }
 {
-    same(count, 1) & seen & same(entry, want)
+    u8::from(count == 1) & seen & u8::from(entry == want)
 }
 
 // Whether it is at some place of a row, as 1 or 0: the whole row is gone through, so that several places are done at once.
@@ -114,11 +100,8 @@ fn sole_in(
     ensures { result ≡ one (any_below faults (sole_in counts.now seen.now at table.now from want)) }
 {
     let mut r: u8 = 0;
-    let mut f = 0;
-    while f < faults {
-        let x = sole(counts[at + f], seen[f], table[from + f], want);
-        r = r | x;
-        f += 1;
+    for f in 0..faults {
+        r |= sole(counts[at + f], seen[f], table[from + f], want);
     }
     r
 }
@@ -130,14 +113,8 @@ fn sole_at(counts: &[u8], seen: &[u8], table: &[u8], from: usize, g: usize) -> b
     requires g_in_bounds_2 { from + g < length table.now }
     ensures { result ≡ sole_at counts.now seen.now table.now from g }
 {
-    if seen[g] != 1 {
-        return false;
-    }
     let entry = table[from + g];
-    if 1 < entry {
-        return false;
-    }
-    sole_in(counts, seen, 256 * g, table, from, g, 1 - entry) != 0
+    seen[g] == 1 && entry <= 1 && sole_in(counts, seen, 256 * g, table, from, g, 1 - entry) != 0
 }
 
 // Whether the counted patterns, without this one of them, would lack something.
@@ -146,15 +123,6 @@ pub fn needed(counts: &[u8], seen: &[u8], table: &[u8], from: usize, faults: usi
     requires notes { Notes seen.now faults }
     ensures { result ≡ needed_of counts.now seen.now table.now from faults }
 {
-    if sole_in(counts, seen, 256 * faults, table, from, faults, 1) != 0 {
-        return true;
-    }
-    let mut g = 0;
-    while g < faults {
-        if sole_at(counts, seen, table, from, g) {
-            return true;
-        }
-        g += 1;
-    }
-    false
+    sole_in(counts, seen, 256 * faults, table, from, faults, 1) != 0
+        || (0..faults).any(|g| sole_at(counts, seen, table, from, g))
 }

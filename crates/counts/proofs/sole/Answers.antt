@@ -4,4 +4,4 @@ use Rattle.counts.proofs.Only.{sole_and}
 use Rattle.counts.proofs.sole.Goals as goal
 
 pub returns : goal.returns
-returns c = sole_and _ _ _ _ c.same.ensures c.requires c.same-2.ensures
+returns c = sole_and _ _ _ _ c.from.ensures c.requires c.from-2.ensures

@@ -7,11 +7,11 @@ use Rattle.counts.proofs.sole_in.Goals as goal
 pub loop-f-init : goal.loop-f-init
 loop-f-init c = none_some _ _
 
-pub sole-x-requires : goal.sole-x-requires
-sole-x-requires c = c.requires.notes.bit _ (search rules)
+pub sole-r-requires : goal.sole-r-requires
+sole-r-requires c = c.requires.notes.bit _ (search rules)
 
 pub loop-f-preserved : goal.loop-f-preserved
-loop-f-preserved c = some_more c.loop-f.invariant (search rules) c.sole-x.ensures
+loop-f-preserved c = some_more c.loop-f.invariant (search rules) c.sole-r.ensures
 
 pub returns : goal.returns
 returns c = some-all c.loop-f.invariant (search rules)
