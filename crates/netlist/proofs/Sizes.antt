@@ -6,7 +6,7 @@ use lib.Dec.{leb}
 use lib.ListN.{length}
 use borrow.Author.Tests.{leb-true, le-leb}
 use Rattle.ground.proofs.Tests.{some, same_test}
-use Rattle.answers.specs.Rules.{refusal, Ruling}
+use Rattle.answers.specs.Rules.{refusal}
 use Rattle.answers.specs.Answer.{answered}
 use Rattle.circuit.specs.Record.{outputs_of}
 use Rattle.circuit.specs.Promise.{circuit_rules, check_of, counts_are}
