@@ -1,8 +1,7 @@
 // The circuit's records: reading their fields, the layout rule, and part 1, the circuit check.
 #![tactic(auto)]
 
-ghost use Rattle.std.specs.Prelude.{◌≡◌, ◌*◌, ◌≤◌, eqb, length};
-ghost use Rattle.ground.specs.Choose.{one};
+ghost use Rattle.std.specs.Prelude.{◌≡◌, ◌*◌, ◌≤◌, length};
 ghost use Rattle.answers.specs.Rules.{refusal};
 ghost use Rattle.circuit.specs.Record.{pin_at, Inside};
 ghost use Rattle.circuit.specs.Layout.{pin_ok};
@@ -84,13 +83,6 @@ fn bad_byte(circuit: &[u8], k: usize) -> usize
         return 6;
     }
     8
-}
-
-// 1 where two bytes are equal, else 0.
-pub fn equal(a: u8, b: u8) -> usize
-    ensures { (result ≡ one (eqb a b)) × (result ≤ 1) }
-{
-    if a == b { 1 } else { 0 }
 }
 
 // The lines before the first of n that breaks its layout, counted in one pass. The output byte of a line that keeps its layout is 0 or 1.

@@ -67,43 +67,33 @@ fn fill_chances(circuit: &[u8], reads: &mut [u8], ones: &mut [f64], zeros: &mut 
     ensures { Filled circuit.now ones.new zeros.new }
 {
     count_reads(circuit, reads);
-    let mut k = 0;
-    while k < ones.len() {
+    for k in 0..ones.len() {
         let chances = line_chances(circuit, reads, ones, zeros, k);
         ones[k] = chances.one;
         zeros[k] = chances.zero;
-        k += 1;
     }
 }
 
-// With memory of its own for the readings. All of it is cleared first, so that a circuit of up to 128 lines gets less (docs/DECISIONS.md, 125).
-fn fill_small(circuit: &[u8], n: usize, ones: &mut [f64], zeros: &mut [f64])
-    requires { (n ≤ 128) × RoomReady circuit.now n (length ones.old) (length zeros.old) }
+// With memory of its own for the readings.
+fn fill_with<const SIZE: usize>(circuit: &[u8], n: usize, ones: &mut [f64], zeros: &mut [f64])
+    requires { (n ≤ SIZE) × (SIZE ≤ 2048) × RoomReady circuit.now n (length ones.old) (length zeros.old) }
     ensures { Filled circuit.now ones.new zeros.new }
 {
-    let mut reads = [0u8; 128];
+    let mut reads = [0u8; SIZE];
     fill_chances(circuit, &mut reads[..n], ones, zeros);
 }
 
-// For as many lines as a circuit can have.
-fn fill_large(circuit: &[u8], n: usize, ones: &mut [f64], zeros: &mut [f64])
-    requires { (n ≤ 2048) × RoomReady circuit.now n (length ones.old) (length zeros.old) }
-    ensures { Filled circuit.now ones.new zeros.new }
-{
-    let mut reads = [0u8; 2048];
-    fill_chances(circuit, &mut reads[..n], ones, zeros);
-}
-
-// The one or the other.
+// That memory has room for as many lines as a circuit can have. All of it is cleared first, so that a circuit of up to 128 lines gets less
+// (docs/DECISIONS.md, 125).
 fn fill_sized(circuit: &[u8], n: usize, ones: &mut [f64], zeros: &mut [f64])
     requires { RoomReady circuit.now n (length ones.old) (length zeros.old) }
     ensures { Filled circuit.now ones.new zeros.new }
 {
     if n <= 128 {
-        fill_small(circuit, n, ones, zeros);
-        return;
+        fill_with::<128>(circuit, n, ones, zeros);
+    } else {
+        fill_with::<2048>(circuit, n, ones, zeros);
     }
-    fill_large(circuit, n, ones, zeros);
 }
 
 // The chances in an accepted circuit.

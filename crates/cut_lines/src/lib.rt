@@ -12,23 +12,18 @@ const OTHER_FREE: u8 = 0;
 fn cut_kind(mark: u8, kind: u8) -> u8
     ensures { result ≡ kind_by mark kind }
 {
-    if mark == 2 {
-        return kind;
+    match mark {
+        2 => kind,
+        1 => 0,
+        _ => 255,
     }
-    if mark == 1 {
-        return 0;
-    }
-    255
 }
 
 // Its output byte: another free line is no output.
 fn cut_out(mark: u8, out: u8) -> u8
     ensures { result ≡ out_by mark out }
 {
-    if mark == OTHER_FREE {
-        return 0;
-    }
-    out
+    if mark == OTHER_FREE { 0 } else { out }
 }
 
 // Cuts the circuit of which `lines` is a copy.
@@ -36,12 +31,8 @@ pub fn cut_lines(circuit: &[u8], marks: &[u8], lines: &mut [u8])
     requires { CutReady circuit.now marks.now lines.old }
     ensures { lines.new ≡ cut circuit.now (length marks.now) }
 {
-    let mut k = 0;
-    while k < marks.len() {
-        let kind = cut_kind(marks[k], circuit[8 * k]);
-        let out = cut_out(marks[k], circuit[8 * k + 1]);
-        lines[8 * k] = kind;
-        lines[8 * k + 1] = out;
-        k += 1;
+    for (k, &mark) in marks.iter().enumerate() {
+        lines[8 * k] = cut_kind(mark, circuit[8 * k]);
+        lines[8 * k + 1] = cut_out(mark, circuit[8 * k + 1]);
     }
 }

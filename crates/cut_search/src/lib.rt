@@ -10,7 +10,6 @@ ghost use Rattle.trees.specs.Setting.{set_trees};
 ghost use Rattle.setting.specs.Owed.{TreesReady};
 ghost use Rattle.cut_search.specs.Owed.{SearchCutReady, RunCutReady, RunHeadsReady, HeadRunDone};
 
-use circuit::equal;
 use cut_lines::cut_lines;
 use lists::Fault;
 use nodes::Verdict;
@@ -83,13 +82,7 @@ fn run_cut(
 fn count_heads(marks: &[u8]) -> usize
     ensures { result ≡ count_below (length marks.now) (λ k. eqb (get_or marks.now k 0) 1) }
 {
-    let mut k = 0;
-    let mut r = 0;
-    while k < marks.len() {
-        r += equal(marks[k], 1);
-        k += 1;
-    }
-    r
+    marks.iter().filter(|&&mark| mark == 1).count()
 }
 
 // The search over head lines from all X on. There are no more head lines than inputs, so 64 bytes are room enough for a node.

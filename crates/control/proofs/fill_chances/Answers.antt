@@ -24,9 +24,6 @@ offset_bounds-ones-k c = omega arith
 pub offset_bounds-zeros-k : goal.offset_bounds-zeros-k
 offset_bounds-zeros-k c = let so = c.loop-k.invariant in omega (arith, so.ones_long, so.zeros_long)
 
-pub loop-k-smaller : goal.loop-k-smaller
-loop-k-smaller c = let so = c.loop-k.invariant in omega (arith, so.ones_long)
-
 pub loop-k-preserved : goal.loop-k-preserved
 loop-k-preserved c = next-line c.requires.known c.loop-k.invariant (omega arith) c.line_chances-chances.ensures
 

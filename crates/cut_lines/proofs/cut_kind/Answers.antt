@@ -1,17 +1,18 @@
 -- `cut_lines::cut_kind` meets its contract: one answer for each branch.
 -- Assumes nothing.
-use borrow.Author.Tests.{eq-eqb, ne_eqb}
+use native.Mathlib.Omega.{arith}
+use borrow.Author.Tests.{ne_eqb}
 use Rattle.cut_lines.specs.Owed.{kind_by}
 use Rattle.cut_lines.proofs.cut_kind.Goals as goal
 
-pub returns-then-mark-eq2 : goal.returns-then-mark-eq2
+pub returns-in-2 : goal.returns-in-2
 unfolding kind_by
-returns-then-mark-eq2 c = simp (eq-eqb _ _ c.if-mark-eq2.true)
+returns-in-2 c = rw c.in-2.is
 
-pub returns-then-mark-eq1 : goal.returns-then-mark-eq1
+pub returns-in-1 : goal.returns-in-1
 unfolding kind_by
-returns-then-mark-eq1 c = simp (ne_eqb _ _ c.if-mark-eq2.false, eq-eqb _ _ c.if-mark-eq1.true)
+returns-in-1 c = rw c.in-1.is
 
-pub returns : goal.returns
+pub returns-in_default : goal.returns-in_default
 unfolding kind_by
-returns c = simp (ne_eqb _ _ c.if-mark-eq2.false, ne_eqb _ _ c.if-mark-eq1.false)
+returns-in_default c = simp (ne_eqb c.args.mark 2 (omega arith), ne_eqb c.args.mark 1 (omega arith))

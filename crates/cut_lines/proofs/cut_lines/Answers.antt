@@ -13,7 +13,7 @@ bounds-lines-k-in-loop-k c = simp length-set (omega arith)
 
 pub loop-k-preserved : goal.loop-k-preserved
 loop-k-preserved c =
-    more c.requires c.loop-k.invariant (omega arith) c.cut_kind-kind.ensures c.cut_out-out.ensures
+    more c.requires c.loop-k.invariant (omega arith) c.cut_kind.ensures c.cut_out.ensures
 
 pub returns : goal.returns
 returns c = finished c.requires c.loop-k.invariant (omega arith)

