@@ -1,7 +1,7 @@
 // The audit of a kept list: whether another tool's marks lose a need of the table or keep a pattern that can be spared.
 #![tactic(auto)]
 
-ghost use Rattle.std.specs.Prelude.{◌≡◌, ◌<◌, length};
+ghost use Rattle.std.specs.Prelude.{◌≡◌, ◌+◌, ◌*◌, ◌≤◌, length};
 ghost use Rattle.tables.specs.Entries.{entries_of};
 ghost use Rattle.tables.specs.Table.{Sized};
 ghost use Rattle.tallies.specs.Owed.{Cleared};
@@ -53,29 +53,19 @@ fn tally_both(
     )
 }
 
-// With few faults: two rows of 256 for the pairs of each, and two for the faults.
-fn find_few(faults: usize, patterns: usize, table: &[u8], marks: &[u8]) -> Finding
-    requires sized { Sized faults patterns (length table.now) × (faults < 16) }
-    requires marks_ready { MarksReady patterns marks.now }
-    ensures { result ≡ finding_of (entries_of faults table.now) faults patterns marks.now }
-{
-    let mut kept = [0u8; 4096];
-    let mut dropped = [0u8; 4096];
-    tally_both(&mut kept, &mut dropped, table, faults, patterns, marks)
-}
-
-// The same for any number of faults. Memory for all rows takes longer to clear than a small table to audit.
-fn find_many(faults: usize, patterns: usize, table: &[u8], marks: &[u8]) -> Finding
+// The same, with memory for twice so many counts: a row of 256 for the pairs of each fault, and one for the faults.
+fn find_in<const ROOM: usize>(faults: usize, patterns: usize, table: &[u8], marks: &[u8]) -> Finding
+    requires room { (256 * faults + faults ≤ ROOM) × (ROOM ≤ 65792) }
     requires sized { Sized faults patterns (length table.now) }
     requires marks_ready { MarksReady patterns marks.now }
     ensures { result ≡ finding_of (entries_of faults table.now) faults patterns marks.now }
 {
-    let mut kept = [0u8; 65792];
-    let mut dropped = [0u8; 65792];
+    let mut kept = [0u8; ROOM];
+    let mut dropped = [0u8; ROOM];
     tally_both(&mut kept, &mut dropped, table, faults, patterns, marks)
 }
 
-// Of a table and marks that keep their rules.
+// Of a table and marks that keep their rules. Memory for all rows takes longer to clear than a small table to audit.
 fn audit_table(faults: usize, patterns: usize, table: &[u8], marks: &[u8]) -> Finding
     requires sized { Sized faults patterns (length table.now) }
     requires marks_len { length marks.now ≡ patterns }
@@ -86,9 +76,10 @@ fn audit_table(faults: usize, patterns: usize, table: &[u8], marks: &[u8]) -> Fi
         return Finding::BadMark(bad);
     }
     if faults < 16 {
-        return find_few(faults, patterns, table, marks);
+        find_in::<4096>(faults, patterns, table, marks)
+    } else {
+        find_in::<65792>(faults, patterns, table, marks)
     }
-    find_many(faults, patterns, table, marks)
 }
 
 // The audit.

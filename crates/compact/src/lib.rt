@@ -1,7 +1,7 @@
 // Part 3, the compactor: which patterns of a table are kept.
 #![tactic(auto)]
 
-ghost use Rattle.std.specs.Prelude.{◌≡◌, ◌+◌, ◌<◌, length, replicate};
+ghost use Rattle.std.specs.Prelude.{◌≡◌, ◌+◌, ◌*◌, ◌≤◌, length, replicate};
 ghost use Rattle.tables.specs.Entries.{entries_of};
 ghost use Rattle.tables.specs.Table.{Sized};
 ghost use Rattle.needs.specs.Needs.{kept, compacted};
@@ -13,17 +13,6 @@ ghost use Rattle.compact.specs.Owed.{TurnRoom, TurnReady, TurnDone};
 use answers::Refusal;
 use tables::check_marks;
 use tallies::tally;
-
-// Marks every pattern as kept.
-fn keep_all(marks: &mut [u8])
-    ensures { marks.new ≡ replicate (length marks.old) 1 }
-{
-    let mut i = 0;
-    while i < marks.len() {
-        marks[i] = 1;
-        i += 1;
-    }
-}
 
 // A pattern's turn: it is dropped if the others still in the set meet every need.
 fn turn(
@@ -62,11 +51,8 @@ fn drop_spare(
     requires tallied { Tallied table.now faults patterns (kept marks.old) counts.old seen.now }
     ensures { marks.new ≡ compacted (entries_of faults table.now) faults patterns }
 {
-    let mut left = patterns;
-    while 0 < left {
-        let p = left - 1;
+    for p in (0..patterns).rev() {
         turn(counts, seen, marks, table, faults, patterns, p);
-        left = left - 1;
     }
 }
 
@@ -77,43 +63,34 @@ fn mark_all(counts: &mut [u8], marks: &mut [u8], table: &[u8], faults: usize, pa
     requires marks_len { length marks.old ≡ patterns }
     ensures { marks.new ≡ compacted (entries_of faults table.now) faults patterns }
 {
-    keep_all(marks);
+    marks.fill(1);
     let mut seen = [0u8; 256];
     tally(counts, &mut seen, table, faults, patterns, marks, 1);
     drop_spare(counts, &seen, marks, table, faults, patterns);
 }
 
-// The marks of a table with few faults: a row of 256 for the pairs of each, and one for the faults.
-fn mark_few(faults: usize, patterns: usize, table: &[u8], marks: &mut [u8])
-    requires sized { Sized faults patterns (length table.now) × (faults < 16) }
-    requires marks_len { length marks.old ≡ patterns }
-    ensures { marks.new ≡ compacted (entries_of faults table.now) faults patterns }
-{
-    let mut counts = [0u8; 4096];
-    mark_all(&mut counts, marks, table, faults, patterns);
-}
-
-// The same for any number of faults. Memory for all rows takes longer to clear than a small table to compact.
-fn mark_many(faults: usize, patterns: usize, table: &[u8], marks: &mut [u8])
+// The same, with memory for so many counts: a row of 256 for the pairs of each fault, and one for the faults.
+fn mark_in<const ROOM: usize>(faults: usize, patterns: usize, table: &[u8], marks: &mut [u8])
+    requires room { (256 * faults + faults ≤ ROOM) × (ROOM ≤ 65792) }
     requires sized { Sized faults patterns (length table.now) }
     requires marks_len { length marks.old ≡ patterns }
     ensures { marks.new ≡ compacted (entries_of faults table.now) faults patterns }
 {
-    let mut counts = [0u8; 65792];
+    let mut counts = [0u8; ROOM];
     mark_all(&mut counts, marks, table, faults, patterns);
 }
 
-// The marks of a table that keeps its rules.
+// The marks of a table that keeps its rules. Memory for all rows takes longer to clear than a small table to compact.
 fn mark_table(faults: usize, patterns: usize, table: &[u8], marks: &mut [u8])
     requires sized { Sized faults patterns (length table.now) }
     requires marks_len { length marks.old ≡ patterns }
     ensures { marks.new ≡ compacted (entries_of faults table.now) faults patterns }
 {
     if faults < 16 {
-        mark_few(faults, patterns, table, marks);
-        return;
+        mark_in::<4096>(faults, patterns, table, marks);
+    } else {
+        mark_in::<65792>(faults, patterns, table, marks);
     }
-    mark_many(faults, patterns, table, marks);
 }
 
 // The compactor.

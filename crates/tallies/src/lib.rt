@@ -21,11 +21,10 @@ fn tally_pattern(
     requires row_room { RowRoom seen.old 0 table.now from faults }
     ensures { PatternDone in_set table.now from faults counts.old seen.old counts.new seen.new }
 {
-    if !in_set {
-        return;
+    if in_set {
+        count_pattern(counts, table, from, faults, true);
+        see_pattern(seen, table, from, faults);
     }
-    count_pattern(counts, table, from, faults, true);
-    see_pattern(seen, table, from, faults);
 }
 
 // Tallies the patterns whose mark is `mark`, in memory that is all 0.
@@ -43,10 +42,8 @@ pub fn tally(
     requires marks_len { length marks.now ≡ patterns }
     ensures { Tallied table.now faults patterns (with_mark mark marks.now) counts.new seen.new }
 {
-    let mut p = 0;
-    while p < patterns {
+    for p in 0..patterns {
         let from = p * faults;
         tally_pattern(counts, seen, table, from, faults, marks[p] == mark);
-        p += 1;
     }
 }

@@ -7,10 +7,8 @@ pub returns-then-bad-patterns : goal.returns-then-bad-patterns
 returns-then-bad-patterns c =
     found_bad _ c.requires.marks_len c.first_bad-bad.ensures _ _ c.if-bad-patterns.true
 
-pub find_few-requires : goal.find_few-requires
-find_few-requires c =
-    record { sized = (c.requires.sized, c.if-faults-lt16.true); marks_ready = marks_ready _ c.requires.marks_len c.first_bad-bad.ensures c.if-bad-patterns.false }
+pub find_in-requires-clause-marks_ready : goal.find_in-requires-clause-marks_ready
+find_in-requires-clause-marks_ready c = marks_ready _ c.requires.marks_len c.first_bad-bad.ensures c.if-bad-patterns.false
 
-pub find_many-requires : goal.find_many-requires
-find_many-requires c =
-    record { sized = c.requires.sized; marks_ready = marks_ready _ c.requires.marks_len c.first_bad-bad.ensures c.if-bad-patterns.false }
+pub find_in-requires-else-faults-lt16-clause-marks_ready : goal.find_in-requires-else-faults-lt16-clause-marks_ready
+find_in-requires-else-faults-lt16-clause-marks_ready c = marks_ready _ c.requires.marks_len c.first_bad-bad.ensures c.if-bad-patterns.false

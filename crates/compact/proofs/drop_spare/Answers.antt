@@ -7,22 +7,22 @@ use Rattle.tallies.proofs.Tallies.{room_after}
 use Rattle.compact.proofs.Turns.{all_to_go, ready-next, one_gone, none_to_go}
 use Rattle.compact.proofs.drop_spare.Goals as goal
 
-pub loop-left-init : goal.loop-left-init
-loop-left-init c = all_to_go c.requires.marks_value c.requires.tallied
+pub loop-p-init : goal.loop-p-init
+loop-p-init c = all_to_go c.requires.marks_value c.requires.tallied
 
 pub turn-requires : goal.turn-requires
 turn-requires c =
-    let l = c.loop-left in
+    let l = c.loop-p in
     record {
       tally_room = room_after _ _ c.requires.tally_room l.invariant.cells refl;
       turn_room = record { marks = l.invariant.marks ∙ ap length c.requires.marks_value ∙ length-replicate _ 1; below = search rules };
       turn_ready = ready-next l.invariant (search rules);
     }
 
-pub loop-left-preserved : goal.loop-left-preserved
-loop-left-preserved c =
+pub loop-p-preserved : goal.loop-p-preserved
+loop-p-preserved c =
     let w = c.turn in
-    one_gone c.loop-left.invariant (search rules) w.auto.counts w.auto.marks w.ensures
+    one_gone c.loop-p.invariant (search rules) w.auto.counts w.auto.marks w.ensures
 
 pub returns : goal.returns
-returns c = none_to_go c.loop-left.invariant (search rules)
+returns c = none_to_go c.loop-p.invariant (search rules)

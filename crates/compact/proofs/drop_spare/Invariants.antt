@@ -3,8 +3,5 @@
 use Rattle.compact.proofs.Turns.{ToGo}
 use Rattle.compact.proofs.drop_spare.Given as goal
 
-abbrev pub invariant-loop-left : goal.invariant-loop-left
-invariant-loop-left l = ToGo l.table l.faults l.patterns l.seen l.initial.counts l.initial.marks l.left l.counts l.marks
-
-abbrev pub decreases-loop-left : goal.decreases-loop-left
-decreases-loop-left l = l.left
+abbrev pub invariant-loop-p : goal.invariant-loop-p
+invariant-loop-p l = ToGo l.table l.faults l.patterns l.seen l.initial.counts l.initial.marks l.p l.counts l.marks

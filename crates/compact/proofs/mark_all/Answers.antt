@@ -10,7 +10,7 @@ use Rattle.compact.proofs.mark_all.Goals as goal
 pub tally-requires : goal.tally-requires
 tally-requires c =
     let start = started c.requires.cleared c.requires.sized in
-    record { tally_room = start.0; zeros = start.1; marks_len = c.keep_all.auto.marks ∙ c.requires.marks_len }
+    record { tally_room = start.0; zeros = start.1; marks_len = c.fill.ensures.len ∙ c.requires.marks_len }
 
 pub slice_bounds-drop_spare-end : goal.slice_bounds-drop_spare-end
 slice_bounds-drop_spare-end c = sym (c.tally.auto.seen ∙ filled-length 256 0)
@@ -20,6 +20,6 @@ drop_spare-requires c =
     let n = c.tally in
     record {
       tally_room = room_after _ _ (started c.requires.cleared c.requires.sized).0 n.auto.counts n.auto.seen;
-      marks_value = c.keep_all.ensures ∙ ap (λ (n : ℕ). replicate n 1) c.requires.marks_len;
+      marks_value = c.fill.ensures.after (λ y e. e) ∙ ap (λ (n : ℕ). replicate n 1) c.requires.marks_len;
       tallied = n.ensures;
     }

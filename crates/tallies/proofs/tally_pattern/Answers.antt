@@ -2,15 +2,13 @@
 -- Assumes nothing.
 use mathlib.Core.Path.{refl, sym, ◌∙◌}
 use mathlib.Core.Bool.{true≢false}
-use borrow.Author.Tests.{not-true, not-false}
 use Rattle.tallies.proofs.tally_pattern.Goals as goal
 
-pub returns-then-not-in_set : goal.returns-then-not-in_set
-returns-then-not-in_set c = record { counts = λ q. absurd (true≢false (sym q ∙ not-true _ c.if-not-in_set.true-raw)); leaves = λ _. (refl, refl) }
+pub returns-then-in_set : goal.returns-then-in_set
+returns-then-in_set c = record {
+  counts = λ _. (c.count_pattern.ensures, c.see_pattern.ensures);
+  leaves = λ q. absurd (true≢false (sym c.if-in_set.true ∙ q));
+}
 
-pub returns : goal.returns
-returns c =
-    record {
-      counts = λ _. (c.count_pattern.ensures, c.see_pattern.ensures);
-      leaves = λ q. absurd (true≢false (sym (not-false _ c.if-not-in_set.false-raw) ∙ q));
-    }
+pub returns-else-in_set : goal.returns-else-in_set
+returns-else-in_set c = record { counts = λ q. absurd (true≢false (sym q ∙ c.if-in_set.false)); leaves = λ _. (refl, refl) }
