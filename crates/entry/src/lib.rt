@@ -33,10 +33,7 @@ fn compare(masks: bool, a: u8, b: u8) -> u8
     if 2 <= b {
         return UNKNOWN;
     }
-    if a == b {
-        return PASS;
-    }
-    FAIL
+    if a == b { PASS } else { FAIL }
 }
 
 // What line k says; a line that is no output says nothing, and its values are not read.

@@ -6,8 +6,6 @@ ghost use Rattle.gates.specs.Gate.{pins_of, gate_of, at_pins};
 ghost use Rattle.gates.specs.Words.{select_of};
 ghost use Rattle.gates.specs.Owed.{SourcesSmall, block_of, digit_of};
 
-use ground::wide;
-
 // The one kind with three pins: two sources, and at pin 3 the select line.
 pub const SELECTOR: u8 = 9;
 
@@ -92,8 +90,8 @@ fn selected(first: u8, second: u8, select: u8) -> u8
 pub fn gate(kind: u8, a: u8, b: u8, c: u8) -> u8
     ensures { SourcesSmall kind a b → result ≡ gate_of kind (at_pins a b c) }
 {
-    let first = wide(a);
-    let second = wide(b);
+    let first = usize::from(a);
+    let second = usize::from(b);
     // two X's, which alone have this sum, give X whatever the kind is; told first for circuits whose gates read the lines just below (docs/DECISIONS.md, 60)
     if first + second == TWO_X {
         return X;

@@ -60,47 +60,31 @@ fn chosen(a: Lanes, b: Lanes, c: Lanes) -> Lanes
 }
 
 // OR and NOR are AND and NAND of what the pins see negated, with the result turned once more.
+#[tactic(auto, unfolding(crate::specs::Owed::turns_pins))]
 fn turns_pins(kind: u8) -> bool
     ensures { result ≡ turns_pins kind }
 {
-    if kind == 5 {
-        return true;
-    }
-    kind == 6
+    matches!(kind, 5 | 6)
 }
 
+#[tactic(auto, unfolding(crate::specs::Owed::turns_result))]
 fn turns_result(kind: u8) -> bool
     ensures { result ≡ turns_result kind }
 {
-    if kind == 2 {
-        return true;
-    }
-    if kind == 4 {
-        return true;
-    }
-    if kind == 5 {
-        return true;
-    }
-    kind == 8
+    matches!(kind, 2 | 4 | 5 | 8)
 }
 
 // Buffer and NOT have one pin, and are AND and NAND of what it sees with itself.
 fn second(kind: u8, a: Lanes, b: Lanes) -> Lanes
     ensures { Lanewise2 (second_of kind) a b result }
 {
-    if kind <= 2 {
-        return a;
-    }
-    b
+    if kind <= 2 { a } else { b }
 }
 
 fn core(kind: u8, a: Lanes, b: Lanes) -> Lanes
     ensures { Lanewise2 (core_of kind) a b result }
 {
-    if 7 <= kind {
-        return odd(a, b);
-    }
-    both(a, b)
+    if 7 <= kind { odd(a, b) } else { both(a, b) }
 }
 
 // The value of a gate whose pins see a, b and c, in every lane; a kind takes no notice of what is at a pin that it lacks. Every gate but the selector is

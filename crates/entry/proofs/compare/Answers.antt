@@ -25,9 +25,6 @@ returns-then-a-b c =
     let known = c.if-a-ge2.false in
     simp (compared c.args.masks c.args.a c.args.b known, lt-ltb _ _ known, lt-ltb _ _ c.if-b-ge2.false, eq-eqb _ _ c.if-a-b.true)
 
-pub returns : goal.returns
+pub returns-else-a-b : goal.returns-else-a-b
 unfolding status_by differ
-returns c = simp (lt-ltb _ _ c.if-a-ge2.false, lt-ltb _ _ c.if-b-ge2.false, ne_eqb _ _ c.if-a-b.false)
-
-pub nothing_expected-requires : goal.nothing_expected-requires
-nothing_expected-requires c = tt
+returns-else-a-b c = simp (lt-ltb _ _ c.if-a-ge2.false, lt-ltb _ _ c.if-b-ge2.false, ne_eqb _ _ c.if-a-b.false)

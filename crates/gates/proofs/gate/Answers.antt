@@ -26,11 +26,11 @@ two-x k a b c small e = ⊎_elim known (λ l. sym (other k (at_pins a b c) l)) (
 
 pub returns-then-first-second-eq-TWO_X : goal.returns-then-first-second-eq-TWO_X
 returns-then-first-second-eq-TWO_X c small =
-    two-x _ _ _ _ small (omega (arith, c.wide-first.ensures.0, c.wide-second.ensures.0, c.if-first-second-eq-TWO_X.true))
+    two-x _ _ _ _ small (omega (arith, c.from-first.ensures, c.from-second.ensures, c.if-first-second-eq-TWO_X.true))
 
 pub returns-then-kind-lt-SELECTOR : goal.returns-then-kind-lt-SELECTOR
 returns-then-kind-lt-SELECTOR c small =
-    by_digit _ c.if-kind-lt-SELECTOR.true (small (omega (arith, c.if-kind-lt-SELECTOR.true))) c.wide-first.ensures.0 c.wide-second.ensures.0 c.block.ensures c.digit.ensures
+    by_digit _ c.if-kind-lt-SELECTOR.true (small (omega (arith, c.if-kind-lt-SELECTOR.true))) c.from-first.ensures c.from-second.ensures c.block.ensures c.digit.ensures
 
 pub returns-then-kind-gt-SELECTOR : goal.returns-then-kind-gt-SELECTOR
 returns-then-kind-gt-SELECTOR c _ = sym (other _ _ c.if-kind-gt-SELECTOR.true)

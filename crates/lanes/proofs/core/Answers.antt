@@ -8,6 +8,6 @@ pub returns-then-kind-ge7 : goal.returns-then-kind-ge7
 unfolding core_of
 returns-then-kind-ge7 c i v w l h k = simp (le-leb _ _ c.if-kind-ge7.true) (c.odd.ensures i v w l h k)
 
-pub returns : goal.returns
+pub returns-else-kind-ge7 : goal.returns-else-kind-ge7
 unfolding core_of
-returns c i v w l h k = simp (lt-leb _ _ c.if-kind-ge7.false) (c.both.ensures i v w l h k)
+returns-else-kind-ge7 c i v w l h k = simp (lt-leb _ _ c.if-kind-ge7.false) (c.both.ensures i v w l h k)

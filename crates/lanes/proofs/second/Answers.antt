@@ -8,6 +8,6 @@ pub returns-then-kind-le2 : goal.returns-then-kind-le2
 unfolding second_of
 returns-then-kind-le2 c i v w l h k = simp (le-leb _ _ c.if-kind-le2.true) h
 
-pub returns : goal.returns
+pub returns-else-kind-le2 : goal.returns-else-kind-le2
 unfolding second_of
-returns c i v w l h k = simp (lt-leb _ _ c.if-kind-le2.false) k
+returns-else-kind-le2 c i v w l h k = simp (lt-leb _ _ c.if-kind-le2.false) k
