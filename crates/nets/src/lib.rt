@@ -3,7 +3,7 @@
 
 ghost use Rattle.std.specs.Prelude.{◌≡◌, length};
 ghost use Rattle.records.specs.Net.{records_of};
-ghost use Rattle.records.specs.Owed.{net_of, PutRecordsReady};
+ghost use Rattle.records.specs.Owed.{net_seen, PutRecordsReady};
 ghost use Rattle.nets.specs.Rules.{buffer_rules};
 ghost use Rattle.nets.specs.Owed.{ReadDone, RecordsDone, NetDone, NamesDone, LayRoom, ReadOrderReady, ReadNetReady, ReadNamesReady, named_of};
 
@@ -11,7 +11,7 @@ use answers::{Reason, Refusal};
 use circuit::{Counts, check};
 use names::resolve;
 use order::arrange;
-use records::put_records;
+use records::{Net, put_records};
 
 // The most lines of a circuit.
 const MOST_LINES: usize = 2048;
@@ -45,67 +45,38 @@ fn hand_over(records: &[u8], circuit: &mut [u8]) -> Result<usize, Refusal>
 
 // The records of all lines, in lent memory.
 fn read_order_in(
-    inputs: usize,
-    kinds: &[u8],
-    firsts: &[u16],
-    seconds: &[u16],
-    outs: &[u16],
+    net: &Net<'_>,
     order: &[u16],
     records: &mut [u8],
     circuit: &mut [u8],
 ) -> Result<usize, Refusal>
-    requires { PutRecordsReady (net_of inputs kinds.now firsts.now seconds.now outs.now) order.now records.old }
-    ensures { RecordsDone (records_of (net_of inputs kinds.now firsts.now seconds.now outs.now)) circuit.old circuit.new result }
+    requires { PutRecordsReady (net_seen net.now) order.now records.old }
+    ensures { RecordsDone (records_of (net_seen net.now)) circuit.old circuit.new result }
 {
-    put_records(inputs, kinds, firsts, seconds, outs, order, records);
+    put_records(net, order, records);
     hand_over(records, circuit)
 }
 
 // The records of gates that are all placed. More lines than a circuit may have are refused before any is written.
-fn read_order(
-    inputs: usize,
-    kinds: &[u8],
-    firsts: &[u16],
-    seconds: &[u16],
-    outs: &[u16],
-    order: &[u16],
-    circuit: &mut [u8],
-) -> Result<usize, Refusal>
-    requires { ReadOrderReady (net_of inputs kinds.now firsts.now seconds.now outs.now) order.now }
-    ensures { RecordsDone (records_of (net_of inputs kinds.now firsts.now seconds.now outs.now)) circuit.old circuit.new result }
+fn read_order(net: &Net<'_>, order: &[u16], circuit: &mut [u8]) -> Result<usize, Refusal>
+    requires { ReadOrderReady (net_seen net.now) order.now }
+    ensures { RecordsDone (records_of (net_seen net.now)) circuit.old circuit.new result }
 {
-    let n = inputs + firsts.len();
+    let n = net.inputs + net.firsts.len();
     if MOST_LINES < n {
         return Err(Refusal(Reason::CircuitSize, 0));
     }
     let mut records = [0u8; 16384];
-    read_order_in(
-        inputs,
-        kinds,
-        firsts,
-        seconds,
-        outs,
-        order,
-        &mut records[..8 * n],
-        circuit,
-    )
+    read_order_in(net, order, &mut records[..8 * n], circuit)
 }
 
 // A net whose numbers are those of gates and inputs. The order of its gates comes back too, for whoever has their names.
-fn read_net(
-    inputs: usize,
-    kinds: &[u8],
-    firsts: &[u16],
-    seconds: &[u16],
-    outs: &[u16],
-    order: &mut [u16],
-    circuit: &mut [u8],
-) -> Result<usize, Refusal>
-    requires { ReadNetReady (net_of inputs kinds.now firsts.now seconds.now outs.now) × (length order.old ≡ length firsts.now) }
-    ensures { NetDone (net_of inputs kinds.now firsts.now seconds.now outs.now) order.new circuit.old circuit.new result }
+fn read_net(net: &Net<'_>, order: &mut [u16], circuit: &mut [u8]) -> Result<usize, Refusal>
+    requires { ReadNetReady (net_seen net.now) × (length order.old ≡ length net.now.firsts.now) }
+    ensures { NetDone (net_seen net.now) order.new circuit.old circuit.new result }
 {
-    arrange(firsts, seconds, order)?;
-    read_order(inputs, kinds, firsts, seconds, outs, order, circuit)
+    arrange(net.firsts, net.seconds, order)?;
+    read_order(net, order, circuit)
 }
 
 // ---- from names to numbers
@@ -133,7 +104,14 @@ fn read_names_in(
         order.new circuit.old circuit.new result }
 {
     resolve(text, defs, numbers, outs, firsts, seconds, o, a, b)?;
-    read_net(inputs, kinds, a, b, o, order, circuit)
+    let net = Net {
+        inputs,
+        kinds,
+        firsts: a,
+        seconds: b,
+        outputs: o,
+    };
+    read_net(&net, order, circuit)
 }
 
 // A net whose sources and outputs are names.

@@ -24,7 +24,7 @@ records_length net k = omega (arith, gather-length (record_on net) 8 (record_len
 -- as they are written
 record_by_length : (l : Lined) (k : ℕ) → length (record_by l k) ≡ 8
 unfolding record_by gate_record record_of le
-record_by_length l k = chosen (ltb k l.inputs) _ _ refl refl
+record_by_length l k = chosen (ltb k l.net.inputs) _ _ refl refl
   where
     chosen : (t : Bool) (a b : List ℕ) → length a ≡ 8 → length b ≡ 8 → length (choose t a b) ≡ 8
     chosen true a b e f = e

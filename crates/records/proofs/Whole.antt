@@ -7,8 +7,8 @@ use native.Mathlib.Omega.{arith}
 use lib.ListN.{length, get_or}
 use Rattle.order.proofs.Says.{order_inside}
 use Rattle.records.specs.Net.{Net, gates_of, net_size, records_of}
-use Rattle.records.specs.Owed.{PutRecordsInReady, NumberLinesReady, NumberLinesDone, MarkOutputsReady, MarkOutputsDone, records_by, PutLinesReady}
-use Rattle.records.proofs.Written.{WrittenTold, lined, same_records}
+use Rattle.records.specs.Owed.{PutRecordsInReady, NumberLinesReady, NumberLinesDone, MarkOutputsReady, MarkOutputsDone, lined_of, records_by, PutLinesReady}
+use Rattle.records.proofs.Written.{WrittenTold, same_records}
 
 module _ {net : Net} {order line₀ flag₀ records : List ℕ} (m : PutRecordsInReady net order line₀ flag₀ records) where
   gate_inside : (i : ℕ) → i < length order → get_or order i 0 < gates_of net
@@ -24,7 +24,7 @@ module _ {net : Net} {order line₀ flag₀ records : List ℕ} (m : PutRecordsI
   room_is = rw m.fits.placed m.fits.room
 
   module _ {line flag : List ℕ} (e : length line ≡ length line₀) (f : length flag ≡ length flag₀) where
-    pub has_lines : PutLinesReady (lined net order line flag)
+    pub has_lines : PutLinesReady (lined_of net order line flag)
     has_lines = record {
       few = omega (arith, m.fits.few, m.fits.placed);
       gates = λ i l.
@@ -49,5 +49,5 @@ module _ {net : Net} {order line₀ flag₀ records : List ℕ} (m : PutRecordsI
     }
 
 pub all_written : {net : Net} {order line flag : List ℕ} → WrittenTold net order line flag
-    → {w : List ℕ} → w ≡ records_by (lined net order line flag) (net.inputs + length order) → w ≡ records_of net
+    → {w : List ℕ} → w ≡ records_by (lined_of net order line flag) (net.inputs + length order) → w ≡ records_of net
 all_written {net} t p = p ∙ rw t.placed (same_records t (net_size net) (omega arith))

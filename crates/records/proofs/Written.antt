@@ -15,7 +15,7 @@ use Rattle.ground.proofs.Gather.{gather-same}
 use Rattle.ground.proofs.Elem.{elem_front}
 use Rattle.order.proofs.Says.{order_inside, sources_before}
 use Rattle.records.specs.Net.{Net, gates_of, net_size, pin_of, placed_of, net_line, number_on, net_kind, net_source, record_on, records_to}
-use Rattle.records.specs.Owed.{NumberLinesDone, MarkOutputsDone, line_by, source_by, gate_record, Lined, lined_of, record_by, records_by}
+use Rattle.records.specs.Owed.{NumberLinesDone, MarkOutputsDone, line_by, source_by, gate_record, lined_of, record_by, records_by}
 use Rattle.records.proofs.Stands.{record_is, input-number, input_kind, input_source, gate-number, gate_kind}
 
 -- the lines and the flags are those of the net
@@ -26,9 +26,6 @@ pub record WrittenTold (net : Net) (order line flag : List ℕ) : Type 0 where
   pub flags : length flag ≡ net_size net
   pub numbered : NumberLinesDone order net.inputs line
   pub marked : MarkOutputsDone net.outputs flag
-
-abbrev pub lined : Net → List ℕ → List ℕ → List ℕ → Lined
-lined net order line flag = lined_of net.inputs net.kinds net.firsts net.seconds order line flag
 
 module _ {net : Net} {order line flag : List ℕ} (t : WrittenTold net order line flag) where
   -- a number is an input, or a gate that is placed
@@ -52,7 +49,7 @@ module _ {net : Net} {order line flag : List ℕ} (t : WrittenTold net order lin
     unfolding source_by net_source
     same_source s e = rw (same_line (pin_of net (number_on net k) s) e)
 
-    same-input : k < net.inputs → record_by (lined net order line flag) k ≡ record_on net k
+    same-input : k < net.inputs → record_by (lined_of net order line flag) k ≡ record_on net k
     unfolding record_by
     same-input l =
         rw (
@@ -66,7 +63,7 @@ module _ {net : Net} {order line flag : List ℕ} (t : WrittenTold net order lin
           input_source net k l 1,
         )
 
-    same-gate : net.inputs ≤ k → k < net_size net → record_by (lined net order line flag) k ≡ record_on net k
+    same-gate : net.inputs ≤ k → k < net_size net → record_by (lined_of net order line flag) k ≡ record_on net k
     unfolding record_by gate_record pin_of
     same-gate l m =
         let i : ℕ = k - net.inputs in
@@ -85,9 +82,9 @@ module _ {net : Net} {order line flag : List ℕ} (t : WrittenTold net order lin
           record_is net k,
         )
 
-    pub same_record : k < net_size net → record_by (lined net order line flag) k ≡ record_on net k
+    pub same_record : k < net_size net → record_by (lined_of net order line flag) k ≡ record_on net k
     same_record m = ⊎_elim same-input (λ l. same-gate l m) (either k net.inputs)
 
-  pub same_records : (k : ℕ) → k ≤ net_size net → records_by (lined net order line flag) k ≡ records_to net k
+  pub same_records : (k : ℕ) → k ≤ net_size net → records_by (lined_of net order line flag) k ≡ records_to net k
   unfolding records_to
-  same_records k l = gather-same (record_by (lined net order line flag)) (record_on net) k (λ i m. same_record i (omega arith))
+  same_records k l = gather-same (record_by (lined_of net order line flag)) (record_on net) k (λ i m. same_record i (omega arith))

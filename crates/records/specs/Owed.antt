@@ -5,11 +5,17 @@ use Rattle.ground.specs.Choose.{choose, one}
 use Rattle.ground.specs.Lists.{elem, index_in, gather}
 use Rattle.little.specs.Little.{le}
 use Rattle.gates.specs.Gate.{pins_of}
+use Rattle.records.specs.declared.Net as slices
+use Rattle.records.specs.declared.Lined as lined_slices
 use Rattle.records.specs.Net.{Net, gates_of, net_size, placed_of}
 
 -- a net of lists
 abbrev pub net_of : ℕ → List ℕ → List ℕ → List ℕ → List ℕ → Net
 net_of inputs kinds firsts seconds outputs = record { inputs = inputs; kinds = kinds; firsts = firsts; seconds = seconds; outputs = outputs }
+
+-- of slices
+abbrev pub net_seen : slices.Net → Net
+net_seen net = net_of net.inputs net.kinds.now net.firsts.now net.seconds.now net.outputs.now
 
 -- all elements are below n
 abbrev pub Below : List ℕ → ℕ → Type 0
@@ -65,53 +71,53 @@ source_by line kind pin x = choose (leb pin (pins_of kind)) (line_by line x) 0
 unfoldable pub record_of : ℕ → ℕ → ℕ → ℕ → ℕ → List ℕ
 record_of kind flag first second third = kind ∷ flag ∷ (le 2 first ++ (le 2 second ++ le 2 third))
 
--- of gate g; no gate of a net has a third source
-unfoldable pub gate_record : List ℕ → List ℕ → List ℕ → List ℕ → List ℕ → ℕ → List ℕ
-gate_record kinds firsts seconds line flag g =
-    record_of (get_or kinds g 0) (get_or flag g 0)
-    (source_by line (get_or kinds g 0) 1 (get_or firsts g 0))
-    (source_by line (get_or kinds g 0) 2 (get_or seconds g 0))
-    0
-
 -- a net's gates in their order, with lines and flags
 pub record Lined : Type 0 where
-  pub inputs : ℕ
-  pub kinds : List ℕ
-  pub firsts : List ℕ
-  pub seconds : List ℕ
+  pub net : Net
   pub order : List ℕ
   pub line : List ℕ
   pub flag : List ℕ
 
-abbrev pub lined_of : ℕ → List ℕ → List ℕ → List ℕ → List ℕ → List ℕ → List ℕ → Lined
-lined_of inputs kinds firsts seconds order line flag =
-    record { inputs = inputs; kinds = kinds; firsts = firsts; seconds = seconds; order = order; line = line; flag = flag }
+abbrev pub lined_of : Net → List ℕ → List ℕ → List ℕ → Lined
+lined_of net order line flag = record { net = net; order = order; line = line; flag = flag }
+
+-- of slices
+abbrev pub lined_seen : lined_slices.Lined → Lined
+lined_seen l = lined_of (net_seen l.net.now) l.order.now l.line.now l.flag.now
 
 abbrev pub line_count : Lined → ℕ
-line_count l = l.inputs + length l.order
+line_count l = l.net.inputs + length l.order
+
+-- of gate g; no gate of a net has a third source
+unfoldable pub gate_record : Lined → ℕ → List ℕ
+gate_record l g =
+    record_of (get_or l.net.kinds g 0) (get_or l.flag g 0)
+    (source_by l.line (get_or l.net.kinds g 0) 1 (get_or l.net.firsts g 0))
+    (source_by l.line (get_or l.net.kinds g 0) 2 (get_or l.net.seconds g 0))
+    0
 
 -- of line k
 unfoldable pub record_by : Lined → ℕ → List ℕ
 record_by l k =
-    choose (ltb k l.inputs)
+    choose (ltb k l.net.inputs)
     (record_of 0 (get_or l.flag (length l.line + k) 0) 0 0 0)
-    (gate_record l.kinds l.firsts l.seconds l.line l.flag (get_or l.order (k - l.inputs) 0))
+    (gate_record l (get_or l.order (k - l.net.inputs) 0))
 
 abbrev pub records_by : Lined → ℕ → List ℕ
 records_by l n = gather (record_by l) n
 
 -- gate g has what is read of it
-pub record PutGateRoom (kinds firsts seconds flag : List ℕ) (g : ℕ) : Type 0 where
-  pub kind : g < length kinds
-  pub first : g < length firsts
-  pub second : g < length seconds
-  pub marked : g < length flag
+pub record PutGateRoom (l : Lined) (g : ℕ) : Type 0 where
+  pub kind : g < length l.net.kinds
+  pub first : g < length l.net.firsts
+  pub second : g < length l.net.seconds
+  pub marked : g < length l.flag
 
 -- so has each gate of the order, and each input its flag
 pub record PutLinesReady (l : Lined) : Type 0 where
   pub few : line_count l ≤ 2048
-  pub gates : (i : ℕ) → i < length l.order → PutGateRoom l.kinds l.firsts l.seconds l.flag (get_or l.order i 0)
-  pub flags : l.inputs + length l.line ≤ length l.flag
+  pub gates : (i : ℕ) → i < length l.order → PutGateRoom l (get_or l.order i 0)
+  pub flags : l.net.inputs + length l.line ≤ length l.flag
 
 -- line k is one of the lines, and there is room for its record
 pub record PutLineReady (l : Lined) (k : ℕ) (records : List ℕ) (at : ℕ) : Type 0 where

@@ -4,4 +4,4 @@ use Rattle.records.proofs.Marking.{MarkedTo}
 use Rattle.records.proofs.mark_outputs.Given as goal
 
 abbrev pub invariant-loop-x : goal.invariant-loop-x
-invariant-loop-x l = MarkedTo l.outs l.initial.flag l.flag l.x-index
+invariant-loop-x l = MarkedTo l.outputs l.initial.flag l.flag l.x-index

@@ -17,11 +17,11 @@ pub put_records_in-requires : goal.put_records_in-requires
 put_records_in-requires c =
     record {
       fits = c.requires;
-      lines = front_length 2048 0 (length c.args.firsts.now) (omega arith);
-      flags = front_length 2048 0 (c.args.inputs + length c.args.firsts.now) (omega arith);
+      lines = front_length 2048 0 (length c.args.net.now.firsts.now) (omega arith);
+      flags = front_length 2048 0 (c.args.net.now.inputs + length c.args.net.now.firsts.now) (omega arith);
       unset = λ x.
-          rw (take-replicate 2048 (c.args.inputs + length c.args.firsts.now) 0 (omega arith))
-          (filled_at (c.args.inputs + length c.args.firsts.now) 0 x);
+          rw (take-replicate 2048 (c.args.net.now.inputs + length c.args.net.now.firsts.now) 0 (omega arith))
+          (filled_at (c.args.net.now.inputs + length c.args.net.now.firsts.now) 0 x);
     }
 
 pub returns : goal.returns
