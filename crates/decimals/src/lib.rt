@@ -26,10 +26,10 @@ fn put_digits(out: &mut [u8], at: usize, n: usize, f: usize) -> usize
         return at;
     }
     if n < TWO_DIGITS {
-        return put_byte(out, at, (n + 48) as u8);
+        return put_byte(out, at, n as u8 + b'0');
     }
     let next = put_digits(out, at, n / 10, f - 1);
-    put_byte(out, next, (n % 10 + 48) as u8)
+    put_byte(out, next, (n % 10) as u8 + b'0')
 }
 
 // A number in decimal.

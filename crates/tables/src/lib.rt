@@ -17,23 +17,14 @@ pub const UNKNOWN: u8 = 2;
 pub fn in_range(n: u64) -> bool
     ensures { result ≡ in_range n }
 {
-    if n < 1 {
-        return false;
-    }
-    n <= 256
+    1 <= n && n <= 256
 }
 
 // Whether both counts are in range and so many bytes are their product.
 fn sizes_ok(fault_count: u64, pattern_count: u64, bytes: usize) -> bool
     ensures { result ≡ sizes_ok fault_count pattern_count bytes }
 {
-    if !in_range(fault_count) {
-        return false;
-    }
-    if !in_range(pattern_count) {
-        return false;
-    }
-    bytes as u64 == fault_count * pattern_count
+    in_range(fault_count) && in_range(pattern_count) && bytes as u64 == fault_count * pattern_count
 }
 
 // What the rules of a table say: refusals 12 and 13.
