@@ -95,14 +95,10 @@ pub fn records_ok(bytes: usize, width: usize, most: usize) -> bool
 pub fn first_big(bytes: &[u8]) -> usize
     ensures { result ≡ first_not (length bytes.now) (small_ok bytes.now) }
 {
-    let mut i = 0;
-    while i < bytes.len() {
-        if LARGEST < bytes[i] {
-            return i;
-        }
-        i += 1;
-    }
-    bytes.len()
+    bytes
+        .iter()
+        .position(|&byte| LARGEST < byte)
+        .unwrap_or(bytes.len())
 }
 
 // Refusal 10 for two lent buffers: each has its size.

@@ -1,22 +1,7 @@
-// What every crate stands on: a choice by a test, tests over the numbers below n, and a byte as a number.
+// What every crate stands on: a choice by a test, tests over the numbers below n, and what searches over them return.
 #![tactic(auto)]
 
-ghost use Rattle.std.specs.Prelude.{◌≡◌, ◌<◌, ◌≤◌};
-ghost use Rattle.ground.specs.Choose.{one};
-
-// A byte as an index or a summand.
-pub fn wide(x: u8) -> usize
-    ensures { (result ≡ x) × (result < 256) }
-{
-    x as usize
-}
-
-// Two bytes as an index or a summand.
-pub fn wide16(x: u16) -> usize
-    ensures { (result ≡ x) × (result < 65536) }
-{
-    x as usize
-}
+ghost use Rattle.std.specs.Prelude.{◌≡◌, ◌<◌};
 
 // A small number in two bytes.
 pub fn narrow(x: usize) -> u16
@@ -24,11 +9,4 @@ pub fn narrow(x: usize) -> u16
     ensures { result ≡ x }
 {
     x as u16
-}
-
-// 1 where a test holds, else 0.
-pub fn bit(test: bool) -> usize
-    ensures { (result ≡ one test) × (result ≤ 1) }
-{
-    if test { 1 } else { 0 }
 }

@@ -1,21 +1,12 @@
--- `answers::first_big` meets its contract. The invariant: every byte passed is 0, 1 or 2.
+-- `answers::first_big` meets its contract.
 -- Assumes nothing.
-use borrow.Author.Tests.{le-leb, lt-leb}
-use Rattle.ground.proofs.First.{every_none, every_next, stopped, passed}
-use native.Mathlib.Omega.{arith}
+use Rattle.std.proofs.Common.{leb, rules, tests}
+use Rattle.ground.proofs.Search.{position_along, unwrap_first}
 use Rattle.answers.specs.Small.{small_ok}
 use Rattle.answers.proofs.first_big.Goals as goal
 
-pub loop-i-init : goal.loop-i-init
-loop-i-init c = (omega arith, every_none _)
-
-pub returns-then-bytes-i-gt-LARGEST : goal.returns-then-bytes-i-gt-LARGEST
-unfolding small_ok
-returns-then-bytes-i-gt-LARGEST c = stopped (omega arith) c.loop-i.invariant.1 (lt-leb _ _ c.if-bytes-i-gt-LARGEST.true)
-
-pub loop-i-preserved : goal.loop-i-preserved
-unfolding small_ok
-loop-i-preserved c = (omega arith, every_next c.loop-i.invariant.1 (le-leb _ _ c.if-bytes-i-gt-LARGEST.false))
-
 pub returns : goal.returns
-returns c = passed (omega arith) c.loop-i.invariant.1
+unfolding small_ok
+returns c =
+    let h = position_along (λ x. leb x 2) _ _ _ c.iter.ensures.rest c.position.ensures.ran (λ x q k. search (rules, tests)) (λ x q k. search (rules, tests)) in
+    rw (c.unwrap_or.ensures, h) (unwrap_first _ _)
