@@ -168,3 +168,77 @@ pub fn report(
     }
     report_to_opened(state, fault_count, pattern_count, table, pattern, failed)
 }
+
+// ---- the state by value
+
+// An answer, and the state after it.
+#[derive(Clone, Copy)]
+pub struct After {
+    pub state: Suspects,
+    pub answer: Result<u64, Refusal>,
+}
+
+// Opens a state, whatever it holds.
+pub fn opened(state: Suspects, fault_count: u64, pattern_count: u64, table: &[u8]) -> After
+    ensures { Opens fault_count pattern_count table.now state result.answer result.state }
+{
+    let mut after = state;
+    let answer = open(&mut after, fault_count, pattern_count, table);
+    After {
+        state: after,
+        answer,
+    }
+}
+
+// Reports to an opened state that a pattern failed, or passed.
+pub fn reported_to(
+    state: Suspects,
+    fault_count: u64,
+    pattern_count: u64,
+    table: &[u8],
+    pattern: u64,
+    failed: bool,
+) -> After
+    requires { Opened state }
+    ensures { Reports state (report_of fault_count pattern_count table.now pattern failed) result.answer result.state }
+{
+    let mut after = state;
+    let answer = report_to_opened(
+        &mut after,
+        fault_count,
+        pattern_count,
+        table,
+        pattern,
+        failed,
+    );
+    After {
+        state: after,
+        answer,
+    }
+}
+
+// The same to any state: refusal 22 where it is not opened.
+pub fn reported(
+    state: Suspects,
+    fault_count: u64,
+    pattern_count: u64,
+    table: &[u8],
+    pattern: u64,
+    failed: bool,
+) -> After
+    ensures { Reports state (report_of fault_count pattern_count table.now pattern failed) result.answer result.state }
+{
+    let mut after = state;
+    let answer = report(
+        &mut after,
+        fault_count,
+        pattern_count,
+        table,
+        pattern,
+        failed,
+    );
+    After {
+        state: after,
+        answer,
+    }
+}
