@@ -1,9 +1,8 @@
 -- The promise of the names: reached from what the reader leaves, and met by one result only.
 -- Assumes nothing.
-use mathlib.Core.Path.{◌≡◌, refl, sym, ap, ◌∙◌, subst}
+use mathlib.Core.Path.{◌≡◌, sym, ap, ◌∙◌, subst}
 use mathlib.Core.List.{List}
-use Prim.Native.Nat.{ℕ, ◌≤◌}
-use native.Mathlib.Omega.{arith}
+use Prim.Native.Nat.{ℕ}
 use lib.ListN.{length, take, drop}
 use lib.Seq.{take_at}
 use Rattle.ground.specs.Put.{laid_on}
@@ -11,30 +10,24 @@ use Rattle.ground.proofs.Grow.{table-length}
 use Rattle.answers.specs.Rules.{Ruling, refusal}
 use Rattle.answers.specs.Answer.{answered}
 use Rattle.answers.specs.Owed.{RulesDone}
-use Rattle.answers.proofs.Rules.{both_fine}
-use Rattle.answers.proofs.Answer.{numbers-told, was_ruled, first_refused, first_fine, memory_part}
+use Rattle.answers.proofs.Answer.{numbers-told, ruling_of, was_ruled, first_refused, first_fine, memory_part}
 use Rattle.circuit.specs.Record.{lines_of}
 use Rattle.records.specs.Net.{net_size}
 use Rattle.netlist.proofs.Fields.{net_lines}
 use Rattle.nets.specs.Rules.{buffer_bytes}
-use Rattle.nets.proofs.Order.{few_lines}
-use Rattle.names.specs.Names.{name_rules}
-use Rattle.syntax.specs.Syntax.{syntax_rules}
-use Rattle.texts.specs.Text.{defs_in, uses_in, net_in, place_on, places_in}
+use Rattle.texts.specs.Text.{net_in, place_on, places_in}
 use Rattle.bench.specs.Promise.{bench_rules, records_in, read_numbers}
 use Rattle.bench.specs.Owed.{PlacesDone}
-use Rattle.bench.proofs.Says.{ruling_of, ruled}
 use Rattle.bench_names.specs.Promise.{place_count_rules, place_rules, names_answer, TellsNames}
 use Rattle.bench_names.specs.Owed.{HandOverDone}
 use Rattle.std.specs.Prelude.{Ok, Err, Result}
 use Rattle.answers.specs.declared.Refusal.{Refusal}
-use Rattle.answers.specs.declared.Reason.{Reason}
 
 names_done : {t p p' : List ℕ} {r : Result ℕ Refusal} → RulesDone (place_rules t (length p)) (lines_of (records_in t)) p (laid_on p (places_in t)) r p' → TellsNames t p p' r
 unfolding names_answer read_numbers
 names_done {t} {p} d = record {
   answer = d.answer;
-  numbers = ap read_numbers d.answer ∙ numbers-told read_numbers (λ x y. refl) (refusal (place_rules t (length p))) _;
+  numbers = ap read_numbers d.answer ∙ numbers-told _ (refusal (place_rules t (length p))) _;
   places = d.memory;
 }
 
@@ -46,23 +39,15 @@ module _ (t : List ℕ) {f f' c c' : List ℕ} {v : Result ℕ Refusal} (size : 
 
   -- it refuses
   pub names_refused : {p : List ℕ} {why : Refusal} → v ≡ Err why → TellsNames t p p (Err why)
-  names_refused e = names_done (first_refused (bench_rules t buffer_bytes) _ (was_ruled (ruled _) answer_is (ap ruling_of e)))
+  names_refused e = names_done (first_refused (bench_rules t buffer_bytes) _ (was_ruled _ answer_is (ap ruling_of e)))
 
   -- it has found n places
   module _ {n : ℕ} (e : v ≡ Ok n) where
     fine : refusal (bench_rules t buffer_bytes) ≡ Ok tt
-    fine = was_ruled (ruled _) answer_is (ap ruling_of e)
+    fine = was_ruled _ answer_is (ap ruling_of e)
 
     count_is : n ≡ lines_of (records_in t)
     count_is = let a = answer_is ∙ ap (λ (w : Ruling). answered w (lines_of (records_in t))) fine in cc (a, e)
-
-    lines_are : n ≡ net_size (net_in t)
-    lines_are = count_is ∙ net_lines (net_in t)
-
-    pub few : n ≤ 2048
-    few =
-        let named = (both_fine (syntax_rules t) _ fine).1 in
-        omega (arith, lines_are, few_lines (net_in t) buffer_bytes (both_fine (name_rules t (defs_in t) (uses_in t)) _ named).1)
 
     places_long : length (places_in t) ≡ lines_of (records_in t)
     unfolding places_in
@@ -73,9 +58,6 @@ module _ (t : List ℕ) {f f' c c' : List ℕ} {v : Result ℕ Refusal} (size : 
         let ruling = ap (λ (m : ℕ). refusal (bench_rules t m)) size ∙ fine in
         let laid : f' ≡ laid_on f (places_in t) = rw ruling at (memory_part (λ (lent : List ℕ × List ℕ). lent.0) d) in
         ap (take n) laid ∙ take_at (places_in t) (drop (length (places_in t)) f) n (places_long ∙ sym count_is)
-
-    pub found_few : length (take n f') ≤ 2048
-    found_few = rw (found-is, places_long, ← count_is) few
 
     pub names_found : {p p' : List ℕ} {r : Result ℕ Refusal} → HandOverDone (take n f') p p' r → TellsNames t p p' r
     names_found {p} {p'} {r} h =

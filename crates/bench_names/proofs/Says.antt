@@ -10,7 +10,7 @@ use Rattle.answers.proofs.Same.{eq_same}
 use Rattle.answers.proofs.Answer as answer
 use Rattle.nets.specs.Rules.{buffer_bytes}
 use Rattle.bench.specs.Promise.{bench_rules}
-use Rattle.bench.proofs.Says.{bench_says, ruled}
+use Rattle.bench.proofs.Says.{bench_says}
 use Rattle.bench_names.specs.Promise.{place_count_rules, place_rules, names_answer, TellsNames}
 use Rattle.std.specs.Prelude.{Err, Result}
 use Rattle.answers.specs.declared.Refusal.{Refusal}
@@ -26,8 +26,8 @@ place_says t room = both_say (bench_rules t buffer_bytes) _ (bench_says t buffer
 module _ {t p p' : List ℕ} {r : Result ℕ Refusal} (n : TellsNames t p p' r) (reason : Reason) (place : ℕ) where
   pub refused_applies : r ≡ Err (reason, place) → Applies (place_rules t (length p)) reason place
   unfolding names_answer
-  refused_applies = answer.refused_applies (ruled _) (place_rules t (length p)) (place_says t (length p)) n.answer reason place
+  refused_applies = answer.refused_applies _ (place_rules t (length p)) (place_says t (length p)) n.answer reason place
 
   pub applies_refused : Applies (place_rules t (length p)) reason place → r ≡ Err (reason, place)
   unfolding names_answer
-  applies_refused = answer.applies_refused (ruled _) (place_rules t (length p)) (place_says t (length p)) n.answer reason place
+  applies_refused = answer.applies_refused _ (place_rules t (length p)) (place_says t (length p)) n.answer reason place

@@ -26,7 +26,12 @@ fn hand_over(found: &[u16], places: &mut [u32]) -> Result<usize, Refusal>
 }
 
 // In memory for the places and for the records, which the reader checks.
-fn bench_names_in(text: &[u8], found: &mut [u16], circuit: &mut [u8], places: &mut [u32]) -> Result<usize, Refusal>
+fn bench_names_in(
+    text: &[u8],
+    found: &mut [u16],
+    circuit: &mut [u8],
+    places: &mut [u32],
+) -> Result<usize, Refusal>
     requires { (length found.old ≡ 2048) × (length circuit.old ≡ 16384) }
     ensures { TellsNames text.now places.old places.new result }
 {
