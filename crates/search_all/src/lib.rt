@@ -128,6 +128,14 @@ pub fn search_all(
 {
     let size = check(circuit)?;
     accepted(
-        circuit, faults, budgets, size.lines, size.inputs, outcomes, counts, tests, work,
+        circuit,
+        faults,
+        budgets,
+        size.lines,
+        size.inputs,
+        outcomes,
+        counts,
+        tests,
+        work,
     )
 }
