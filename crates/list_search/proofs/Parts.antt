@@ -28,7 +28,6 @@ use Rattle.meetings.specs.Owed.{ListReady}
 use Rattle.walks.specs.Owed.{ListDone}
 use Rattle.list_search.specs.Owed.{SearchesReady, OthersDone, OneDone}
 use Rattle.list_search.proofs.Pieces.{other_before, other_places}
-use Rattle.circuit.specs.Promise.{counts_are}
 
 -- what is ready for lists is so for others of the same lengths
 pub still_ready : {c fs : List ℕ} {n inputs budgets o k t w o' k' t' w' : ℕ}

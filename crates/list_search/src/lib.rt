@@ -8,7 +8,7 @@ ghost use Rattle.walks.specs.Owed.{AllReach};
 ghost use Rattle.list_search.specs.Owed.{AfterLast, SearchesReady, OthersDone, OneDone, AllEnded};
 
 use lists::read_fault;
-use meetings::nodes_of;
+use meetings::{SearchList, nodes_of};
 use nodes::Verdict;
 use search::run_all_x;
 use walks::{reach_all, walk_all};
@@ -36,10 +36,7 @@ fn after_last(budgets: &[u64]) -> usize
 
 // Searches for the faults below `last` in one walk; the work memory is only used.
 fn search_others(
-    circuit: &[u8],
-    faults: &[u8],
-    budgets: &[u64],
-    n: usize,
+    list: SearchList,
     inputs: usize,
     last: usize,
     outcomes: &mut [u8],
@@ -47,17 +44,14 @@ fn search_others(
     tests: &mut [u8],
     work: &mut [u8],
 )
-    requires { SearchesReady circuit.now faults.now n inputs (length budgets.now) (length outcomes.old) (length counts.old) (length tests.old) (length work.old) × (last < fault_count faults.now) }
-    ensures { OthersDone circuit.now faults.now budgets.now n inputs last
+    requires { SearchesReady list.circuit.now list.faults.now list.lines inputs (length list.budgets.now) (length outcomes.old) (length counts.old) (length tests.old) (length work.old) × (last < fault_count list.faults.now) }
+    ensures { OthersDone list.entry.circuit.now list.entry.faults.now list.entry.budgets.now list.entry.lines inputs last
         (outcomes.old, counts.old, tests.old)
         (outcomes.new, counts.new, tests.new) }
 {
     let to = last * inputs;
     walk_all(
-        circuit,
-        faults,
-        budgets,
-        n,
+        list,
         inputs,
         &mut outcomes[..last],
         &mut counts[..last],
@@ -68,10 +62,7 @@ fn search_others(
 
 // Searches for the fault `at` on its own, as a single call does.
 fn search_one(
-    circuit: &[u8],
-    faults: &[u8],
-    budgets: &[u64],
-    n: usize,
+    list: SearchList,
     inputs: usize,
     at: usize,
     outcomes: &mut [u8],
@@ -79,20 +70,20 @@ fn search_one(
     tests: &mut [u8],
     work: &mut [u8],
 )
-    requires { SearchesReady circuit.now faults.now n inputs (length budgets.now) (length outcomes.old) (length counts.old) (length tests.old) (length work.old) × (at < fault_count faults.now) }
-    ensures { OneDone circuit.now faults.now budgets.now n inputs at
+    requires { SearchesReady list.circuit.now list.faults.now list.lines inputs (length list.budgets.now) (length outcomes.old) (length counts.old) (length tests.old) (length work.old) × (at < fault_count list.faults.now) }
+    ensures { OneDone list.entry.circuit.now list.entry.faults.now list.entry.budgets.now list.entry.lines inputs at
         (outcomes.old, counts.old, tests.old) work.old
         (outcomes.new, counts.new, tests.new) work.new }
 {
-    let fault = read_fault(faults, at);
+    let fault = read_fault(list.faults, at);
     let from = at * inputs;
     let to = from + inputs;
     let found = run_all_x(
-        circuit,
+        list.circuit,
         fault,
-        n,
+        list.lines,
         inputs,
-        budgets[at],
+        list.budgets[at],
         &mut tests[from..to],
         work,
     );
@@ -103,10 +94,7 @@ fn search_one(
 // Searches for the faults below `stop`, after which every budget is 0: the last of them on its own, so that the work memory ends as single calls
 // leave it.
 fn search_below(
-    circuit: &[u8],
-    faults: &[u8],
-    budgets: &[u64],
-    n: usize,
+    list: SearchList,
     inputs: usize,
     stop: usize,
     outcomes: &mut [u8],
@@ -114,9 +102,9 @@ fn search_below(
     tests: &mut [u8],
     work: &mut [u8],
 )
-    requires { SearchesReady circuit.now faults.now n inputs (length budgets.now) (length outcomes.old) (length counts.old) (length tests.old) (length work.old)
-        × AfterLast budgets.now stop × AllReach outcomes.old counts.old 2 (fault_count faults.now) }
-    ensures { AllEnded circuit.now faults.now budgets.now n inputs
+    requires { SearchesReady list.circuit.now list.faults.now list.lines inputs (length list.budgets.now) (length outcomes.old) (length counts.old) (length tests.old) (length work.old)
+        × AfterLast list.budgets.now stop × AllReach outcomes.old counts.old 2 (fault_count list.faults.now) }
+    ensures { AllEnded list.entry.circuit.now list.entry.faults.now list.entry.budgets.now list.entry.lines inputs
         (outcomes.old, counts.old, tests.old) work.old
         (outcomes.new, counts.new, tests.new) work.new }
 {
@@ -124,35 +112,26 @@ fn search_below(
         return;
     }
     let last = stop - 1;
-    search_others(
-        circuit, faults, budgets, n, inputs, last, outcomes, counts, tests, work,
-    );
-    search_one(
-        circuit, faults, budgets, n, inputs, last, outcomes, counts, tests, work,
-    );
+    search_others(list, inputs, last, outcomes, counts, tests, work);
+    search_one(list, inputs, last, outcomes, counts, tests, work);
 }
 
 // Searches for each fault of the list. One that is not searched for is given up, with no node.
 pub fn search_list(
-    circuit: &[u8],
-    faults: &[u8],
-    budgets: &[u64],
-    n: usize,
+    list: SearchList,
     inputs: usize,
     outcomes: &mut [u8],
     counts: &mut [u64],
     tests: &mut [u8],
     work: &mut [u8],
 )
-    requires { SearchesReady circuit.now faults.now n inputs (length budgets.now) (length outcomes.old) (length counts.old) (length tests.old) (length work.old) }
-    ensures { AllEnded circuit.now faults.now budgets.now n inputs
+    requires { SearchesReady list.circuit.now list.faults.now list.lines inputs (length list.budgets.now) (length outcomes.old) (length counts.old) (length tests.old) (length work.old) }
+    ensures { AllEnded list.entry.circuit.now list.entry.faults.now list.entry.budgets.now list.entry.lines inputs
         (outcomes.old, counts.old, tests.old) work.old
         (outcomes.new, counts.new, tests.new) work.new }
 {
     // given up: as an outcome and as a reach it is 2
     reach_all(outcomes, counts, 2);
-    let stop = after_last(budgets);
-    search_below(
-        circuit, faults, budgets, n, inputs, stop, outcomes, counts, tests, work,
-    );
+    let stop = after_last(list.budgets);
+    search_below(list, inputs, stop, outcomes, counts, tests, work);
 }

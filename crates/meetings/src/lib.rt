@@ -22,6 +22,24 @@ pub struct Meeting {
     count: u64,
 }
 
+// The search for one fault of a circuit of so many lines.
+#[derive(Clone, Copy)]
+struct Search<'a> {
+    circuit: &'a [u8],
+    lines: usize,
+    fault: Fault,
+    budget: u64,
+}
+
+// The search for each fault of a list, with a budget for each.
+#[derive(Clone, Copy)]
+pub struct SearchList<'a> {
+    pub circuit: &'a [u8],
+    pub lines: usize,
+    pub faults: &'a [u8],
+    pub budgets: &'a [u64],
+}
+
 // How far a fault reaches by the verdict on the nodes from one of this level on.
 fn reach_by(level: u8, found: Verdict) -> u8
     ensures { result ≡ reach_by level found }
@@ -38,28 +56,31 @@ pub fn nodes_of(found: Verdict) -> u64
     ensures { result ≡ nodes_of found }
 {
     match found {
-        Verdict::Test(k) => k,
-        Verdict::Redundant(k) => k,
-        Verdict::GivenUp(k) => k,
+        Verdict::Test(k) | Verdict::Redundant(k) | Verdict::GivenUp(k) => k,
     }
 }
 
 // A fault whose budget is not spent goes through the nodes from this one on alone.
 fn go_alone(
-    circuit: &[u8],
-    fault: Fault,
-    n: usize,
+    search: Search,
     node: &[u8],
     level: u8,
     count: u64,
-    budget: u64,
     test: &mut [u8],
     work: &mut [u8],
 ) -> Meeting
-    requires { MeetReady true circuit.now fault n node.now level (length test.old) work.old × (count < budget) }
-    ensures { MeetDone true circuit.now fault n node.now level count budget test.old result.reach result.count test.new work.new }
+    requires { MeetReady true search.circuit.now search.fault search.lines node.now level (length test.old) work.old × (count < search.budget) }
+    ensures { MeetDone true search.entry.circuit.now search.entry.fault search.entry.lines node.now level count search.entry.budget test.old result.reach result.count test.new work.new }
 {
-    let found = run_from(circuit, fault, n, node, budget - count, test, work);
+    let found = run_from(
+        search.circuit,
+        search.fault,
+        search.lines,
+        node,
+        search.budget - count,
+        test,
+        work,
+    );
     Meeting {
         reach: reach_by(level, found),
         count: count + nodes_of(found),
@@ -68,20 +89,17 @@ fn go_alone(
 
 // A fault whose budget is not spent looks at a node: it goes on to the sides if the node says neither.
 fn look_once(
-    circuit: &[u8],
-    fault: Fault,
-    n: usize,
+    search: Search,
     node: &[u8],
     level: u8,
     count: u64,
-    budget: u64,
     test: &mut [u8],
     work: &mut [u8],
 ) -> Meeting
-    requires { MeetReady false circuit.now fault n node.now level (length test.old) work.old × (count < budget) }
-    ensures { MeetDone false circuit.now fault n node.now level count budget test.old result.reach result.count test.new work.new }
+    requires { MeetReady false search.circuit.now search.fault search.lines node.now level (length test.old) work.old × (count < search.budget) }
+    ensures { MeetDone false search.entry.circuit.now search.entry.fault search.entry.lines node.now level count search.entry.budget test.old result.reach result.count test.new work.new }
 {
-    let says = look_at(circuit, fault, work, n);
+    let says = look_at(search.circuit, search.fault, work, search.lines);
     if says == 1 {
         test.copy_from_slice(node);
         return Meeting {
@@ -104,35 +122,29 @@ fn look_once(
 // A fault comes to a node that it looks at, unless its budget is spent.
 fn meet(
     alone: bool,
-    circuit: &[u8],
-    fault: Fault,
-    n: usize,
+    search: Search,
     node: &[u8],
     level: u8,
     count: u64,
-    budget: u64,
     test: &mut [u8],
     work: &mut [u8],
 ) -> Meeting
-    requires { MeetReady alone circuit.now fault n node.now level (length test.old) work.old }
-    ensures { MeetDone alone circuit.now fault n node.now level count budget test.old result.reach result.count test.new work.new }
+    requires { MeetReady alone search.circuit.now search.fault search.lines node.now level (length test.old) work.old }
+    ensures { MeetDone alone search.entry.circuit.now search.entry.fault search.entry.lines node.now level count search.entry.budget test.old result.reach result.count test.new work.new }
 {
-    if budget <= count {
+    if search.budget <= count {
         return Meeting { reach: 2, count };
     }
     if alone {
-        return go_alone(circuit, fault, n, node, level, count, budget, test, work);
+        return go_alone(search, node, level, count, test, work);
     }
-    look_once(circuit, fault, n, node, level, count, budget, test, work)
+    look_once(search, node, level, count, test, work)
 }
 
 // Fault i comes to a node.
 fn meet_at(
     alone: bool,
-    circuit: &[u8],
-    faults: &[u8],
-    budgets: &[u64],
-    n: usize,
+    list: SearchList,
     node: &[u8],
     level: u8,
     i: usize,
@@ -141,25 +153,27 @@ fn meet_at(
     tests: &mut [u8],
     work: &mut [u8],
 )
-    requires { MeetAllReady alone circuit.now faults.now n node.now level (length budgets.now) (length reaches.old) (length counts.old) (length tests.old) work.old × (i < length reaches.old) }
-    ensures { MeetAtDone alone circuit.now faults.now budgets.now n node.now level i
+    requires { MeetAllReady alone list.circuit.now list.faults.now list.lines node.now level (length list.budgets.now) (length reaches.old) (length counts.old) (length tests.old) work.old × (i < length reaches.old) }
+    ensures { MeetAtDone alone list.entry.circuit.now list.entry.faults.now list.entry.budgets.now list.entry.lines node.now level i
         (reaches.old, counts.old, tests.old) (reaches.new, counts.new, tests.new) work.new }
 {
     if reaches[i] < level {
         return;
     }
-    let fault = read_fault(faults, i);
+    let search = Search {
+        circuit: list.circuit,
+        lines: list.lines,
+        fault: read_fault(list.faults, i),
+        budget: list.budgets[i],
+    };
     let at = i * node.len();
     let to = at + node.len();
     let met = meet(
         alone,
-        circuit,
-        fault,
-        n,
+        search,
         node,
         level,
         counts[i],
-        budgets[i],
         &mut tests[at..to],
         work,
     );
@@ -170,10 +184,7 @@ fn meet_at(
 // Every fault comes to a node: alone, or together with the others, and then its good values stand in the work memory.
 pub fn meet_all(
     alone: bool,
-    circuit: &[u8],
-    faults: &[u8],
-    budgets: &[u64],
-    n: usize,
+    list: SearchList,
     node: &[u8],
     level: u8,
     reaches: &mut [u8],
@@ -181,13 +192,11 @@ pub fn meet_all(
     tests: &mut [u8],
     work: &mut [u8],
 )
-    requires { MeetAllReady alone circuit.now faults.now n node.now level (length budgets.now) (length reaches.old) (length counts.old) (length tests.old) work.old }
-    ensures { MeetAllDone alone circuit.now faults.now budgets.now n node.now level
+    requires { MeetAllReady alone list.circuit.now list.faults.now list.lines node.now level (length list.budgets.now) (length reaches.old) (length counts.old) (length tests.old) work.old }
+    ensures { MeetAllDone alone list.entry.circuit.now list.entry.faults.now list.entry.budgets.now list.entry.lines node.now level
         (reaches.old, counts.old, tests.old) (reaches.new, counts.new, tests.new) }
 {
     for i in 0..reaches.len() {
-        meet_at(
-            alone, circuit, faults, budgets, n, node, level, i, reaches, counts, tests, work,
-        );
+        meet_at(alone, list, node, level, i, reaches, counts, tests, work);
     }
 }

@@ -5,7 +5,7 @@ ghost use Rattle.std.specs.Prelude.{◌≡◌, ◌+◌, ◌*◌, ◌≤◌, ltb,
 ghost use Rattle.ground.specs.Below.{count_below};
 ghost use Rattle.rounds.specs.Owed.{looks_at, WalkReady, RoundDone};
 
-use meetings::meet_all;
+use meetings::{SearchList, meet_all};
 use nodes::first_x;
 use simulate::good_values;
 
@@ -31,10 +31,7 @@ fn few(some: usize, n: usize, faults: usize) -> bool
 // All faults come to a node, if one looks at its level: the place of the X whose sides come next, or the number of inputs where none do. Few
 // faults go through all nodes from this one on, each alone.
 pub fn round(
-    circuit: &[u8],
-    faults: &[u8],
-    budgets: &[u64],
-    n: usize,
+    list: SearchList,
     node: &[u8],
     level: u8,
     reaches: &mut [u8],
@@ -42,23 +39,19 @@ pub fn round(
     tests: &mut [u8],
     work: &mut [u8],
 ) -> usize
-    requires { WalkReady circuit.now faults.now n node.now level (length budgets.now) (length reaches.old) (length counts.old) (length tests.old) (length work.old) }
-    ensures { RoundDone circuit.now faults.now budgets.now n node.now level
+    requires { WalkReady list.circuit.now list.faults.now list.lines node.now level (length list.budgets.now) (length reaches.old) (length counts.old) (length tests.old) (length work.old) }
+    ensures { RoundDone list.entry.circuit.now list.entry.faults.now list.entry.budgets.now list.entry.lines node.now level
         (reaches.old, counts.old, tests.old) result (reaches.new, counts.new, tests.new) }
 {
     let some = looking(reaches, level);
     if some == NOBODY {
         return node.len();
     }
-    if few(some, n, reaches.len()) {
-        meet_all(
-            true, circuit, faults, budgets, n, node, level, reaches, counts, tests, work,
-        );
+    if few(some, list.lines, reaches.len()) {
+        meet_all(true, list, node, level, reaches, counts, tests, work);
         return node.len();
     }
-    good_values(circuit, node, work, n);
-    meet_all(
-        false, circuit, faults, budgets, n, node, level, reaches, counts, tests, work,
-    );
+    good_values(list.circuit, node, work, list.lines);
+    meet_all(false, list, node, level, reaches, counts, tests, work);
     first_x(node)
 }

@@ -18,7 +18,6 @@ use Rattle.list_search.specs.Owed.{SearchesReady, AllEnded}
 use Rattle.search_all.specs.Owed.{Memories, SearchedAllBy}
 use Rattle.search_all.proofs.Results.{results}
 use Rattle.std.specs.Prelude.{Ok}
-use Rattle.circuit.specs.Promise.{counts_are}
 
 -- ---- tests and words of the rules agree
 

@@ -12,6 +12,7 @@ use answers::{Reason, Refusal};
 use circuit::check;
 use list_search::search_list;
 use lists::check_faults;
+use meetings::SearchList;
 
 // Refusal 10 for one lent buffer, and otherwise what the buffers after it say.
 fn exact_or(size: usize, lent: usize, rest: Result<(), Refusal>) -> Result<(), Refusal>
@@ -100,9 +101,13 @@ fn accepted(
         tests.len(),
         work.len(),
     )?;
-    search_list(
-        circuit, faults, budgets, n, inputs, outcomes, counts, tests, work,
-    );
+    let list = SearchList {
+        circuit,
+        lines: n,
+        faults,
+        budgets,
+    };
+    search_list(list, inputs, outcomes, counts, tests, work);
     Ok(())
 }
 
@@ -123,6 +128,14 @@ pub fn search_all(
 {
     let size = check(circuit)?;
     accepted(
-        circuit, faults, budgets, size.lines, size.inputs, outcomes, counts, tests, work,
+        circuit,
+        faults,
+        budgets,
+        size.lines,
+        size.inputs,
+        outcomes,
+        counts,
+        tests,
+        work,
     )
 }

@@ -155,5 +155,13 @@ pub fn search_heads(
     ensures { HeadSearches circuit.now fault.now budget test.old work.old result test.new work.new }
 {
     let counts = check(circuit)?;
-    accepted(circuit, fault, counts.lines, counts.inputs, budget, test, work)
+    accepted(
+        circuit,
+        fault,
+        counts.lines,
+        counts.inputs,
+        budget,
+        test,
+        work,
+    )
 }

@@ -8,14 +8,12 @@ ghost use Rattle.meetings.specs.Owed.{ListReady};
 ghost use Rattle.rounds.specs.Owed.{WalkReady};
 ghost use Rattle.walks.specs.Owed.{ListDone, WalkDone, AllReach, BecameOutcomes};
 
+use meetings::SearchList;
 use rounds::round;
 
 // The nodes from this one on. Each call has one X fewer, so with n inputs calls are at most n + 1 deep. The node is set and restored in place.
 fn walk(
-    circuit: &[u8],
-    faults: &[u8],
-    budgets: &[u64],
-    n: usize,
+    list: SearchList,
     node: &mut [u8],
     level: u8,
     reaches: &mut [u8],
@@ -23,42 +21,18 @@ fn walk(
     tests: &mut [u8],
     work: &mut [u8],
 )
-    requires { WalkReady circuit.now faults.now n node.old level (length budgets.now) (length reaches.old) (length counts.old) (length tests.old) (length work.old) }
-    ensures { WalkDone circuit.now faults.now budgets.now n node.old level
+    requires { WalkReady list.circuit.now list.faults.now list.lines node.old level (length list.budgets.now) (length reaches.old) (length counts.old) (length tests.old) (length work.old) }
+    ensures { WalkDone list.entry.circuit.now list.entry.faults.now list.entry.budgets.now list.entry.lines node.old level
         (reaches.old, counts.old, tests.old) node.new (reaches.new, counts.new, tests.new) }
 {
-    let at = round(
-        circuit, faults, budgets, n, node, level, reaches, counts, tests, work,
-    );
+    let at = round(list, node, level, reaches, counts, tests, work);
     if node.len() <= at {
         return;
     }
     node[at] = 0;
-    walk(
-        circuit,
-        faults,
-        budgets,
-        n,
-        node,
-        level + 1,
-        reaches,
-        counts,
-        tests,
-        work,
-    );
+    walk(list, node, level + 1, reaches, counts, tests, work);
     node[at] = 1;
-    walk(
-        circuit,
-        faults,
-        budgets,
-        n,
-        node,
-        level + 1,
-        reaches,
-        counts,
-        tests,
-        work,
-    );
+    walk(list, node, level + 1, reaches, counts, tests, work);
     node[at] = 2;
 }
 
@@ -89,32 +63,18 @@ fn end_all(reaches: &mut [u8])
 
 // The search from all X on for every fault, each with its budget. The work memory serves all and is left as it happens to be.
 pub fn walk_all(
-    circuit: &[u8],
-    faults: &[u8],
-    budgets: &[u64],
-    n: usize,
+    list: SearchList,
     inputs: usize,
     outcomes: &mut [u8],
     counts: &mut [u64],
     tests: &mut [u8],
     work: &mut [u8],
 )
-    requires { ListReady circuit.now faults.now n inputs (length budgets.now) (length outcomes.old) (length counts.old) (length tests.old) (length work.old) }
-    ensures { ListDone circuit.now faults.now budgets.now n inputs tests.old outcomes.new counts.new tests.new }
+    requires { ListReady list.circuit.now list.faults.now list.lines inputs (length list.budgets.now) (length outcomes.old) (length counts.old) (length tests.old) (length work.old) }
+    ensures { ListDone list.entry.circuit.now list.entry.faults.now list.entry.budgets.now list.entry.lines inputs tests.old outcomes.new counts.new tests.new }
 {
     reach_all(outcomes, counts, 255);
     let mut node = [2u8; 64];
-    walk(
-        circuit,
-        faults,
-        budgets,
-        n,
-        &mut node[..inputs],
-        3,
-        outcomes,
-        counts,
-        tests,
-        work,
-    );
+    walk(list, &mut node[..inputs], 3, outcomes, counts, tests, work);
     end_all(outcomes);
 }

@@ -14,7 +14,7 @@ run_from-found-requires c = run_ready c.requires.0
 
 pub overflow_add-result : goal.overflow_add-result
 overflow_add-result c =
-    omega (arith, c.nodes_of.ensures, nodes_fit (look_of c.args.fault c.args.circuit.now c.args.n) (c.args.budget - c.args.count) c.args.node.now c.run_from-found.ensures.verdict)
+    omega (arith, c.nodes_of.ensures, nodes_fit (look_of c.args.search.fault c.args.search.circuit.now c.args.search.lines) (c.args.search.budget - c.args.count) c.args.node.now c.run_from-found.ensures.verdict)
 
 pub returns : goal.returns
 returns c =

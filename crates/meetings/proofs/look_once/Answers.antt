@@ -33,7 +33,7 @@ returns-then-says-eq1 c =
         nodes_met = λ e. absurd (false≢true e);
         node_met = λ e. rw c.copy_from_slice.ensures.after (met_test p.levels l c.requires.1 says);
       };
-      good = λ e. good_left c.args.fault c.args.circuit.now c.args.n c.args.node.now told;
+      good = λ e. good_left c.args.search.fault c.args.search.circuit.now c.args.search.lines c.args.node.now told;
     }
 
 pub returns-then-says-eq2 : goal.returns-then-says-eq2
@@ -48,7 +48,7 @@ returns-then-says-eq2 c =
             met_open p.levels l c.requires.1 (λ q. c.if-says-eq1.false (told.says ∙ q)) (omega (arith, p.below))
             (λ h. neither) (λ h. absurd (omega (arith, p.below)));
       };
-      good = λ e. good_left c.args.fault c.args.circuit.now c.args.n c.args.node.now told;
+      good = λ e. good_left c.args.search.fault c.args.search.circuit.now c.args.search.lines c.args.node.now told;
     }
 
 pub returns : goal.returns
@@ -62,5 +62,5 @@ returns c =
             met_open p.levels l c.requires.1 (λ q. c.if-says-eq1.false (told.says ∙ q)) (omega arith)
             (λ h. absurd (omega arith)) (λ h q. c.if-says-eq2.false (told.says ∙ q));
       };
-      good = λ e. good_left c.args.fault c.args.circuit.now c.args.n c.args.node.now told;
+      good = λ e. good_left c.args.search.fault c.args.search.circuit.now c.args.search.lines c.args.node.now told;
     }

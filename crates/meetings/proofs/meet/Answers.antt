@@ -6,8 +6,8 @@ use Rattle.standings.proofs.Meeting.{met_spent}
 use Rattle.meetings.proofs.Alone.{ready_so, done_so}
 use Rattle.meetings.proofs.meet.Goals as goal
 
-pub returns-then-budget-count : goal.returns-then-budget-count
-returns-then-budget-count c =
+pub returns-then-search-count : goal.returns-then-search-count
+returns-then-search-count c =
     record { met = λ m l. met_spent c.requires.levels l c.args.alone (omega arith); good = c.requires.good }
 
 pub go_alone-requires : goal.go_alone-requires

@@ -6,7 +6,7 @@ use Rattle.meetings.proofs.meet_all.Goals as goal
 
 pub loop-i-init : goal.loop-i-init
 loop-i-init c =
-    start c.args.budgets.now c.args.level (c.args.reaches.now, c.args.counts.now, c.args.tests.now) c.requires.good
+    start c.args.list.budgets.now c.args.level (c.args.reaches.now, c.args.counts.now, c.args.tests.now) c.requires.good
 
 pub meet_at-requires : goal.meet_at-requires
 meet_at-requires c =

@@ -52,7 +52,7 @@ meet_all-requires-2 c =
     record {
       list = ready_still (same_size (c.args.reaches.now, c.args.counts.now, c.args.tests.now)) c.good_values.auto.work c.requires.list;
       node = c.requires.node;
-      good = λ e. ap (take c.args.n) c.good_values.ensures ∙ good_front c.args.circuit.now c.args.node.now c.args.n (drop c.args.n c.args.work.now);
+      good = λ e. ap (take c.args.list.lines) c.good_values.ensures ∙ good_front c.args.list.circuit.now c.args.node.now c.args.list.lines (drop c.args.list.lines c.args.work.now);
       levels = c.requires.levels;
       below = omega (arith, c.requires.most);
     }
