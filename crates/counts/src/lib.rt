@@ -14,11 +14,10 @@ ghost use Rattle.counts.specs.Owed.{Counts, CellsDone, RowRoom, CellsRoom, SeeDo
 fn count_cell(count: u8, x: u8, into: bool) -> u8
     ensures { Counts into x count result }
 {
-    let wide = count as u16;
     if into {
-        ((wide + x as u16) % 256) as u8
+        count.wrapping_add(x)
     } else {
-        ((wide + 256 - x as u16) % 256) as u8
+        count.wrapping_sub(x)
     }
 }
 
