@@ -106,7 +106,7 @@ fn accepted(circuit: &[u8], n: usize, inputs: usize, ones: &mut [f64], zeros: &m
     Ok(())
 }
 
-// #113: the chance of 1 and the chance of 0 of each line, each exactly a power of one half; or the first refusal, and nothing is written.
+// The chance of 1 and the chance of 0 of each line, each exactly a power of one half; or the first refusal, and nothing is written.
 pub fn control(circuit: &[u8], ones: &mut [f64], zeros: &mut [f64]) -> Result<(), Refusal>
     ensures { Controls circuit.now ones.old zeros.old result ones.new zeros.new }
 {
