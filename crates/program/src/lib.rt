@@ -8,7 +8,7 @@ use std::io::{Read, Write};
 use std::rt::Files;
 use std::{fs, io};
 
-// As much of the file as buf holds: until it is full, the file ends or a read fails.
+// As much of the file as buf holds: until it is full, the file ends or a read fails. A `while`, since a read gives as many bytes as it will.
 fn fill<F: Read>(file: &mut F, buf: &mut [u8]) -> usize
     ensures fits { result ≤ length buf.new }
     ensures prefix { result ≡ length (take result buf.new) }

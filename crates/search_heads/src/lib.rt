@@ -143,7 +143,7 @@ fn accepted(
     Ok(found)
 }
 
-// #110: a test, redundant or given up, each with its number of nodes, over head lines where these serve the fault; or the first refusal, and nothing is
+// A test, redundant or given up, each with its number of nodes, over head lines where these serve the fault; or the first refusal, and nothing is
 // written. Parameters, refusals and answers are those of the search.
 pub fn search_heads(
     circuit: &[u8],
