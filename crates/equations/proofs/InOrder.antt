@@ -22,6 +22,7 @@ use Rattle.equations.proofs.Tables.{inputs_are, map_get, gate-line}
 use Rattle.equations.proofs.SameMeaning.{number_of_gate}
 use Rattle.equations.proofs.Placing.{number, number_inside, later, later-line, order_gates, elem-same, Whole, whole, one-order, places_to, places_from}
 use Rattle.std.specs.Prelude.{Ok}
+use Rattle.answers.specs.declared.Reason.TheVariants.{BenchCycle}
 
 module _ (t : List ℕ) (f : Formed t) (none : refusal (name_rules t (defs_in t) (uses_in t)) ≡ Ok tt) where
   -- ---- where all gates are placed
@@ -61,7 +62,7 @@ module _ (t : List ℕ) (f : Formed t) (none : refusal (name_rules t (defs_in t)
   -- ---- where one can't be
 
   abbrev NetLeft : ℕ → Type 0
-  NetLeft g = order.LowestLeft (net_in t).firsts (net_in t).seconds 16 g
+  NetLeft g = order.LowestLeft (net_in t).firsts (net_in t).seconds BenchCycle g
 
   pub text_left : (g : ℕ) → NetLeft g → FirstLeft t g
   text_left g e =
@@ -76,7 +77,7 @@ module _ (t : List ℕ) (f : Formed t) (none : refusal (name_rules t (defs_in t)
 
   pub net_left : (g : ℕ) → FirstLeft t g → NetLeft g
   net_left g e = record {
-    number = refl;
+    reason = refl;
     inside = rw (← e.number) (number_inside t e.gate);
     left = λ p. e.left (places_from t f none e.gate (rw e.number p));
     first = λ j l.

@@ -8,14 +8,14 @@ use lib.ListN.{length, take, drop}
 use lib.Seq.{take_at}
 use Rattle.answers.specs.Rules.{Ruling, refusal, unless}
 use Rattle.answers.specs.Answer.{answered}
-use Rattle.answers.proofs.Answer.{was_ruled}
+use Rattle.answers.proofs.Rules.{same_good}
+use Rattle.answers.proofs.Answer.{ruling_of, was_ruled}
 use Rattle.circuit.specs.Record.{lines_of}
 use Rattle.netlist.proofs.Fields.{net_long, net_lines}
 use Rattle.ground.specs.Put.{laid_on}
 use Rattle.nets.specs.Rules.{buffer_bytes}
 use Rattle.texts.specs.Text.{net_in}
 use Rattle.bench.specs.Promise.{bench_rules, records_in, read_of, Reads}
-use Rattle.bench.proofs.Says.{ruling_of, ruled}
 use Rattle.equations.specs.Right.{TextCycle}
 use Rattle.equations.specs.Placing.{FirstLeft}
 use Rattle.equations.specs.Computes.{size_in, Acceptable, Computes}
@@ -25,7 +25,6 @@ use Rattle.equations.proofs.Accepted.{accepted}
 use Rattle.equations.proofs.Sixteen.{sixteen, sixteen_place}
 use Rattle.std.specs.Prelude.{Ok, Err, Result}
 use Rattle.answers.specs.declared.Refusal.{Refusal}
-use Rattle.answers.specs.declared.Reason.{Reason}
 use Rattle.answers.specs.declared.Reason.TheVariants.{BenchSyntax, BenchName, BenchCycle}
 
 pub lines_are : (t : List ℕ) → lines_of (records_in t) ≡ size_in t
@@ -40,9 +39,8 @@ module _ {t c c' : List ℕ} where
   pub read_computes : {n : ℕ} → Reads t c c' (Ok n) → (n ≡ size_in t) × Computes t (take (8 * n) c')
   unfolding read_of
   read_computes {n} p =
-      let e : refusal (bench_rules t (length c)) ≡ Ok tt = was_ruled (ruled (lines_of (records_in t))) p.answer refl in
-      let a : Ok n ≡ Ok (lines_of (records_in t)) = p.answer ∙ given_by_lem t e in
-      let m : n ≡ size_in t = cc (a, lines_are t) in
+      let e : refusal (bench_rules t (length c)) ≡ Ok tt = was_ruled _ p.answer refl in
+      let m : n ≡ size_in t = same_good (p.answer ∙ given_by_lem t e) ∙ lines_are t in
       let laid : c' ≡ laid_on c (records_in t) = p.circuit ∙ ap (λ (v : Ruling). unless v c (laid_on c (records_in t))) e in
       let long : length (records_in t) ≡ 8 * n = net_long (net_in t) ∙ ap (λ (k : ℕ). 8 * k) (size_is t ∙ sym m) in (
         m,
@@ -66,7 +64,7 @@ module _ {t c c' : List ℕ} where
     module _ (a : (k : ℕ) → r ≡ Err (BenchSyntax, k) → ⊥) (b : (k : ℕ) → r ≡ Err (BenchName, k) → ⊥) where
       refused : {why : Refusal} → r ≡ Err why → refusal (bench_rules t (length c)) ≡ Err why
       unfolding read_of
-      refused e = was_ruled (ruled (lines_of (records_in t))) p.answer (ap ruling_of e)
+      refused e = was_ruled _ p.answer (ap ruling_of e)
 
       pub read_sixteen : ((k : ℕ) × (r ≡ Err (BenchCycle, k))) ↔ TextCycle t
       read_sixteen =
