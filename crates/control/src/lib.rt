@@ -97,7 +97,13 @@ fn fill_sized(circuit: &[u8], n: usize, ones: &mut [f64], zeros: &mut [f64])
 }
 
 // The chances in an accepted circuit.
-fn accepted(circuit: &[u8], n: usize, inputs: usize, ones: &mut [f64], zeros: &mut [f64]) -> Result<(), Refusal>
+fn accepted(
+    circuit: &[u8],
+    n: usize,
+    inputs: usize,
+    ones: &mut [f64],
+    zeros: &mut [f64],
+) -> Result<(), Refusal>
     requires { Known circuit.now n inputs }
     ensures { ControlDone circuit.now n ones.old zeros.old result ones.new zeros.new }
 {

@@ -43,7 +43,15 @@ pub fn check_all(
     ensures { AllChecked places circuit.now faults.now patterns.now table work result }
 {
     let counts = check(circuit)?;
-    check_rest(circuit, counts.inputs, faults, patterns, table, places * counts.lines, work)?;
+    check_rest(
+        circuit,
+        counts.inputs,
+        faults,
+        patterns,
+        table,
+        places * counts.lines,
+        work,
+    )?;
     Ok(counts)
 }
 
@@ -58,6 +66,14 @@ pub fn dictionary(
     ensures { Dictionary circuit.now faults.now patterns.now table.old work.old result table.new work.new }
 {
     let counts = check_all(circuit, faults, patterns, table.len(), 2, work.len())?;
-    fill_table(circuit, counts.lines, counts.inputs, faults, patterns, table, work);
+    fill_table(
+        circuit,
+        counts.lines,
+        counts.inputs,
+        faults,
+        patterns,
+        table,
+        work,
+    );
     Ok(())
 }

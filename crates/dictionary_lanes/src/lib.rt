@@ -18,6 +18,14 @@ pub fn dictionary_lanes(
     ensures { DictionaryLanes circuit.now faults.now patterns.now table.old work.old result table.new work.new }
 {
     let counts = check_all(circuit, faults, patterns, table.len(), 4, work.len())?;
-    fill_groups(circuit, counts.lines, counts.inputs, faults, patterns, table, work);
+    fill_groups(
+        circuit,
+        counts.lines,
+        counts.inputs,
+        faults,
+        patterns,
+        table,
+        work,
+    );
     Ok(())
 }

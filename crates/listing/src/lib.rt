@@ -52,7 +52,13 @@ fn entries(faults: usize, patterns: usize) -> usize
 }
 
 // The dictionary of a circuit of n lines.
-fn make(circuit: &[u8], n: usize, faults: &[u8], patterns: &[u8], table: &mut [u8]) -> Result<(), Refusal>
+fn make(
+    circuit: &[u8],
+    n: usize,
+    faults: &[u8],
+    patterns: &[u8],
+    table: &mut [u8],
+) -> Result<(), Refusal>
     requires { MakeReady circuit.now n faults.now patterns.now (length table.old) }
     ensures { MakeDone circuit.now faults.now patterns.now table.old result table.new }
 {
@@ -116,7 +122,13 @@ pub fn listing(
     match v {
         Err(why) => put_refused(out, why.0.number(), why.1),
         Ok(counts) => put_accepted(
-            circuit, counts.lines, counts.inputs, faults, patterns, table, out,
+            circuit,
+            counts.lines,
+            counts.inputs,
+            faults,
+            patterns,
+            table,
+            out,
         ),
     }
 }

@@ -103,7 +103,11 @@ impl Reported for Written {
     ghost numbers = { list_numbers };
 
     fn reply(self) -> Reply {
-        success(self.words as u64, self.clauses as u64, self.variables as u64)
+        success(
+            self.words as u64,
+            self.clauses as u64,
+            self.variables as u64,
+        )
     }
 }
 

@@ -140,5 +140,13 @@ pub fn search(
     ensures { Searches circuit.now fault.now budget test.old work.old result test.new work.new }
 {
     let counts = check(circuit)?;
-    accepted(circuit, fault, counts.lines, counts.inputs, budget, test, work)
+    accepted(
+        circuit,
+        fault,
+        counts.lines,
+        counts.inputs,
+        budget,
+        test,
+        work,
+    )
 }

@@ -141,7 +141,15 @@ pub fn unfold_dictionary(
     );
     let sizes = checked?;
     fill(
-        circuit, states, sizes.lines, steps, sizes.inputs, faults, patterns, table, work,
+        circuit,
+        states,
+        sizes.lines,
+        steps,
+        sizes.inputs,
+        faults,
+        patterns,
+        table,
+        work,
     );
     Ok(())
 }
