@@ -1,4 +1,4 @@
--- Without BenchSyntax or 15, 16 is given exactly if the text has a cycle, and names the first gate in the text that can't be placed.
+-- Without 14 or 15, 16 is given exactly if the text has a cycle, and names the first gate in the text that can't be placed.
 -- Assumes nothing.
 use mathlib.Core.Path.{◌≡◌, refl, sym, ap, ◌∙◌}
 use mathlib.Core.Logic.{◌↔◌}

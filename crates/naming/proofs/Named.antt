@@ -9,7 +9,7 @@ use Rattle.ground.specs.Put.{laid_on}
 use Rattle.ground.proofs.Grow.{table-length, table_at}
 use Rattle.answers.specs.Rules.{Ruling, refusal, unless}
 use Rattle.answers.specs.Answer.{answered}
-use Rattle.answers.proofs.Rules.{both_fine}
+use Rattle.answers.proofs.Rules.{both_fine, same_good}
 use Rattle.answers.proofs.Answer.{was_ruled}
 use Rattle.circuit.specs.Record.{lines_of}
 use Rattle.simulate.specs.Work.{good_of}
@@ -20,7 +20,6 @@ use Rattle.words.specs.Words.{word_at, words_in, ends_in}
 use Rattle.statements.specs.Tables.{defined_at}
 use Rattle.texts.specs.Text.{forms_in, net_in, place_on, places_in}
 use Rattle.bench.specs.Promise.{bench_rules, records_in, Reads}
-use Rattle.bench.proofs.Says.{ruled}
 use Rattle.equations.specs.Meaning.{Solves}
 use Rattle.equations.specs.Right.{Defines, NamesRight}
 use Rattle.equations.specs.Numbers.{line_for}
@@ -78,7 +77,7 @@ module _ {t c : List ℕ} (d : Computes t c) (right : NamesRight t) {k a b : ℕ
 module _ {t p p' : List ℕ} {n : ℕ} (names : TellsNames t p p' (Ok n)) where
   all_fine : refusal (place_rules t (length p)) ≡ Ok tt
   unfolding names_answer
-  all_fine = was_ruled (ruled _) names.answer refl
+  all_fine = was_ruled _ names.answer refl
 
   text_fine : refusal (bench_rules t buffer_bytes) ≡ Ok tt
   text_fine = (both_fine (bench_rules t buffer_bytes) _ all_fine).0
@@ -86,8 +85,7 @@ module _ {t p p' : List ℕ} {n : ℕ} (names : TellsNames t p p' (Ok n)) where
   count_is : n ≡ size_in t
   unfolding names_answer
   count_is =
-      let a = names.answer ∙ ap (λ (v : Ruling). answered v (lines_of (records_in t))) all_fine in
-      let m : n ≡ lines_of (records_in t) = cc a in
+      let m : n ≡ lines_of (records_in t) = same_good (names.answer ∙ ap (λ (v : Ruling). answered v (lines_of (records_in t))) all_fine) in
       m ∙ lines_are t
 
   place_is : (k : ℕ) → k < n → get_or p' k 0 ≡ place_on t k
