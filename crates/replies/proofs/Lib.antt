@@ -1,3 +1,4 @@
 pub mod Entered
 pub mod Lent
 pub mod Made
+pub mod Reasons
