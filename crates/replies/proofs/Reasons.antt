@@ -32,6 +32,7 @@ reason_by n =
     NotOpened)))))))))))))))))))
 
 read_back : (a : Reason) → reason_by (number_of a) ≡ a
+unfolding reason_by
 read_back CircuitSize = refl
 read_back CircuitLayout = refl
 read_back ManyInputs = refl
