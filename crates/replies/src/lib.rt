@@ -9,6 +9,7 @@ ghost use Rattle.findings.specs.Findings.{finding_numbers};
 ghost use Rattle.suspect_areas.specs.Promise.{marks_numbers};
 ghost use Rattle.search.specs.Promise.{verdict_numbers};
 ghost use Rattle.clauses.specs.Promise.{list_numbers};
+ghost use Rattle.unfold.specs.Promise.{lines_numbers};
 ghost use Rattle.replies.specs.Replies.{numbers_in};
 
 use answers::{Refusal, put_numbers};
@@ -17,6 +18,7 @@ use clauses::Written;
 use findings::Finding;
 use nodes::Verdict;
 use suspect_areas::Marked;
+use unfold::Unfolding;
 
 // The size of the answer area, and the refusal of any other.
 pub const AREA: usize = 32;
@@ -73,7 +75,7 @@ impl Reported for () {
     }
 }
 
-// How many records were written, or lines.
+// How many records were written.
 impl Reported for usize {
     ghost numbers = { λ n. answering.success n 0 0 };
 
@@ -88,6 +90,15 @@ impl Reported for u64 {
 
     fn reply(self) -> Reply {
         success(self, 0, 0)
+    }
+}
+
+// How many lines there are after unfolding.
+impl Reported for Unfolding {
+    ghost numbers = { lines_numbers };
+
+    fn reply(self) -> Reply {
+        success(self.lines as u64, 0, 0)
     }
 }
 

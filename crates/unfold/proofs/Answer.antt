@@ -17,7 +17,8 @@ use Rattle.states.specs.Owed.{ClockedChecked}
 use Rattle.states.proofs.Says.{clocked_says}
 use Rattle.states.proofs.Steps.{ClockedTaken, clocked_taken, clocked_refuses, clocked_accepts}
 use Rattle.unfolded.specs.Unfolded.{unfolded}
-use Rattle.unfold.specs.Promise.{unfold_room_rules, unfold_rules, unfolding_numbers, UnfoldingMade}
+use Rattle.unfold.specs.Promise.{unfold_room_rules, unfold_rules, unfolding_is, unfolding_numbers, UnfoldingMade}
+use Rattle.unfold.specs.declared.Unfolding.{Unfolding}
 use Rattle.unfold.specs.Owed.{UnfoldingReady, RoomDone}
 use Rattle.std.specs.Prelude.{Ok, Err, Result}
 use Rattle.answers.specs.declared.Refusal.{Refusal}
@@ -50,8 +51,8 @@ pub ready : {c st : List ℕ} {n k : ℕ} → n ≡ lines_of c → ClockedTaken 
 ready e t = record { lines = e; well = t.good.well; steps = t.steps }
 
 -- what is answered and what the buffer holds, by the rules
-abbrev Done : List ℕ → List ℕ → ℕ → List ℕ → Result ℕ Refusal → List ℕ → Type 0
-Done c st k u r u' = RulesDone (unfold_rules c st k (length u)) (lines_after c k) u (unfolded c st k) r u'
+abbrev Done : List ℕ → List ℕ → ℕ → List ℕ → Result Unfolding Refusal → List ℕ → Type 0
+Done c st k u r u' = RulesDone (unfold_rules c st k (length u)) (unfolding_is (lines_after c k)) u (unfolded c st k) r u'
 
 -- the last rule, where the buffer has this size
 module _ (c st : List ℕ) (k : ℕ) (u : List ℕ) {lines : ℕ} (are : lines ≡ lines_after c k) where
@@ -59,16 +60,16 @@ module _ (c st : List ℕ) (k : ℕ) (u : List ℕ) {lines : ℕ} (are : lines �
   unfolding refusal said
   room_refused d = refused_done (rw (ne_eqb (length u) (8 * lines_after c k) (λ e. d (rw are e))))
 
-  pub room_fine : {u' : List ℕ} → length u ≡ 8 * lines → u' ≡ unfolded c st k → RoomDone c st k u (Ok lines) u'
+  pub room_fine : {u' : List ℕ} → length u ≡ 8 * lines → u' ≡ unfolded c st k → RoomDone c st k u (Ok (unfolding_is lines)) u'
   unfolding refusal said
-  room_fine e new = fine_done (rw (eq-eqb (length u) (8 * lines_after c k) (rw (← are) e))) (ap Ok are) new
+  room_fine e new = fine_done (rw (eq-eqb (length u) (8 * lines_after c k) (rw (← are) e))) (ap (λ n. Ok (unfolding_is n)) are) new
 
 module _ {c st : List ℕ} {k : ℕ} {u : List ℕ} where
-  pub by_rules : {r : Result ℕ Refusal} {u' : List ℕ} → Done c st k u r u' → UnfoldingMade c st k u r u'
+  pub by_rules : {r : Result Unfolding Refusal} {u' : List ℕ} → Done c st k u r u' → UnfoldingMade c st k u r u'
   unfolding unfolding_numbers
   by_rules d = record {
     answer = d.answer;
-    numbers = ap unfolding_numbers d.answer ∙ numbers-told _ (refusal (unfold_rules c st k (length u))) (lines_after c k);
+    numbers = ap unfolding_numbers d.answer ∙ numbers-told _ (refusal (unfold_rules c st k (length u))) (unfolding_is (lines_after c k));
     buffer = d.memory;
   }
 
@@ -78,11 +79,11 @@ module _ {c st : List ℕ} {k : ℕ} {u : List ℕ} where
     refused_answer told = by_rules (first_refused (clocked_rules c st k) (unfold_room_rules c k (length u)) (clocked_refuses p told))
 
     -- where there is none, the buffer's size decides
-    pub room_answer : {n m : ℕ} {r : Result ℕ Refusal} {u' : List ℕ} → v ≡ Ok (clocked_are n m) → RoomDone c st k u r u' → UnfoldingMade c st k u r u'
+    pub room_answer : {n m : ℕ} {r : Result Unfolding Refusal} {u' : List ℕ} → v ≡ Ok (clocked_are n m) → RoomDone c st k u r u' → UnfoldingMade c st k u r u'
     room_answer told d = by_rules (first_fine (clocked_rules c st k) (unfold_room_rules c k (length u)) (clocked_accepts p told).0.fine d)
 
 -- two results that the promise allows are equal
-pub one_result : {c st : List ℕ} {k : ℕ} {u : List ℕ} {r r₂ : Result ℕ Refusal} {u' u₂ : List ℕ}
+pub one_result : {c st : List ℕ} {k : ℕ} {u : List ℕ} {r r₂ : Result Unfolding Refusal} {u' u₂ : List ℕ}
     → UnfoldingMade c st k u r u'
     → UnfoldingMade c st k u r₂ u₂
     → (r ≡ r₂) × (u' ≡ u₂)

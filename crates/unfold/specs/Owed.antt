@@ -11,7 +11,8 @@ use Rattle.states.specs.States.{state_count, data_line, state_record, is_data}
 use Rattle.states.specs.Rules.{lines_after, GoodSteps}
 use Rattle.states.specs.Owed.{StateInside}
 use Rattle.unfolded.specs.Unfolded.{step_record, unfolded}
-use Rattle.unfold.specs.Promise.{unfold_room_rules}
+use Rattle.unfold.specs.declared.Unfolding.{Unfolding}
+use Rattle.unfold.specs.Promise.{unfold_room_rules, unfolding_is}
 use Rattle.answers.specs.declared.Refusal.{Refusal}
 
 -- ---- what the whole asks for
@@ -28,8 +29,8 @@ pub record UnfoldReady (c st : List ℕ) (n k : ℕ) (u : List ℕ) : Type 0 whe
   pub room : length u ≡ 8 * lines_after c k
 
 -- what comes of the buffer's rule, where nothing else is refused
-abbrev pub RoomDone : List ℕ → List ℕ → ℕ → List ℕ → Result ℕ Refusal → List ℕ → Type 0
-RoomDone c st k u r u' = RulesDone (unfold_room_rules c k (length u)) (lines_after c k) u (unfolded c st k) r u'
+abbrev pub RoomDone : List ℕ → List ℕ → ℕ → List ℕ → Result Unfolding Refusal → List ℕ → Type 0
+RoomDone c st k u r u' = RulesDone (unfold_room_rules c k (length u)) (unfolding_is (lines_after c k)) u (unfolded c st k) r u'
 
 -- ---- a mark at each data line
 

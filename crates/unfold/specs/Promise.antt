@@ -8,6 +8,7 @@ use Rattle.answers.specs.Area.{Numbers, success, in_numbers, told}
 use Rattle.answers.specs.Answer.{answered}
 use Rattle.states.specs.Rules.{lines_after, clocked_rules}
 use Rattle.unfolded.specs.Unfolded.{unfolded}
+use Rattle.unfold.specs.declared.Unfolding.{Unfolding}
 use Rattle.answers.specs.declared.Refusal.{Refusal}
 
 -- the buffer that is lent has eight bytes for each line after unfolding
@@ -22,12 +23,19 @@ unfold_rules c st k size = clocked_rules c st k ++ unfold_room_rules c k size
 abbrev pub unfold_ruling : List ℕ → List ℕ → ℕ → List ℕ → Ruling
 unfold_ruling c st k u = refusal (unfold_rules c st k (length u))
 
+-- so many lines
+abbrev pub unfolding_is : ℕ → Unfolding
+unfolding_is n = record { lines = n }
+
 -- the paper's number and values for each case of the answer
-unfoldable pub unfolding_numbers : Result ℕ Refusal → Numbers
-unfolding_numbers = in_numbers (λ n. success n 0 0)
+abbrev pub lines_numbers : Unfolding → Numbers
+lines_numbers a = success a.lines 0 0
+
+unfoldable pub unfolding_numbers : Result Unfolding Refusal → Numbers
+unfolding_numbers = in_numbers lines_numbers
 
 -- the promise, whatever the bytes, where u was lent, and r and u' come back: the answer, its number and values, and every byte of the buffer
-pub record UnfoldingMade (c st : List ℕ) (k : ℕ) (u : List ℕ) (r : Result ℕ Refusal) (u' : List ℕ) : Type 0 where
-  pub answer : r ≡ answered (unfold_ruling c st k u) (lines_after c k)
+pub record UnfoldingMade (c st : List ℕ) (k : ℕ) (u : List ℕ) (r : Result Unfolding Refusal) (u' : List ℕ) : Type 0 where
+  pub answer : r ≡ answered (unfold_ruling c st k u) (unfolding_is (lines_after c k))
   pub numbers : unfolding_numbers r ≡ told (unfold_ruling c st k u) (success (lines_after c k) 0 0)
   pub buffer : u' ≡ unless (unfold_ruling c st k u) u (unfolded c st k)

@@ -19,6 +19,12 @@ use ground::narrow;
 use records::put_record;
 use states::{check_clocked, data_line, state_record};
 
+// How many lines a circuit has after unfolding.
+#[derive(Clone, Copy, Debug, PartialEq, Eq)]
+pub struct Unfolding {
+    pub lines: usize,
+}
+
 // ---- a mark at each data line, so that no record is looked for where the last step's outputs are written
 
 fn mark_data(states: &[u8], marks: &mut [u8])
@@ -206,7 +212,7 @@ fn unfold_checked(
     n: usize,
     steps: usize,
     buffer: &mut [u8],
-) -> Result<usize, Refusal>
+) -> Result<Unfolding, Refusal>
     requires { UnfoldingReady circuit.now states.now n steps }
     ensures { RoomDone circuit.now states.now steps buffer.old result buffer.new }
 {
@@ -215,7 +221,7 @@ fn unfold_checked(
         return Err(Refusal(Reason::BufferSize, 0));
     }
     unfold_lines(circuit, states, n, steps, buffer);
-    Ok(lines)
+    Ok(Unfolding { lines })
 }
 
 // Writes the circuit unfolded over these steps, or gives the first refusal and writes nothing.
@@ -224,7 +230,7 @@ pub fn unfold(
     states: &[u8],
     steps: usize,
     buffer: &mut [u8],
-) -> Result<usize, Refusal>
+) -> Result<Unfolding, Refusal>
     ensures { UnfoldingMade circuit.now states.now steps buffer.old result buffer.new }
 {
     let sizes = check_clocked(circuit, states, steps)?;
