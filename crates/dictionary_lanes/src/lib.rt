@@ -17,7 +17,8 @@ pub fn dictionary_lanes(
 ) -> Result<(), Refusal>
     ensures { DictionaryLanes circuit.now faults.now patterns.now table.old work.old result table.new work.new }
 {
-    let counts = check_all(circuit, faults, patterns, table.len(), 4, work.len())?;
+    let checked = check_all(circuit, faults, patterns, table.len(), 4, work.len());
+    let counts = checked?;
     fill_groups(
         circuit,
         counts.lines,

@@ -3,16 +3,13 @@
 use mathlib.Core.Path.{◌≡◌, sym, ap, ◌∙◌}
 use mathlib.Core.Bool.{Bool, true, false, not}
 use mathlib.Core.List.{List, ◌++◌}
-use Prim.Native.Nat.{ℕ, ◌<◌, ◌≤◌}
+use Prim.Native.Nat.{ℕ, ◌<◌}
 use native.Mathlib.Omega.{arith}
 use lib.Dec.{eqb}
 use lib.ListN.{length, take, drop, length-drop, take-append-drop, get_or-append}
 use lib.Seq.{length-take-le, get_or-take, ext_get_or}
 use borrow.Author.Tests.{eq-eqb, eqb-true, not-true, not-false}
-use Rattle.std.specs.List.{starts_with}
-use Rattle.std.proofs.lemmas.Bool.Decides.{Decides-eqb}
-use Rattle.std.proofs.lemmas.Slice.Eq.{starts_is}
-use Rattle.ground.proofs.Tests.{both, and_both, same_test}
+use Rattle.ground.proofs.Tests.{both, and_both}
 use Rattle.ground.proofs.Below.{not_any, none_any}
 use Rattle.answers.specs.Rules.{Same}
 use Rattle.answers.specs.Area.{area_of}
@@ -25,39 +22,25 @@ use Rattle.suspect_areas.proofs.Read.{read_bytes, bytes-length}
 
 -- ---- the test and the words
 
--- bytes that begin with others are these and some more, and these begin with them
-begins_append : (front rest : List ℕ) → begins_with (front ++ rest) front ≡ true
-begins_append front rest =
-    ap not (none_any (length front) (differs (front ++ rest) front) (λ i l. ap not (eq-eqb _ _ (get_or-append front rest 0 i l))))
-
-begins_split : (a front : List ℕ) → length front ≤ length a → begins_with a front ≡ true → a ≡ front ++ drop (length front) a
-begins_split a front room begins =
-    let long : length (take (length front) a) ≡ length front = length-take-le (length front) a room in
-    let same : take (length front) a ≡ front =
-    ext_get_or 0 (take (length front) a) front long
-    (λ i l.
-    let low : i < length front = omega (arith, long) in
-    get_or-take (length front) a i 0 low ∙ eqb-true _ _ (not-false _ (not_any (length front) (differs a front) (not-true _ begins) i low))) in
-    sym (take-append-drop (length front) a) ∙ ap (λ (v : List ℕ). v ++ drop (length front) a) same
-
--- the library's test is the same
-starts_begins : (a front : List ℕ) {b : Bool} → length front ≤ length a → b ≡ starts_with eqb a front → b ≡ begins_with a front
-starts_begins a front {b} room e =
-    let says = starts_is Decides-eqb a front b e in
-    same_test b (begins_with a front)
-    (λ t. rw (says.0 t) (begins_append front (drop (length front) a)))
-    (λ t. says.1 (drop (length front) a) (begins_split a front room t))
-
+-- bytes that begin as their state says are its bytes, and its bytes begin so
 begin_bytes : (a : List ℕ) → length a ≡ 288 → begins_with a (area_of (numbers_of (state_in a))) ≡ true → a ≡ bytes_of (state_in a)
 unfolding bytes_of state_in
 begin_bytes a size begins =
     let front = area_of (numbers_of (state_in a)) in
     let long = area_length (numbers_of (state_in a)) in
-    begins_split a front (omega (arith, long, size)) begins ∙ ap (λ (n : ℕ). front ++ drop n a) long
+    let front_long = length-take-le 32 a (omega (arith, size)) in
+    let same : take 32 a ≡ front =
+    ext_get_or 0 (take 32 a) front (front_long ∙ sym long)
+    (λ i l.
+    let low : i < 32 = omega (arith, front_long) in
+    get_or-take 32 a i 0 low ∙ eqb-true _ _ (not-false _ (not_any (length front) (differs a front) (not-true _ begins) i (omega (arith, long))))) in
+    sym (take-append-drop 32 a) ∙ ap (λ (v : List ℕ). v ++ drop 32 a) same
 
 bytes_begin : (s : Suspects) → begins_with (bytes_of s) (area_of (numbers_of s)) ≡ true
 unfolding bytes_of
-bytes_begin s = begins_append (area_of (numbers_of s)) s.marks
+bytes_begin s =
+    let front = area_of (numbers_of s) in
+    ap not (none_any (length front) (differs (bytes_of s) front) (λ i l. ap not (eq-eqb _ _ (get_or-append front s.marks 0 i l))))
 
 pub marks_long : (a : List ℕ) → length a ≡ 288 → length (state_in a).marks ≡ 256
 unfolding state_in
@@ -102,7 +85,6 @@ module _ (a : List ℕ) {s : Suspects} (size : length a ≡ 288) (is : s ≡ sta
   unfolding held_ok
   not_opened e = rw (eq-eqb (length a) 288 size, ← is, e)
 
-  pub by_front : {front : List ℕ} {b : Bool} → opened_ok s ≡ true → front ≡ area_of (numbers_of s) → b ≡ starts_with eqb a front → b ≡ held_ok a
+  pub by_front : {front : List ℕ} {b : Bool} → opened_ok s ≡ true → front ≡ area_of (numbers_of s) → b ≡ begins_with a front → b ≡ held_ok a
   unfolding held_ok
-  by_front {front} e f says =
-      starts_begins a front (omega (arith, ap length f, area_length (numbers_of s), size)) says ∙ rw (eq-eqb (length a) 288 size, ← is, e, f)
+  by_front e f says = says ∙ rw (eq-eqb (length a) 288 size, ← is, e, f)

@@ -6,7 +6,7 @@ ghost use Rattle.answers.specs.Rules.{refusal};
 ghost use Rattle.answers.specs.Area.{area_of};
 ghost use Rattle.reports.specs.Reports.{report_of};
 ghost use Rattle.suspects.specs.State.{Opened};
-ghost use Rattle.suspect_areas.specs.Bytes.{numbers_of, bytes_of, state_in, held_ok};
+ghost use Rattle.suspect_areas.specs.Bytes.{numbers_of, bytes_of, state_in, begins_with, held_ok};
 ghost use Rattle.suspect_areas.specs.Promise.{size_rules, held_area_rules, area_rules, open_area_rules, room_rules, marks_area_rules, OpensArea, ReportsArea, ReadsMarks};
 
 use answers::{Reason, Refusal, put_numbers};
@@ -66,8 +66,20 @@ fn state_in(area: &[u8]) -> Suspects
     }
 }
 
+// Whether the bytes a begin with b.
+fn begins(a: &[u8], b: &[u8]) -> bool
+    requires { length b.now ≤ length a.now }
+    ensures { result ≡ begins_with a.now b.now }
+{
+    for i in 0..b.len() {
+        if a[i] != b[i] {
+            return false;
+        }
+    }
+    true
+}
+
 // Whether an area of its size holds an opened state.
-#[tactic(auto, using(crate::proofs::Held::by_front))]
 fn holds_state(area: &[u8]) -> bool
     requires { length area.now ≡ 288 }
     ensures { result ≡ held_ok area.now }
@@ -78,7 +90,7 @@ fn holds_state(area: &[u8]) -> bool
     }
     let mut front = [0u8; 32];
     put_front(state, &mut front);
-    area.starts_with(&front)
+    begins(area, &front)
 }
 
 // ---- what is asked of the area
