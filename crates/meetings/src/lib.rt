@@ -87,7 +87,9 @@ fn go_alone(
     }
 }
 
-// A fault whose budget is not spent looks at a node: it goes on to the sides if the node says neither.
+// A fault whose budget is not spent looks at a node: it goes on to the sides if the node says neither. A function of its own when compiled too:
+// inside the walk, which has all else in it, its loop over the lines has no register left for their number.
+#[inline(never)]
 fn look_once(
     search: Search,
     node: &[u8],

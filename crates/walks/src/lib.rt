@@ -13,7 +13,7 @@ use rounds::round;
 
 // The nodes from this one on. Each call has one X fewer, so with n inputs calls are at most n + 1 deep. The node is set and restored in place.
 fn walk(
-    list: SearchList,
+    list: &SearchList<'_>,
     node: &mut [u8],
     level: u8,
     reaches: &mut [u8],
@@ -21,11 +21,11 @@ fn walk(
     tests: &mut [u8],
     work: &mut [u8],
 )
-    requires { WalkReady list.circuit.now list.faults.now list.lines node.old level (length list.budgets.now) (length reaches.old) (length counts.old) (length tests.old) (length work.old) }
-    ensures { WalkDone list.entry.circuit.now list.entry.faults.now list.entry.budgets.now list.entry.lines node.old level
+    requires { WalkReady list.now.circuit.now list.now.faults.now list.now.lines node.old level (length list.now.budgets.now) (length reaches.old) (length counts.old) (length tests.old) (length work.old) }
+    ensures { WalkDone list.now.circuit.now list.now.faults.now list.now.budgets.now list.now.lines node.old level
         (reaches.old, counts.old, tests.old) node.new (reaches.new, counts.new, tests.new) }
 {
-    let at = round(list, node, level, reaches, counts, tests, work);
+    let at = round(*list, node, level, reaches, counts, tests, work);
     if node.len() <= at {
         return;
     }
@@ -75,6 +75,6 @@ pub fn walk_all(
 {
     reach_all(outcomes, counts, 255);
     let mut node = [2u8; 64];
-    walk(list, &mut node[..inputs], 3, outcomes, counts, tests, work);
+    walk(&list, &mut node[..inputs], 3, outcomes, counts, tests, work);
     end_all(outcomes);
 }

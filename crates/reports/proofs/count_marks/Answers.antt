@@ -1,10 +1,20 @@
--- `reports::count_marks` meets its contract.
+-- `reports::count_marks` meets its contract. The invariant: the marks passed are counted.
 -- Assumes nothing.
-use Rattle.std.proofs.Common.{eqb, rules, tests}
-use Rattle.ground.proofs.Search.{count_front}
+use mathlib.Core.Path.{◌∙◌}
+use native.Mathlib.Omega.{arith}
+use Rattle.ground.proofs.Tests.{from_bool-one, from_bool_most}
+use Rattle.ground.proofs.Counting.{no_sum, sum_small, sum_more, sum_all}
+use Rattle.reports.specs.Marks.{marked}
 use Rattle.reports.proofs.count_marks.Goals as goal
 
+pub loop-f-init : goal.loop-f-init
+loop-f-init c = no_sum _ _
+
+pub overflow_add-count : goal.overflow_add-count
+overflow_add-count c = omega (arith, sum_small c.loop-f.invariant, c.from-count.ensures, from_bool_most (marked c.args.marks.now c.loop-f.f))
+
+pub loop-f-preserved : goal.loop-f-preserved
+loop-f-preserved c = sum_more c.loop-f.invariant (omega arith) (c.from-count.ensures ∙ from_bool-one _)
+
 pub returns : goal.returns
-returns c =
-    count_front (λ x. eqb x 1) c.filter.ensures.source c.filter.ensures.closure c.count.ensures.ran (λ x r q k. search (rules, tests))
-    c.args.marks.now c.args.n c.iter.ensures.rest c.requires
+returns c = sum_all c.loop-f.invariant (omega arith)
