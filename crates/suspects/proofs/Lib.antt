@@ -4,3 +4,4 @@ pub mod Promise
 pub mod Left
 pub mod Sessions
 pub mod Reached
+pub mod Lent
